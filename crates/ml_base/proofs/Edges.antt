@@ -3,7 +3,7 @@
 --   same_edge     == edges with one source, action and target are one
 --   edges_exact   == edges that the order doesn't tell apart are one
 --   source_rises  == an edge that comes before another one has no greater source
-use Rattle.std.proofs.Common.{ℕ, ◌≡◌, ◌≤◌, ◌==◌, nat_lt, Bool, true, false, cond, refl, arith}
+use Rattle.std.proofs.Common.{◌≡◌, ◌≤◌, ◌==◌, nat_lt, Bool, true, false, cond, refl, arith}
 use Rattle.std.specs.Cmp.Lexicographic.{slice_cmp}
 use Rattle.std.specs.Ordering.{nat_cmp, ordering_then}
 use Rattle.std.specs.declared.cmp.Ordering.TheVariants.{Less, Equal, Greater}

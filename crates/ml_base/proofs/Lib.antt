@@ -10,3 +10,7 @@ pub mod IdSets
 pub mod Merging
 -- the order of edges
 pub mod Edges
+-- sets of states
+pub mod StateSets
+-- the states with an edge by an action into a set, edge by edge
+pub mod EdgeSets

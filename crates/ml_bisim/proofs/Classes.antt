@@ -7,7 +7,7 @@
 --   class_edge, edge_class   == the edges of a class are those of each of its states
 use Rattle.std.proofs.Common.{ℕ, ◌≡◌, ◌<◌, ◌==◌, ◌&&◌, Bool, true, List, filter, Contains, refl, sym, ap, ◌∙◌, subst, arith}
 use Rattle.std.specs.Str.{bytes_eq}
-use Rattle.std.proofs.lemmas.Bool.{and_parts, and_from}
+use Rattle.std.proofs.lemmas.Bool.{and_parts, and_from, eqb-true}
 use Rattle.std.proofs.lemmas.Bool.Decides.{nat_tests}
 use Rattle.std.proofs.lemmas.List.Elements.{All-contains}
 use Rattle.std.proofs.lemmas.Slice.Eq.{bytes_eq-Decides}
@@ -27,16 +27,13 @@ edge_from s a t = record { source = s; action = a; target = t }
 abbrev pub leaves : ℕ → List ℕ → Edge → Bool
 leaves s a e = (e.source == s) && bytes_eq e.action a
 
-same_number : (x y : ℕ) → (x == y) ≡ true → x ≡ y
-same_number x y e = grind (arith, nat_tests)
-
 itself : (x : ℕ) → (x == x) ≡ true
 itself x = grind (arith, nat_tests)
 
 pub leaves_from : (s : ℕ) (a : List ℕ) (e : Edge) → leaves s a e ≡ true → e ≡ edge_from s a e.target
 leaves_from s a e is =
     let parts = and_parts (e.source == s) (bytes_eq e.action a) is in
-    let sources = same_number e.source s parts.0 in
+    let sources = eqb-true e.source s parts.0 in
     let actions = (bytes_eq-Decides e.action a).0 parts.1 in
     λ i. record { source = sources i; action = actions i; target = e.target }
 

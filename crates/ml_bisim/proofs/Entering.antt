@@ -7,7 +7,7 @@
 use Rattle.std.proofs.Common.{ℕ, ◌≡◌, ◌+◌, ◌<◌, ◌≤◌, ◌⊎◌, inl, inr, Bool, List, [], length, get_or, slice_get, map, Some, All, Contains, sym, ap, ◌∙◌, subst, arith}
 use Rattle.std.proofs.lemmas.Bool.{cases_eq, cases_lt}
 use Rattle.std.proofs.lemmas.List.{get_or_default, length-map}
-use Rattle.std.proofs.lemmas.Option.{slice_get-get_or, slice_get_within}
+use Rattle.std.proofs.lemmas.Option.{slice_get-get_or, slice_get_within, same_Some}
 use Rattle.ml_base.specs.declared.structure.Edge.{Edge}
 use Rattle.ml_lists.proofs.Member.{Place, member-place}
 use Rattle.ml_lists.proofs.Members.{member_of_contains}
@@ -16,9 +16,6 @@ use Rattle.ml_bisim.specs.private.Places.{ArePlaces, IsLastBefore}
 use Rattle.ml_bisim.specs.Quotient.{class_of}
 use Rattle.ml_bisim.specs.private.Rounds.{AreListed, HasMembers, IsAlone, IsCutOff, IsLoose, IsSettled}
 use Rattle.ml_bisim.proofs.Steps.{number_at}
-
-some_same : {K : Type 0} {x y : K} → Some x ≡ Some y → x ≡ y
-some_same e = cc
 
 pub record Passed (edges : List Edge) (class : List ℕ) (n t : ℕ) (old : List Bool) (rest : ℕ) (flags : List Bool)
     (states : List ℕ) : Type 0 where
@@ -79,7 +76,7 @@ module _ (edges : List Edge) (n : ℕ) (p : Places) (places : ArePlaces (map (λ
     next_or_passed k f at le same = by_case (cases_eq k place) (cases_lt k rest)
       where
         by_case : (k ≡ place) ⊎ (k ≡ place → ⊥) → (k < rest) ⊎ (rest ≤ k) → (f ≡ e) ⊎ (rest ≤ k)
-        by_case (inl one) c = inl (some_same (sym at ∙ ap (slice_get edges) one ∙ stands))
+        by_case (inl one) c = inl (same_Some _ _ (sym at ∙ ap (slice_get edges) one ∙ stands))
         by_case (inr other) (inr above) = inr above
         by_case (inr other) (inl below) =
             absurd (link.none_later k le (omega (arith, below, other, next))

@@ -1,9 +1,8 @@
 -- States by their labels: the first partition of a refinement.
 --
---   entry_at    == below the length of a list there is an entry
 --   same_row    == states with the same propositions have the same row
 --   labelled    == so states that are numbered by their rows are a partition that bisimilar states don't leave
-use Rattle.std.proofs.Common.{ℕ, zero, suc, ◌≡◌, ◌<◌, ◌↔◌, Bool, true, List, [], ◌∷◌, length, slice_get, slice_index_or, map, Some, Contains, refl, sym, ap, ◌∙◌, subst, arith}
+use Rattle.std.proofs.Common.{ℕ, ◌≡◌, ◌<◌, ◌↔◌, Bool, true, List, [], length, slice_get, slice_index_or, map, Some, Contains, refl, sym, ap, ◌∙◌, subst, arith}
 use Rattle.std.specs.Cmp.Lexicographic.{slice_cmp, bytes_decides, texts_ties, pointwise, pointwise_decides}
 use Rattle.std.specs.Global.{Vec}
 use Rattle.std.specs.List.{list_any}
@@ -19,17 +18,13 @@ use Rattle.ml_base.specs.Structure.{Structure, IsStructure, lists}
 use Rattle.ml_lists.proofs.Member.{Passing, list_any-member, member-list_any}
 use Rattle.ml_lists.proofs.Members.{member_of_contains, contains_of_member}
 use Rattle.ml_lists.proofs.StrictlySorted.{same_from_members}
+use Rattle.ml_lists.proofs.Entries.{some_entry}
 use Rattle.ml_kripke.specs.Ordered.{IsOrdered}
 use Rattle.ml_bisim.specs.private.Numbers.{AreNumbers}
 use Rattle.ml_bisim.specs.private.Rounds.{IsPartition}
 
 names_exact : (p q : List ℕ) → slice_cmp nat_cmp p q ≡ Equal → p ≡ q
 names_exact p q e = (bytes_decides p q).0 (texts_ties p q ∙ ap is_eq e)
-
-pub entry_at : {X : Type 0} (xs : List X) (i : ℕ) → i < length xs → (x : X) × (slice_get xs i ≡ Some x)
-entry_at [] i low = absurd (omega arith)
-entry_at (x ∷ xs) zero low = (x, refl)
-entry_at (x ∷ xs) (suc i) low = entry_at xs i (omega arith)
 
 -- the test of a table
 abbrev pub row_eq : Vec (List ℕ) → Vec (List ℕ) → Bool
@@ -70,7 +65,7 @@ module _ (m : Structure) (ok : IsStructure m) (ordered : IsOrdered m) (rows : Li
 
   row_at : (s : ℕ) → s < m.states → RowAt s
   row_at s low =
-      let found = entry_at rows s (omega (arith, rows_long)) in
+      let found = some_entry rows s (omega (arith, rows_long)) in
       let at : slice_get m.labels s ≡ Some found.0.items =
       sym (ap (λ ls. slice_get ls s) are_rows)
       ∙ slice_get-map (λ (r : Vec (List ℕ)). r.items) rows s

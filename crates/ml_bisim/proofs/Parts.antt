@@ -5,12 +5,12 @@
 --   matched          == states with one signature match each other's edges
 --   within           == the steps of a state are those of one that matches its edges
 --   are_parts        == so numbers of signatures tell apart the states of a class that don't match each other's edges
-use Rattle.std.proofs.Common.{ℕ, ◌≡◌, ◌↔◌, ◌&&◌, Bool, true, nat_eq, List, get_or, slice_get, map, Some, Contains, Ordering, refl, sym, ap, ◌∙◌, subst, arith}
+use Rattle.std.proofs.Common.{ℕ, ◌≡◌, ◌↔◌, ◌&&◌, Bool, true, nat_eq, List, get_or, slice_get, map, Some, Contains, refl, sym, ap, ◌∙◌, subst, arith}
 use Rattle.std.specs.Cmp.{IsTotalOrder}
 use Rattle.std.specs.Cmp.Lexicographic.{pointwise, pointwise_decides}
 use Rattle.std.specs.Option.{option_map}
-use Rattle.std.specs.Ordering.{nat_cmp, ordering_then}
-use Rattle.std.specs.declared.cmp.Ordering.TheVariants.{Less, Equal, Greater}
+use Rattle.std.specs.Ordering.{nat_cmp}
+use Rattle.std.specs.declared.cmp.Ordering.TheVariants.{Equal}
 use Rattle.std.proofs.lemmas.Bool.{and_parts, and_from, eqb-true}
 use Rattle.std.proofs.lemmas.Bool.Decides.{nat_tests}
 use Rattle.std.proofs.lemmas.Cmp.{on_total, then_total, nat_cmp_total, nat_eq_equiv}
@@ -21,6 +21,7 @@ use Rattle.ml_base.specs.Structure.{Structure}
 use Rattle.ml_lists.proofs.Member.{Place, member-place, member_of_get}
 use Rattle.ml_lists.proofs.Members.{member_of_contains, contains_of_member}
 use Rattle.ml_lists.proofs.StrictlySorted.{same_from_members}
+use Rattle.ml_lists.proofs.Orderings.{both_tied}
 use Rattle.ml_bisim.specs.declared.edges.Edges.{Edges}
 use Rattle.ml_bisim.specs.declared.signatures.Signature.{Signature}
 use Rattle.ml_bisim.specs.declared.signatures.Step.{Step}
@@ -32,11 +33,6 @@ use Rattle.ml_bisim.proofs.Classes.{edge_from}
 
 numbers_exact : (x y : ℕ) → nat_cmp x y ≡ Equal → x ≡ y
 numbers_exact x y e = grind (arith, nat_tests)
-
-both_tied : (a b : Ordering) → ordering_then a b ≡ Equal → (a ≡ Equal) × (b ≡ Equal)
-both_tied Less b e = cc
-both_tied Equal b e = (refl, e)
-both_tied Greater b e = cc
 
 pub steps_exact : (x y : Step) → step_cmp x y ≡ Equal → x ≡ y
 steps_exact x y tied =

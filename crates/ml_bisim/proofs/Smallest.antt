@@ -4,9 +4,8 @@
 --   pulled_back    == a bisimulation of the quotient joins states of the structure by their classes
 --   reduced        == so bisimilar classes are one
 --   total_kept     == an edge of a state of a class is one of the class
-use Rattle.std.proofs.Common.{ℕ, ◌≡◌, ◌<◌, ◌&&◌, Bool, true, nat_lt, List, Contains, IsTrue, sym, ◌∙◌, subst, arith, lt-ltb}
-use Rattle.std.proofs.lemmas.Bool.{and_parts, and_from}
-use Rattle.std.proofs.lemmas.Bool.Decides.{nat_tests}
+use Rattle.std.proofs.Common.{ℕ, ◌≡◌, ◌<◌, ◌&&◌, Bool, nat_lt, List, Contains, IsTrue, sym, ◌∙◌, subst, lt-ltb}
+use Rattle.std.proofs.lemmas.Bool.{and_parts, and_from, ltb-true}
 use Rattle.ml_base.specs.Structure.{Structure, IsStructure}
 use Rattle.ml_lists.proofs.Member.{Passing, list_any-member, member-list_any}
 use Rattle.ml_lists.proofs.Members.{member_of_contains, contains_of_member}
@@ -26,14 +25,11 @@ module _ (m q : Structure) (class : List ℕ) (m_ok : IsStructure m) (quotient :
       pub target : t < m.states
       pub classes : IsTrue (R (class_of class s) (class_of class t))
 
-    low_of : (s : ℕ) → nat_lt s m.states ≡ true → s < m.states
-    low_of s e = grind (arith, nat_tests)
-
     joined : (s t : ℕ) → IsTrue (by_class s t) → AreJoined s t
     joined s t e =
         let first = and_parts (nat_lt s m.states) (nat_lt t m.states && R (class_of class s) (class_of class t)) e in
         let rest = and_parts (nat_lt t m.states) (R (class_of class s) (class_of class t)) first.1 in
-        record { source = low_of s first.0; target = low_of t rest.0; classes = rest.1 }
+        record { source = ltb-true s m.states first.0; target = ltb-true t m.states rest.0; classes = rest.1 }
 
     joins : (s t : ℕ) → AreJoined s t → IsTrue (by_class s t)
     joins s t j =

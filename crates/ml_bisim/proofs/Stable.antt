@@ -3,7 +3,7 @@
 --   finer_is       == what a round makes of a partition is one again
 --   stable_is      == where all states are settled, states of one class are bisimilar
 use Rattle.std.proofs.Common.{ℕ, ◌≡◌, ◌<◌, ◌↔◌, ◌==◌, ◌&&◌, Bool, true, nat_eq, nat_lt, List, get_or, IsTrue, ◌∙◌, arith, lt-ltb}
-use Rattle.std.proofs.lemmas.Bool.{and_parts, and_from, eqb-true}
+use Rattle.std.proofs.lemmas.Bool.{and_parts, and_from, eqb-true, ltb-true}
 use Rattle.std.proofs.lemmas.Bool.Decides.{nat_tests}
 use Rattle.std.proofs.lemmas.Option.{slice_get-get_or}
 use Rattle.ml_base.specs.Structure.{Structure, IsStructure}
@@ -52,12 +52,6 @@ module _ (m : Structure) (m_ok : IsStructure m) (class : List ℕ) (part : IsPar
     pub target : t < m.states
     pub classes : class_of class s ≡ class_of class t
 
-  low_of : (s : ℕ) → nat_lt s m.states ≡ true → s < m.states
-  low_of s e = grind (arith, nat_tests)
-
-  same_of : (x y : ℕ) → (x == y) ≡ true → x ≡ y
-  same_of x y e = grind (arith, nat_tests)
-
   same_is : (x y : ℕ) → x ≡ y → (x == y) ≡ true
   same_is x y e = grind (arith, nat_tests)
 
@@ -66,9 +60,9 @@ module _ (m : Structure) (m_ok : IsStructure m) (class : List ℕ) (part : IsPar
       let first = and_parts (nat_lt s m.states) (nat_lt t m.states && (class_of class s == class_of class t)) e in
       let rest = and_parts (nat_lt t m.states) (class_of class s == class_of class t) first.1 in
       record {
-        source = low_of s first.0;
-        target = low_of t rest.0;
-        classes = same_of (class_of class s) (class_of class t) rest.1;
+        source = ltb-true s m.states first.0;
+        target = ltb-true t m.states rest.0;
+        classes = eqb-true (class_of class s) (class_of class t) rest.1;
       }
 
   joins : (s t : ℕ) → AreTogether s t → IsTrue (in_class s t)

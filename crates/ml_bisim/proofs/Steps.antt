@@ -7,7 +7,7 @@ use Rattle.std.proofs.Common.{ℕ, ◌≡◌, ◌+◌, ◌<◌, ◌≤◌, ◌�
 use Rattle.std.proofs.lemmas.Bool.{cases_eq, cases_lt}
 use Rattle.std.proofs.lemmas.List.{length-map}
 use Rattle.std.proofs.lemmas.List.Elements.{All-contains, All-map, Contains-append_left, Contains-append_right, Contains-append_cases}
-use Rattle.std.proofs.lemmas.Option.{get_or_from_slice_get, slice_get-map, slice_get_within}
+use Rattle.std.proofs.lemmas.Option.{get_or_from_slice_get, slice_get-map, slice_get_within, same_Some}
 use Rattle.std.specs.Option.{option_map}
 use Rattle.ml_base.specs.declared.structure.Edge.{Edge}
 use Rattle.ml_base.specs.Structure.{Structure, IsStructure}
@@ -18,9 +18,6 @@ use Rattle.ml_bisim.specs.declared.places.Places.{Places}
 use Rattle.ml_bisim.specs.declared.signatures.Step.{Step}
 use Rattle.ml_bisim.specs.private.Places.{ArePlaces, IsLastBefore}
 use Rattle.ml_bisim.specs.private.Signatures.{StepAt}
-
-some_same : {K : Type 0} {x y : K} → Some x ≡ Some y → x ≡ y
-some_same e = cc
 
 -- what a list of one of an edge's numbers has at the place of the edge
 pub number_at : (f : Edge → ℕ) (edges : List Edge) (i : ℕ) (e : Edge) → slice_get edges i ≡ Some e
@@ -139,7 +136,7 @@ module _ (edges : List Edge) (actions class : List ℕ) (n : ℕ) (p : Places)
             into_class = o.into_class;
           }))
       back x o (inl below) (inl same) =
-          let edge : o.edge ≡ e = some_same (sym o.stands ∙ ap (slice_get edges) same ∙ stands) in
+          let edge : o.edge ≡ e = same_Some _ _ (sym o.stands ∙ ap (slice_get edges) same ∙ stands) in
           let action = by_action ∙ sym (ap (λ q. get_or actions q 0) same) ∙ sym o.by_action in
           let class = into_class ∙ sym (ap (λ (f : Edge). class_of class f.target) edge) ∙ sym o.into_class in
           let one : step ≡ x = λ j. record { action = action j; class = class j } in

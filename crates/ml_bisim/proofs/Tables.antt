@@ -9,15 +9,12 @@ use Rattle.std.specs.Cmp.{IsEquivalence}
 use Rattle.std.specs.List.{list_any}
 use Rattle.std.proofs.lemmas.Bool.{cases_Bool, cond-true, cond-false}
 use Rattle.std.proofs.lemmas.List.{get_or_append_left, get_or-append-add}
-use Rattle.std.proofs.lemmas.Option.{slice_get_within, slice_get-get_or}
+use Rattle.std.proofs.lemmas.Option.{slice_get_within, slice_get-get_or, same_Some}
 use Rattle.ml_lists.specs.InTurn.{RunsOn}
 use Rattle.ml_lists.proofs.Added.{last_or}
 use Rattle.ml_lists.proofs.InTurn.{runs_append}
 use Rattle.ml_lists.proofs.Member.{member-list_any, member_of_get}
 use Rattle.ml_bisim.specs.private.Numbers.{AreNumbers}
-
-some_same : {K : Type 0} {x y : K} → Some x ≡ Some y → x ≡ y
-some_same e = cc
 
 module _ {K : Type 0} (eq : K → K → Bool) (laws : IsEquivalence eq) where
   -- the key at a place of the table is equal to x
@@ -136,7 +133,7 @@ module _ {K : Type 0} (eq : K → K → Bool) (laws : IsEquivalence eq) where
         let a = t.stands i x here in
         let b = t.stands j y there in (
           (λ e.
-              let one : a.key ≡ b.key = some_same (sym a.at ∙ ap (slice_get table) e ∙ b.at) in
+              let one : a.key ≡ b.key = same_Some _ _ (sym a.at ∙ ap (slice_get table) e ∙ b.at) in
               both_equal a.key x y (turned x a.key a.equal)
               (turned y a.key (subst (λ z. eq y z ≡ true) (sym one) b.equal))),
           (λ e. t.once (get_or ns i 0) (get_or ns j 0) a.key b.key a.at b.at

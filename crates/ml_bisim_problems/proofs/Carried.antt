@@ -5,9 +5,8 @@
 --   admitted_kept        == where a logic speaks of a structure, it speaks of the quotient
 --   finite_closure       == the closure of a problem is finite
 --   problems_carried     == the graph of a problem holds where the problem does, in the structure and in the quotient
-use Rattle.std.proofs.Common.{ℕ, ◌≡◌, ◌<◌, ◌==◌, ◌&&◌, ◌↔◌, ◌⊎◌, inl, inr, Bool, true, List, Contains, codes, refl, sym, ap, ◌∙◌, subst, arith}
-use Rattle.std.proofs.lemmas.Bool.{and_parts, and_from}
-use Rattle.std.proofs.lemmas.Bool.Decides.{nat_tests}
+use Rattle.std.proofs.Common.{ℕ, ◌≡◌, ◌<◌, ◌==◌, ◌&&◌, ◌↔◌, ◌⊎◌, inl, inr, Bool, true, List, Contains, codes, sym, ap, ◌∙◌, subst, refl}
+use Rattle.std.proofs.lemmas.Bool.{and_parts, and_from, eqb-true, eq-eqb}
 use Rattle.ml_base.specs.declared.structure.Edge.{Edge}
 use Rattle.ml_base.specs.Structure.{Structure, IsStructure}
 use Rattle.ml_lists.proofs.Member.{Passing, list_any-member, member-list_any}
@@ -30,7 +29,6 @@ use Rattle.ml_front.specs.declared.logic.Logic.{Logic}
 use Rattle.ml_front.specs.declared.logic.Logic.TheVariants as logic
 use Rattle.ml_front.specs.declared.problem.AnyFormula.{AnyFormula}
 use Rattle.ml_front.specs.declared.problem.AnyFormula.TheVariants.{Mu, Pdl, Ctl, Ltl, Word}
-use Rattle.ml_front.specs.declared.problem.Problem.{Problem}
 use Rattle.ml_front.proofs.Graphs.{graph_is, graphs_agree, is_structure}
 use Rattle.ml_front.proofs.SomeGraph.{some_graph}
 use Rattle.ml_bisim_problems.specs.Laws.{AdmittedKept, ProblemsCarried}
@@ -41,12 +39,6 @@ blank = codes "_"
 abbrev goes : ℕ → ℕ → Edge → Bool
 goes s t e = leaves s blank e && (e.target == t)
 
-same_number : (x y : ℕ) → (x == y) ≡ true → x ≡ y
-same_number x y e = grind (arith, nat_tests)
-
-itself : (x : ℕ) → (x == x) ≡ true
-itself x = grind (arith, nat_tests)
-
 step_edge : (m : Structure) (s t : ℕ) → has_step m s t ≡ true → HasEdge m s blank t
 step_edge m s t is = of_passing (list_any-member (goes s t) m.edges is)
   where
@@ -54,13 +46,13 @@ step_edge m s t is = of_passing (list_any-member (goes s t) m.edges is)
     of_passing found =
         let both = and_parts (leaves s blank found.item) (found.item.target == t) found.passes in
         subst (λ e. Contains m.edges e)
-        (leaves_from s blank found.item both.0 ∙ ap (edge_from s blank) (same_number found.item.target t both.1))
+        (leaves_from s blank found.item both.0 ∙ ap (edge_from s blank) (eqb-true found.item.target t both.1))
         (contains_of_member found.item m.edges found.member)
 
 edge_step : (m : Structure) (s t : ℕ) → HasEdge m s blank t → has_step m s t ≡ true
 edge_step m s t edge =
     member-list_any (goes s t) (edge_from s blank t) m.edges (member_of_contains (edge_from s blank t) m.edges edge)
-    (and_from (leaves s blank (edge_from s blank t)) (t == t) (from_leaves s blank t) (itself t))
+    (and_from (leaves s blank (edge_from s blank t)) (t == t) (from_leaves s blank t) (eq-eqb t t refl))
 
 module _ (m q : Structure) (class : List ℕ) (m_ok : IsStructure m) (quotient : IsQuotientOf m class q) where
   total_too : IsTotal m → IsTotal q

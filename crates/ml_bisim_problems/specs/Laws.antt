@@ -5,7 +5,7 @@
 use Rattle.std.specs.Prelude.{ℕ, ◌<◌, ◌↔◌, List}
 use Rattle.ml_base.specs.Structure.{Structure, IsStructure}
 use Rattle.ml_bisim.specs.Quotient.{IsQuotientOf, class_of}
-use Rattle.ml_front.specs.Graphs.{IsMeaningful}
+use Rattle.ml_front.specs.WellFormed.{IsMeaningful}
 use Rattle.ml_front.specs.Logics.{logic_of}
 use Rattle.ml_front.specs.Problems.{HoldsAt, IsAdmitted}
 use Rattle.ml_front.specs.declared.logic.Logic.{Logic}

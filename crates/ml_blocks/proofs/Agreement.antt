@@ -10,6 +10,8 @@ use Rattle.std.specs.Bool.{beq}
 use Rattle.std.proofs.lemmas.Bool.{false≢true, and_parts}
 use Rattle.ml_lists.specs.Lasso.{Lasso}
 use Rattle.ml_lists.proofs.Members.{contains_of_member}
+use Rattle.ml_lists.proofs.Decided.{decided_test, decided_both, decided_either}
+use Rattle.ml_lists.proofs.Deciding.{decided_if, decided_not}
 use Rattle.ml_base.specs.Structure.{Structure, lists}
 use Rattle.ml_parity.specs.declared.players.Player.TheVariants.{Even, Odd}
 use Rattle.ml_parity.specs.Player.{side}
@@ -40,7 +42,7 @@ use Rattle.ml_blocks.specs.Items.{now}
 use Rattle.ml_blocks.specs.Laws.{signed}
 use Rattle.ml_blocks.specs.Places.{Place, Root, Total, HasEdge, LeadsOn, True, Holding, Both, Neither, Constant, Literal, And, Or, Diamond, form_of, block_of}
 use Rattle.ml_blocks.proofs.BlocksTold.{Told, ItemsTold, SomeFrom, block_told, given, never_both, one_of_both, holds_as, is_state_item}
-use Rattle.ml_blocks.proofs.DecidedTruth.{truth_is_decided, decided_test, decided_not, decided_both, decided_either, decided_implies}
+use Rattle.ml_blocks.proofs.DecidedTruth.{truth_is_decided}
 use Rattle.ml_nodes.proofs.EndlessWalks.{Onward, never_for_ever}
 use Rattle.ml_blocks.proofs.ItemsWithin.{StandsAt, here, under_not, under_tense, at_left, at_right, before, behind, within_stands, some_weight}
 use Rattle.ml_blocks.proofs.PlaceVertices as vertices
@@ -316,14 +318,14 @@ module _ (B : Board) where
           let d = or_decided p (i + 1) r false true a refl in
           record {
             won = both_ways (row.implies d.0) (both_ways (back row.either) (one_told p (i + 1) r false true a refl));
-            decided = decided_implies d.0 d.1;
+            decided = decided_if d.0 (λ p. d.1);
           }
       connective_told operator.Implies false a =
           let p = Holding i (plain.Binary operator.Implies f g) false in
           let d = and_decided p (i + 1) r true false a refl in
           record {
             won = both_ways (row.not_implies d.0) (both_ways (back row.both) (both_told p (i + 1) r true false a refl));
-            decided = decided_implies d.0 d.1;
+            decided = decided_if d.0 (λ p. d.1);
           }
       connective_told operator.Iff true a =
           let o = or_holds B (Holding i (plain.Binary operator.Iff f g) true) (Both (i + 1) f g true)
@@ -336,7 +338,7 @@ module _ (B : Board) where
           record {
             won = both_ways (row.iff d.0)
                 (both_ways (sum_iff (back row.both) (back row.both)) (both_ways (sum_iff one two) (back o.holds)));
-            decided = decided_both (decided_implies d.0 d.1) (decided_implies d.1 d.0);
+            decided = decided_both (decided_if d.0 (λ p. d.1)) (decided_if d.1 (λ p. d.0));
           }
       connective_told operator.Iff false a =
           let o = or_holds B (Holding i (plain.Binary operator.Iff f g) false) (Both (i + 1) f g false)
@@ -349,7 +351,7 @@ module _ (B : Board) where
           record {
             won = both_ways (row.not_iff d.0 d.1)
                 (both_ways (sum_iff (back row.both) (back row.both)) (both_ways (sum_iff one two) (back o.holds)));
-            decided = decided_both (decided_implies d.0 d.1) (decided_implies d.1 d.0);
+            decided = decided_both (decided_if d.0 (λ p. d.1)) (decided_if d.1 (λ p. d.0));
           }
 
   not_told : (n : ℕ)

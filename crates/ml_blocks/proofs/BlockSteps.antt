@@ -6,24 +6,20 @@
 --   Stepped             == one step on from a block by decomposing its first open item, with what is known of it
 --   Settled             == the same until no item is open
 --   settle              == step by step, as far as it goes
-use Rattle.std.proofs.Common.{ℕ, zero, suc, ◌≡◌, ◌+◌, ◌<◌, inl, arith, true, false, Bool, cond, List, [], ◌∷◌, Option, Some, None, refl, sym, ap, ◌∙◌}
+use Rattle.std.proofs.Common.{ℕ, zero, suc, ◌≡◌, ◌+◌, ◌<◌, inl, arith, true, false, Bool, cond, List, [], ◌∷◌, Option, Some, None, refl, ap, ◌∙◌}
 use Rattle.std.specs.Bool.{beq}
 use Rattle.ml_lists.specs.Member.{IsMember}
 use Rattle.ml_parity.specs.declared.players.Player.{Player}
 use Rattle.ml_parity.specs.Player.{opponent}
 use Rattle.ml_parity.specs.Winner.{IsStrategyOf}
 use Rattle.ml_blocks.specs.Items.{Item, Row, OfState, Becomes, Either, row}
-use Rattle.ml_blocks.specs.ItemSets.{due, put_all, without, next_items, eventualities}
+use Rattle.ml_blocks.specs.ItemSets.{put_all, without, next_items, eventualities}
 use Rattle.ml_blocks.specs.Places.{Block, Place, Path, True, False, Holding, form_of, priority_of, path_of, form_of_item, form_of_block}
-use Rattle.ml_blocks.specs.Places.{form_of_edge, priority_of_block, first_open, focus_behind, edge_priority, both_ways, one_way}
+use Rattle.ml_blocks.specs.Places.{form_of_edge, priority_of_block, first_open, focus_behind, edge_priority, all_of, one_of}
 use Rattle.ml_blocks.proofs.ItemSetMembers.{load}
 use Rattle.ml_blocks.proofs.LighterRows.{step_lighter}
 use Rattle.ml_blocks.proofs.LocalRuns.{Takes, LocalRun, settled, taken, Of, after_of}
 use Rattle.ml_blocks.proofs.PlaceVertices.{Board, Known, Branches, at, game, player_of, both, one, edge_form, priority_at_place, Goes, Way, move_walk, further}
-use Rattle.ml_blocks.proofs.RowsOfItems.{item}
-
-pub due_now : (x : Item) → x.later ≡ false → due x ≡ x
-due_now x e = ap (item x.number x.formula x.positive) (sym e)
 
 abbrev pub block : Item → Bool → List Item → ℕ → Block
 block first b xs k = record { first = first; positive = b; items = xs; focus = k }
@@ -108,7 +104,7 @@ module _ (first : Item) (b : Bool) where
     of_state e =
         both B b (Holding x.number x.formula (beq x.positive b)) (after xs k x []) s a
         (form_by OfState e
-        ∙ ap (both_ways b (Holding x.number x.formula (beq x.positive b))) (path_is xs k (without x xs) k))
+        ∙ ap (all_of b (Holding x.number x.formula (beq x.positive b))) (path_is xs k (without x xs) k))
 
     pub becomes : (ys : List Item)
         → row x ≡ Becomes ys
@@ -116,7 +112,7 @@ module _ (first : Item) (b : Bool) where
     becomes ys e =
         let p = path_is xs k (put_all ys (without x xs)) k in
         both B b (after xs k x ys) (after xs k x ys) s a
-        (form_by (Becomes ys) e ∙ ap (λ q. both_ways b q q) p)
+        (form_by (Becomes ys) e ∙ ap (λ q. all_of b q q) p)
 
     pub either : (ys zs : List Item)
         → row x ≡ Either ys zs
@@ -124,9 +120,9 @@ module _ (first : Item) (b : Bool) where
     either ys zs e =
         one B b (after xs k x ys) (after xs k x zs) s a
         (form_by (Either ys zs) e
-        ∙ ap (λ q. one_way b q (path_of (block first b xs k) (put_all zs (without x xs)) k))
+        ∙ ap (λ q. one_of b q (path_of (block first b xs k) (put_all zs (without x xs)) k))
         (path_is xs k (put_all ys (without x xs)) k)
-        ∙ ap (one_way b (after xs k x ys)) (path_is xs k (put_all zs (without x xs)) k))
+        ∙ ap (one_of b (after xs k x ys)) (path_is xs k (put_all zs (without x xs)) k))
 
   -- ---- step by step
 

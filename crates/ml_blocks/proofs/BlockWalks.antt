@@ -10,6 +10,7 @@ use Rattle.std.specs.Bool.{beq}
 use Rattle.std.specs.List.{slice_get}
 use Rattle.std.proofs.lemmas.Bool.{false≢true}
 use Rattle.std.proofs.lemmas.Nat.{same_from_place}
+use Rattle.std.proofs.lemmas.Option.{same_Some}
 use Rattle.ml_lists.specs.Member.{IsMember}
 use Rattle.ml_lists.specs.Pigeons.{Twice}
 use Rattle.ml_lists.specs.Walk.{walk}
@@ -29,14 +30,14 @@ use Rattle.ml_blocks.specs.Laws.{signed}
 use Rattle.ml_blocks.specs.Places.{Place, Path, Holding, first_open, is_open, is_wait, focus_behind, edge_priority}
 use Rattle.ml_blocks.proofs.BlockSteps as block
 use Rattle.ml_blocks.proofs.BlockSteps.{path, other, off, edge_form_of, edge_priority_of, of_state, becomes, either, Stepped, Settled, Steps, settle}
-use Rattle.ml_blocks.proofs.ItemSetMembers.{load, next_items-member, next_items-all_of}
+use Rattle.ml_blocks.proofs.ItemSetMembers.{load, next_items-all_of}
 use Rattle.ml_blocks.proofs.ItemsWithin.{IsOf, same_key}
 use Rattle.ml_blocks.proofs.LocalRuns.{Takes, LocalRun, Of, left_of, left_settled, some_open, open_now, none_open, next_of_of}
 use Rattle.ml_blocks.proofs.PathsWin.{focus_low, best_low}
 use Rattle.ml_blocks.proofs.PlaceVertices.{Board, Known, Branches, Edges, at, game, player_of, Goes, number_low, vertex_is, edges}
 use Rattle.ml_blocks.proofs.PlaceVertices.{own_branch, other_left, other_right, own_edge, priority_at_place, move_walk, way_walk}
-use Rattle.ml_blocks.proofs.RowShapes.{next_now}
 use Rattle.ml_blocks.proofs.SaidItems.{step_states}
+use Rattle.ml_blocks.proofs.RowShapes.{next_items_now}
 
 -- a state item that the player wins holds
 abbrev pub AllWon : Board → Item → Bool → Type 0
@@ -68,9 +69,6 @@ focus_is : (first : Item) (b : Bool) (xs : List Item) (k : ℕ) (y : Item)
 unfolding focus_of
 focus_is first b [] k y none = absurd none
 focus_is first b (x ∷ xs) k y m = refl
-
-same_found : {p q : Place} → Some p ≡ Some q → p ≡ q
-same_found e = cc
 
 module _ (B : Board) (first : Item) (b : Bool) (choice : ℕ → ℕ)
     (is_strategy : IsStrategyOf (game B) (player_of b) choice) (all_won : AllWon B first b) where
@@ -195,9 +193,6 @@ module _ (B : Board) (first : Item) (b : Bool) (choice : ℕ → ℕ)
       left_of_first : Of first r.left
       left_of_first = left_of first (Good x.s x.low) x.xs r.left x.of r.run
 
-      closed : (y : Item) → IsMember y r.left → is_open y ≡ false
-      closed y i = none_open r.left shut y i
-
       some_state : (t : ℕ) × (has_step B.m x.s t ≡ true)
       some_state = B.is_total x.s x.low
 
@@ -226,11 +221,6 @@ module _ (B : Board) (first : Item) (b : Bool) (choice : ℕ → ℕ)
       k2 : ℕ
       k2 = focus_behind (eventualities first) x.k r.left
 
-      next_is_now : (v : Item) → IsMember v (next_items r.left) → v.later ≡ false
-      next_is_now v i =
-          let found = next_items-member v r.left i in
-          ap (λ z. z.later) found.2 ∙ next_now found.0 (closed found.0 found.1)
-
       along : (y : Item) → IsMember y r.left → BigStep x
       along y member =
           made (edges B b (path first b (next_items r.left) k2) x.s r.to (edge_form_of first b r.left x.k y member shut))
@@ -250,8 +240,8 @@ module _ (B : Board) (first : Item) (b : Bool) (choice : ℕ → ℕ)
                   a = c.to;
                   of =
                       next_items-all_of (IsOf first) (same_key first) r.left
-                      (λ v i. next_of_of first v (left_of_first v i) (closed v i));
-                  all_now = next_is_now;
+                      (λ v i. next_of_of first v (left_of_first v i) (none_open r.left shut v i));
+                  all_now = next_items_now r.left (none_open r.left shut);
                   from = λ v i. end;
                   focus = focus_low (eventualities first) x.k r.left x.focus;
                 };
@@ -287,7 +277,7 @@ module _ (B : Board) (first : Item) (b : Bool) (choice : ℕ → ℕ)
   same_vertex x y e =
       let parts = same_from_place x.s (x.a).number y.s (y.a).number (size B.g) (number_low B x.a) (number_low B y.a) e in
       let place =
-      same_found (sym (x.a).is ∙ ap (slice_get B.places) parts.1 ∙ (y.a).is) in
+      same_Some _ _ (sym (x.a).is ∙ ap (slice_get B.places) parts.1 ∙ (y.a).is) in
       let items = sym (items_is first b x.xs x.k) ∙ ap items_of place ∙ items_is first b y.xs y.k in
       record {
         state = parts.0;

@@ -32,7 +32,7 @@ use Rattle.ml_ctl.specs.Meaning.{HoldsAt}
 use Rattle.ml_ctl.specs.Paths.{IsPath, IsPathFrom}
 use Rattle.ml_ctl.proofs.StateFormulas.{looks_at_the_state}
 use Rattle.ml_blocks.specs.Items.{Item, OfState, row, now}
-use Rattle.ml_blocks.specs.ItemSets.{due, items_within}
+use Rattle.ml_blocks.specs.ItemSets.{items_within}
 use Rattle.ml_blocks.specs.Laws.{Asks, signed, QuantifiersAreDecided}
 use Rattle.ml_blocks.specs.Places.{Constant, Holding}
 use Rattle.ml_blocks.proofs.BlockSteps.{path}
@@ -43,7 +43,7 @@ use Rattle.ml_blocks.proofs.PathsWin.{NoneLost, ConstantLost, never_lost}
 use Rattle.ml_blocks.proofs.PlaceVertices as vertices
 use Rattle.ml_blocks.proofs.PlaceVertices.{Board, Known, at, player_of, number_low, form_as}
 use Rattle.ml_blocks.proofs.ReachedItems.{Reached, within_reached, state_known}
-use Rattle.ml_blocks.proofs.RowsOfItems.{item}
+use Rattle.ml_blocks.proofs.RowsOfItems.{item, due_now}
 use Rattle.ml_blocks.proofs.SaidItems.{path_states}
 use Rattle.ml_blocks.proofs.WinsGivePath.{path_from_win}
 
@@ -214,15 +214,12 @@ module _ (B : Board) (i : ℕ) (f : Formula) (c b : Bool) (told : ItemsTold B (n
         (λ x m e p place.
         let t = within_reached B first b i f c reached x m in
         let is_now = (within_stands i f c x m).is_now in
-        let of : IsOf first x = subst (λ z. IsMember z (items_within i f c)) (sym (due_is x is_now)) m in
+        let of : IsOf first x = subst (λ z. IsMember z (items_within i f c)) (sym (due_now x is_now)) m in
         let h = state_known B first b x t is_now e in
         let look = looks_at_the_state B.m l x.formula p (is_state_item x e) in
         let s_low = path_states B.m l B.is_structure is_path p place in
         decided_as (HoldsAt B.m x.formula (entry l p)) look (told (entry l p) s_low x of e h).decided)
       where
-        due_is : (x : Item) → x.later ≡ false → due x ≡ x
-        due_is x e = ap (item x.number x.formula x.positive) (sym e)
-
         decided_as : {P : Type 0} (Q : Type 0) → P ↔ Q → IsDecided Q → IsDecided P
         decided_as Q same (inl q) = inl (same.1 q)
         decided_as Q same (inr none) = inr (λ p. none (same.0 p))

@@ -6,14 +6,12 @@
 --   numbered         == the lists of the draft are numbered by the places of the closure
 --   made_graph       == they make a graph
 --   too_large        == a draft that overflows tells of a large closure
-use Rattle.std.proofs.Common.{ℕ, suc, ◌≡◌, ◌+◌, ◌-◌, ◌<◌, inl, inr, arith, true, false, List, [], ◌∷◌, length, map, get_or, Option, None, Some, codes, bytes_eq, All, refl, sym, ap, ◌∙◌, subst}
+use Rattle.std.proofs.Common.{ℕ, ◌≡◌, ◌+◌, ◌-◌, ◌<◌, inl, inr, arith, true, false, List, [], ◌∷◌, length, map, get_or, Option, None, Some, codes, bytes_eq, All, refl, sym, ap, ◌∙◌, subst}
 use Rattle.std.specs.List.{flat_map, range_with_len, slice_get, IsDistinct}
 use Rattle.std.specs.Option.{option_map}
 use Rattle.std.proofs.lemmas.List.{length-map}
-use Rattle.std.proofs.lemmas.List.Concat.{flat_map-cons}
-use Rattle.std.proofs.lemmas.List.Elements.{All-append, All-cons, All-nil}
-use Rattle.std.proofs.lemmas.List.FromFn.{get_or-range_with_len, length-range_with_len}
-use Rattle.std.proofs.lemmas.Option.{slice_get-map, slice_get_within, slice_get-get_or}
+use Rattle.std.proofs.lemmas.List.Elements.{All-append, All-nil}
+use Rattle.std.proofs.lemmas.Option.{slice_get-map, slice_get_within, slice_get-get_or, same_Some}
 use Rattle.ml_lists.specs.BreadthFirst.{IsBreadthFirst}
 use Rattle.ml_lists.specs.Member.{IsMember}
 use Rattle.ml_lists.proofs.Member.{Image, member-map, member-map_from, member-place}
@@ -40,7 +38,9 @@ use Rattle.ml_blocks.specs.declared.spots.Spot.{Spot}
 use Rattle.ml_blocks.specs.declared.spots.Spot.TheVariants as spot
 use Rattle.ml_lists.proofs.Member.{member_of_get}
 use Rattle.ml_blocks.proofs.NumberedForms.{form_is, form_fits, priority_is}
-use Rattle.ml_lists.proofs.InTurn.{in_turn}
+use Rattle.ml_lists.proofs.RowsInTurn.{AreFromEarlier, turns_in_order}
+use Rattle.ml_lists.specs.InTurn.{RunsOn}
+use Rattle.ml_nodes.proofs.InRange.{IsInRange, one, two, all_in_range}
 
 -- ---- a node has one form by numbers
 
@@ -236,7 +236,7 @@ module _ (K : Kept) (start : Place) where
       made_of : (n : ℕ) → n < length vs → (s : Spot) → slice_get xs n ≡ Some s → Made n (place s)
       made_of n low s at =
           let m = D.made n low in
-          let same : m.spot ≡ s = same_some m.spot s (sym m.at ∙ at) in
+          let same : m.spot ≡ s = same_Some m.spot s (sym m.at ∙ at) in
           subst (λ t. Made n (place t)) same (record {
             has_form =
                 subst (HasForm graph numbers (get_or vs n node.True))
@@ -244,9 +244,6 @@ module _ (K : Kept) (start : Place) where
                 (has_view (get_or vs n node.True) (form_at m.spot) m.form);
             has_priority = m.priority ∙ priority_is K start m.spot (fits_at n m.spot m.at);
           })
-        where
-          same_some : (s t : Spot) → Some s ≡ Some t → s ≡ t
-          same_some s t e = cc
 
       made_at : (n : ℕ) (p : Place) → slice_get numbers n ≡ Some p → Made n p
       made_at n p at =
@@ -280,21 +277,11 @@ module _ (K : Kept) (start : Place) where
       abbrev rows : List (List ℕ)
       rows = map row_of vs
 
-      zero_in_front : (n : ℕ) → 0 + n ≡ n
-      zero_in_front n = omega arith
-
       order : IsBreadthFirst 0 rows (range_with_len 0 (length vs))
-      order = record {
-        a_row_each = length-map vs row_of ∙ sym (length-range_with_len 0 (length vs));
-        in_order = ap (range_with_len 0) all ∙ sym (in_turn (length xs) (0 ∷ flat_map (λ r. r) rows) D.runs_on);
-        from_earlier = λ k some low.
-            let long = length-range_with_len 0 (length vs) in
-            let within : k < length vs = omega (arith, low, long) in
-            let e = D.from_earlier k some (omega (arith, within, all)) in
-            let is : get_or (range_with_len 0 (length vs)) k 0 ≡ k =
-            get_or-range_with_len 0 (length vs) k 0 within ∙ zero_in_front k in
-            (e.0, e.1, subst (λ n. IsMember n (get_or rows e.0 [])) (sym is) e.2);
-      }
+      order =
+          turns_in_order rows (length vs) (length-map vs row_of)
+          (subst (RunsOn 0 (0 ∷ flat_map (λ r. r) rows)) (sym all) D.runs_on)
+          (subst (AreFromEarlier rows) (sym all) D.from_earlier)
 
       pub numbered : IsNumberedBy graph (places.Root start) numbers
       numbered = record {
@@ -311,18 +298,6 @@ module _ (K : Kept) (start : Place) where
       }
 
       -- ---- all numbers are in range
-
-      abbrev IsInRange : Reference → Type 0
-      IsInRange r = r.number < r.bound
-
-      one : (k bound : ℕ) → k < bound → All IsInRange (record { number = k; bound = bound } ∷ [])
-      one k bound low = All-cons IsInRange (record { number = k; bound = bound }) [] low (All-nil IsInRange)
-
-      two : (k bound j limit : ℕ) → k < bound → j < limit
-          → All IsInRange (record { number = k; bound = bound } ∷ record { number = j; bound = limit } ∷ [])
-      two k bound j limit low under =
-          All-cons IsInRange (record { number = k; bound = bound }) (record { number = j; bound = limit } ∷ []) low
-          (one j limit under)
 
       abbrev refs : Node → List Reference
       refs = references_of (length vs) (length K.names) 1
@@ -354,21 +329,12 @@ module _ (K : Kept) (start : Place) where
           subst (λ w. All IsInRange (refs w)) (sym has.2)
           (two 0 1 has.0 (length vs) (omega arith) (within has.0 s has.1))
 
-      all_in_range : (us : List Node)
-          → ((n : ℕ) → n < length us → All IsInRange (refs (get_or us n node.True)))
-          → All IsInRange (flat_map refs us)
-      all_in_range [] each = All-nil IsInRange
-      all_in_range (u ∷ us) each =
-          subst (All IsInRange) (sym (flat_map-cons refs u us))
-          (All-append IsInRange (refs u) (flat_map refs us) (each 0 (omega arith))
-          (all_in_range us (λ n low. each (suc n) (omega (arith, low)))))
-
       pub made_graph : IsDistinct bytes_eq K.names → IsGraph graph
       made_graph distinct = record {
         priorities = D.as_many;
         in_range =
             All-append IsInRange (flat_map refs vs) (record { number = 0; bound = length vs } ∷ [])
-            (all_in_range vs (λ n low.
+            (all_in_range refs vs (λ n low.
             let m = D.made n low in
             form_in_range (get_or vs n node.True) (form_at m.spot)
             (form_fits K first first_fits m.spot (fits_at n m.spot m.at)) m.form))

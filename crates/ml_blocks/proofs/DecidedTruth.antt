@@ -2,9 +2,10 @@
 --
 --   decided_untils, decided_releases == iterates of decided properties
 --   truth_is_decided                 == the law
-use Rattle.std.proofs.Common.{ℕ, zero, suc, ◌≡◌, ◌<◌, ◌⊎◌, Bool, true, false, inl, inr, refl}
-use Rattle.std.proofs.lemmas.Bool.{false≢true}
+use Rattle.std.proofs.Common.{ℕ, zero, suc, ◌<◌, ◌⊎◌, inl, inr}
 use Rattle.ml_lists.specs.Lasso.{Lasso, entry, next_place}
+use Rattle.ml_lists.proofs.Decided.{decided_test, decided_both, decided_either}
+use Rattle.ml_lists.proofs.Deciding.{decided_if, decided_not}
 use Rattle.ml_text.specs.declared.token.Operator.TheVariants as operator
 use Rattle.ml_base.specs.Structure.{Structure, lists}
 use Rattle.ml_ctl.specs.Formula as plain
@@ -17,33 +18,6 @@ use Rattle.ml_ctl.specs.Paths.{IsPlace, places}
 use Rattle.ml_ctl.proofs.Iterated.{untils, releases}
 use Rattle.ml_ctl.proofs.StepByStep.{closed, next_is_place}
 use Rattle.ml_blocks.specs.Laws.{TruthIsDecided}
-
-pub decided_test : (b : Bool) → IsDecided (b ≡ true)
-decided_test true = inl refl
-decided_test false = inr false≢true
-
-pub decided_not : {P : Type 0} → IsDecided P → IsDecided (P → ⊥)
-decided_not (inl p) = inr (λ none. none p)
-decided_not (inr not_p) = inl not_p
-
-pub decided_both : {P Q : Type 0} → IsDecided P → IsDecided Q → IsDecided (P × Q)
-decided_both (inl p) (inl q) = inl (p, q)
-decided_both (inl p) (inr not_q) = inr (λ pair. not_q pair.1)
-decided_both (inr not_p) q = inr (λ pair. not_p pair.0)
-
-pub decided_either : {P Q : Type 0} → IsDecided P → IsDecided Q → IsDecided (P ⊎ Q)
-decided_either (inl p) q = inl (inl p)
-decided_either (inr not_p) (inl q) = inl (inr q)
-decided_either {P = P} {Q = Q} (inr not_p) (inr not_q) = inr neither
-  where
-    neither : P ⊎ Q → ⊥
-    neither (inl p) = not_p p
-    neither (inr q) = not_q q
-
-pub decided_implies : {P Q : Type 0} → IsDecided P → IsDecided Q → IsDecided (P → Q)
-decided_implies (inl p) (inl q) = inl (λ a. q)
-decided_implies (inl p) (inr not_q) = inr (λ f. not_q (f p))
-decided_implies (inr not_p) q = inl (λ p. absurd (not_p p))
 
 module _ (next : ℕ → ℕ) (n : ℕ) (closes : (y : ℕ) → y < n → next y < n) (F G : ℕ → Type 0)
     (decided_f : (x : ℕ) → x < n → IsDecided (F x)) (decided_g : (x : ℕ) → x < n → IsDecided (G x)) where
@@ -94,11 +68,11 @@ truth_is_decided m l (plain.Binary operator.And f g) given i place =
 truth_is_decided m l (plain.Binary operator.Or f g) given i place =
     decided_either (truth_is_decided m l f given.0 i place) (truth_is_decided m l g given.1 i place)
 truth_is_decided m l (plain.Binary operator.Implies f g) given i place =
-    decided_implies (truth_is_decided m l f given.0 i place) (truth_is_decided m l g given.1 i place)
+    decided_if (truth_is_decided m l f given.0 i place) (λ p. truth_is_decided m l g given.1 i place)
 truth_is_decided m l (plain.Binary operator.Iff f g) given i place =
     let a = truth_is_decided m l f given.0 i place in
     let b = truth_is_decided m l g given.1 i place in
-    decided_both (decided_implies a b) (decided_implies b a)
+    decided_both (decided_if a (λ p. b)) (decided_if b (λ p. a))
 truth_is_decided m l (plain.Temporal tense.Next f) given i place =
     truth_is_decided m l f given (next_place l i) (next_is_place l i place)
 truth_is_decided m l (plain.Temporal tense.Finally f) given i place =

@@ -3,13 +3,13 @@
 --   one_spot      == the root alone is a draft
 --   stepped       == one node more
 --   no_room       == where the next node leads to one too many, more nodes are reached
-use Rattle.std.proofs.Common.{ℕ, zero, suc, ◌≡◌, ◌+◌, ◌<◌, ◌≤◌, ◌⊎◌, inl, inr, arith, Bool, true, false, List, [], ◌∷◌, ◌++◌}
-use Rattle.std.proofs.Common.{length, map, get_or, Some, refl, sym, ap, ◌∙◌, subst, ⊎_elim, append-nil, length-append}
+use Rattle.std.proofs.Common.{ℕ, ◌≡◌, ◌+◌, ◌<◌, ◌≤◌, ◌⊎◌, inl, inr, arith, Bool, true, false, List, [], ◌∷◌, ◌++◌}
+use Rattle.std.proofs.Common.{length, map, get_or, Some, refl, sym, ap, ◌∙◌, subst, ⊎_elim, length-append}
 use Rattle.std.specs.List.{flat_map, slice_get}
 use Rattle.std.proofs.lemmas.Bool.{cases_lt}
-use Rattle.std.proofs.lemmas.Grind.{flat_map-append}
 use Rattle.std.proofs.lemmas.List.{get_or_append_left, length-map, map-append}
 use Rattle.std.proofs.lemmas.Option.{slice_get_within}
+use Rattle.std.proofs.Math.Seq.{get_or-append_seam}
 use Rattle.ml_lists.specs.Member.{IsMember}
 use Rattle.ml_graph.specs.declared.node.Node.{Node}
 use Rattle.ml_graph.specs.declared.node.Node.TheVariants as node
@@ -27,7 +27,8 @@ use Rattle.ml_blocks.specs.declared.spots.Spot.{Spot}
 use Rattle.ml_blocks.specs.declared.spots.Spot.TheVariants as spot
 use Rattle.ml_lists.proofs.Added.{added_all, added_once, added_keeps, added_runs, last_or}
 use Rattle.ml_lists.proofs.Member.{member_of_get}
-use Rattle.ml_lists.proofs.InTurn.{runs_append, runs_has, runs_up}
+use Rattle.ml_lists.proofs.InTurn.{runs_append, runs_up}
+use Rattle.ml_lists.proofs.RowsInTurn.{AreFromEarlier, earlier_more, turns_more}
 
 pair_row : (b : Bool) (i j : ℕ) → row_of (pair_of b i j) ≡ i ∷ j ∷ []
 pair_row true i j = refl
@@ -143,14 +144,6 @@ still xs ys keeps v (form.Two b l r) h = (h.0, h.1, keeps h.0 l h.2, keeps h.1 r
 still xs ys keeps v (form.Twice b s) h = (h.0, keeps h.0 s h.1, h.2)
 still xs ys keeps v (form.Edge b s) h = (h.0, keeps h.0 s h.1, h.2)
 
--- the entry at the end
-at_end : {X : Type 0} (xs : List X) (x d : X) → get_or (xs ++ x ∷ []) (length xs) d ≡ x
-at_end [] x d = refl
-at_end (y ∷ xs) x d = at_end xs x d
-
-longer_by_one : {X : Type 0} (xs : List X) (x : X) → length (xs ++ x ∷ []) ≡ length xs + 1
-longer_by_one xs x = length-append xs (x ∷ [])
-
 module _ (os : List Occurrence) (lists : List (List ℕ)) (first : Spot) (max : ℕ) where
   abbrev Reached : Spot → Type 0
   Reached = ReachedIn os lists first
@@ -190,7 +183,7 @@ module _ (os : List Occurrence) (lists : List (List ℕ)) (first : Spot) (max : 
         (λ s m. behind S.spot s (D.are_reached (length vs) S.spot S.at) m) S.numbers
 
     long : length ws ≡ length vs + 1
-    long = ap length S.nodes ∙ longer_by_one vs S.node
+    long = ap length S.nodes ∙ length-append vs (S.node ∷ [])
 
     rows : map row_of ws ≡ map row_of vs ++ row_of S.node ∷ []
     rows = ap (map row_of) S.nodes ∙ map-append row_of vs (S.node ∷ [])
@@ -198,16 +191,10 @@ module _ (os : List Occurrence) (lists : List (List ℕ)) (first : Spot) (max : 
     low_spot : length vs < length xs
     low_spot = slice_get_within xs (length vs) S.spot S.at
 
-    abbrev flat : List (List ℕ) → List ℕ
-    flat = flat_map (λ (r : List ℕ). r)
-
-    runs : RunsOn 0 (0 ∷ flat (map row_of ws)) (length ys)
+    runs : RunsOn 0 (0 ∷ flat_map (λ (r : List ℕ). r) (map row_of ws)) (length ys)
     runs =
-        subst (λ r. RunsOn 0 (0 ∷ flat r) (length ys)) (sym rows)
-        (subst (λ r. RunsOn 0 (0 ∷ r) (length ys))
-        (sym (flat_map-append (λ (r : List ℕ). r) (map row_of vs) (row_of S.node ∷ [])
-        ∙ ap (λ r. flat (map row_of vs) ++ r) (append-nil (row_of S.node))))
-        (runs_append 0 (length xs) (length ys) (0 ∷ flat (map row_of vs)) (row_of S.node) D.runs_on growth.runs))
+        subst (λ r. RunsOn 0 (0 ∷ flat_map (λ (s : List ℕ). s) r) (length ys)) (sym rows)
+        (turns_more (map row_of vs) (row_of S.node) (length xs) (length ys) growth.runs D.runs_on)
 
     up : length xs ≤ length ys
     up = runs_up (length xs) (length ys) (row_of S.node) growth.runs
@@ -237,46 +224,19 @@ module _ (os : List Occurrence) (lists : List (List ℕ)) (first : Spot) (max : 
               subst (λ v. HasFormIn ys v f)
               (sym (ap (λ us. get_or us n node.True) S.nodes
               ∙ ap (λ k. get_or (vs ++ S.node ∷ []) k node.True) is
-              ∙ at_end vs S.node node.True)) growth.has_form;
+              ∙ get_or-append_seam vs S.node [] node.True)) growth.has_form;
           priority =
               ap (λ us. get_or us n 0) S.priorities
               ∙ ap (λ k. get_or (ps ++ priority_in os lists S.spot ∷ []) k 0) (is ∙ sym D.as_many)
-              ∙ at_end ps (priority_in os lists S.spot) 0;
+              ∙ get_or-append_seam ps (priority_in os lists S.spot) [] 0;
         })
         (cases_lt n (length vs))
 
-    earlier : (k : ℕ) → 0 < k → k < length ys → (j : ℕ) × (j < k) × IsMember k (get_or (map row_of ws) j [])
-    earlier k some low =
-        ⊎_elim
-        (λ (old : k < length xs). before (D.from_earlier k some old))
-        (λ (new : length xs ≤ k).
-        let j_low : length vs < k = omega (arith, low_spot, new) in
-        let here = runs_has (length xs) (length ys) (row_of S.node) growth.runs k new low in
-        let there : get_or (map row_of ws) (length vs) [] ≡ row_of S.node =
-        ap (λ rs. get_or rs (length vs) []) rows
-        ∙ ap (λ n. get_or (map row_of vs ++ row_of S.node ∷ []) n []) (sym (length-map vs row_of))
-        ∙ at_end (map row_of vs) (row_of S.node) [] in
-        (length vs, j_low, subst (IsMember k) (sym there) here))
-        (cases_lt k (length xs))
-      where
-        before : ((j : ℕ) × (j < k) × IsMember k (get_or (map row_of vs) j []))
-            → (j : ℕ) × (j < k) × IsMember k (get_or (map row_of ws) j [])
-        before (j, j_low, m) =
-            ⊎_elim
-            (λ (inside : j < length vs).
-            let same : get_or (map row_of ws) j [] ≡ get_or (map row_of vs) j [] =
-            ap (λ rs. get_or rs j []) rows
-            ∙ get_or_append_left (map row_of vs) (row_of S.node ∷ []) [] j
-            (let l = length-map vs row_of in omega (arith, l, inside)) in
-            (j, j_low, subst (IsMember k) (sym same) m))
-            (λ (outside : length vs ≤ j).
-            absurd (nothing (map row_of vs) j (let l = length-map vs row_of in omega (arith, l, outside)) m))
-            (cases_lt j (length vs))
-          where
-            nothing : (rs : List (List ℕ)) (n : ℕ) → length rs ≤ n → IsMember k (get_or rs n []) → ⊥
-            nothing [] n out none = none
-            nothing (r ∷ rs) zero out i = omega (arith, out)
-            nothing (r ∷ rs) (suc n) out i = nothing rs n (omega (arith, out)) i
+    earlier : AreFromEarlier (map row_of ws) (length ys)
+    earlier =
+        subst (λ r. AreFromEarlier r (length ys)) (sym rows)
+        (earlier_more (map row_of vs) (row_of S.node) (length xs) (length ys) growth.runs
+        (let l = length-map vs row_of in omega (arith, l, low_spot)) D.from_earlier)
 
     pub stepped : IsDraft os lists first max ys ws qs
     stepped = record {
@@ -286,7 +246,7 @@ module _ (os : List Occurrence) (lists : List (List ℕ)) (first : Spot) (max : 
       few = S.few;
       short = omega (arith, long, low_spot, up);
       as_many =
-          let q = ap length S.priorities ∙ longer_by_one ps (priority_in os lists S.spot) in
+          let q = ap length S.priorities ∙ length-append ps (priority_in os lists S.spot ∷ []) in
           let same = D.as_many in
           omega (arith, q, long, same);
       made = made_at;
@@ -305,7 +265,7 @@ module _ (os : List Occurrence) (lists : List (List ℕ)) (first : Spot) (max : 
     spots = zs ++ x ∷ [];
     once = once_more zs x once full.is_new;
     are_reached = reached_more;
-    more = let l = longer_by_one zs x in let is = full.full in omega (arith, l, is);
+    more = let l = length-append zs (x ∷ []) in let is = full.full in omega (arith, l, is);
   }
     where
       reached_more : (n : ℕ) (s : Spot) → slice_get (zs ++ x ∷ []) n ≡ Some s → Reached s

@@ -7,35 +7,27 @@
 --   Within p            == p is a node of the block, or is reached from what one of its items asks of a state
 --   within_steps        == what such a node leads to is another
 --   block_finite        == so finitely many are reached
-use Rattle.std.proofs.Common.{ℕ, ◌≡◌, ◌+◌, ◌*◌, ◌<◌, ◌%◌, ◌⊎◌, inl, inr, arith, true, false, Bool, List, [], ◌∷◌, ◌++◌, map, length, get_or, Option, Some, None, refl, sym, ap, subst, ◌∙◌, ⊎_elim}
+use Rattle.std.proofs.Common.{ℕ, ◌≡◌, ◌+◌, ◌*◌, ◌<◌, ◌%◌, ◌⊎◌, inl, inr, arith, true, false, Bool, List, [], ◌∷◌, ◌++◌, map, length, Option, Some, None, refl, sym, ap, subst, ◌∙◌, ⊎_elim}
 use Rattle.std.specs.Bool.{beq}
 use Rattle.std.specs.List.{flat_map, range_with_len}
 use Rattle.std.proofs.lemmas.Bool.{cases_Bool, cond-true, cond-false}
-use Rattle.std.proofs.lemmas.List.FromFn.{get_or-range_with_len, length-range_with_len}
 use Rattle.std.proofs.lemmas.Nat.{mod_below}
 use Rattle.ml_lists.specs.Member.{IsMember}
-use Rattle.ml_lists.proofs.Member.{member-append_left, member-append_right, member-flat_map, member-map, place-member}
+use Rattle.ml_lists.proofs.Member.{member-append_left, member-append_right, member-flat_map, member-map}
+use Rattle.ml_lists.proofs.Ranges.{member-range}
 use Rattle.ml_ctl.specs.Formula.{occurrences}
 use Rattle.ml_blocks.specs.BlockGraph.{IsReached, at_root, behind, children}
 use Rattle.ml_blocks.specs.Items.{Item, Row, OfState, Waits, Becomes, Either, put_off, row}
 use Rattle.ml_blocks.specs.ItemSets.{due, key, put_all, without, items_within, next_items, eventualities}
-use Rattle.ml_blocks.specs.Places.{Place, Holding, form_of, form_of_item, focus_behind, is_put_off, path_of, first_open, block_of, both_ways, one_way}
-use Rattle.ml_blocks.proofs.BlockSteps.{block, block_form, due_now, edge_form_of, path, path_is}
+use Rattle.ml_blocks.specs.Places.{Place, Holding, form_of, form_of_item, focus_behind, is_put_off, path_of, first_open, block_of, all_of, one_of}
+use Rattle.ml_blocks.proofs.BlockSteps.{block, block_form, edge_form_of, path, path_is}
 use Rattle.ml_blocks.proofs.ItemSetMembers.{next_items-all_of}
 use Rattle.ml_blocks.proofs.ItemsWithin.{IsOf, bits_low, same_key, stands_at_within, within_stands}
 use Rattle.ml_blocks.proofs.LocalRuns.{Of, Takes, after_of, none_open, next_of_of, some_open}
 use Rattle.ml_blocks.proofs.OrderedItems.{InOrder, in_order_short, lists_of, member-lists_of, next_in_order, put_all_in_order, without_in_order}
 use Rattle.ml_blocks.proofs.PlaceVertices.{edge_form}
 use Rattle.ml_blocks.proofs.ReachedPlaces.{Finite, HasAll, Together, together}
-use Rattle.ml_blocks.proofs.RowsOfItems.{item}
-
-in_range : (n k : ℕ) → k < n → IsMember k (range_with_len 0 n)
-in_range n k low =
-    let is : get_or (range_with_len 0 n) k 0 ≡ 0 + k = get_or-range_with_len 0 n k 0 low in
-    let same : get_or (range_with_len 0 n) k 0 ≡ k = omega (arith, is) in
-    let long = length-range_with_len 0 n in
-    subst (λ j. IsMember j (range_with_len 0 n)) same
-    (place-member (range_with_len 0 n) k 0 (omega (arith, low, long)))
+use Rattle.ml_blocks.proofs.RowsOfItems.{item, due_now}
 
 focus_in_range : (ms : List ℕ) (k : ℕ) (xs : List Item) → k < length ms + 1 → focus_behind ms k xs < length ms + 1
 focus_in_range [] k xs low = omega arith
@@ -55,11 +47,11 @@ in_two p l r (inl e) = inl e
 in_two p l r (inr (inl e)) = inr e
 in_two p l r (inr (inr none)) = absurd none
 
-in_both : (b : Bool) (p l r : Place) → IsMember p (children (both_ways b l r)) → (p ≡ l) ⊎ (p ≡ r)
+in_both : (b : Bool) (p l r : Place) → IsMember p (children (all_of b l r)) → (p ≡ l) ⊎ (p ≡ r)
 in_both true p l r m = in_two p l r m
 in_both false p l r m = in_two p l r m
 
-in_one : (b : Bool) (p l r : Place) → IsMember p (children (one_way b l r)) → (p ≡ l) ⊎ (p ≡ r)
+in_one : (b : Bool) (p l r : Place) → IsMember p (children (one_of b l r)) → (p ≡ l) ⊎ (p ≡ r)
 in_one true p l r m = in_two p l r m
 in_one false p l r m = in_two p l r m
 
@@ -253,7 +245,7 @@ module _ (first : Item) (b : Bool) where
       member-lists_of universe top n.items (λ x m. in_universe x (n.is_set.of x m)) (omega (arith, short)) in
       subst (λ v. IsMember v (flat_map nodes_of sets)) (sym n.is)
       (member-flat_map nodes_of n.items (path first b n.items n.focus) sets set
-      (member-map (λ k. path first b n.items k) n.focus (range_with_len 0 turns) (in_range turns n.focus n.in_turn)))
+      (member-map (λ k. path first b n.items k) n.focus (range_with_len 0 turns) (member-range turns n.focus n.in_turn)))
 
   module _ (asks : (x : Item) → IsMember x at_first → (sign : Bool) → Finite (Holding x.number x.formula sign)) where
     at_states : (sign : Bool) → Together (λ (x : Item). Holding x.number x.formula sign) at_first

@@ -5,16 +5,12 @@
 --   NamedPlace p  == so it is of each formula of which the node p says something
 --   form_named    == so it is of the nodes to which it leads, and of the proposition that it asks for itself
 --   blocks_held   == so the graph of a closure whose first node is such has names and priorities that a program holds
-use Rattle.std.proofs.Common.{◌≡◌, ℕ, ◌+◌, ◌<◌, ◌≤◌, ◌⊎◌, inl, inr, Bool, true, false, not, if◌then◌else◌, List, [], ◌∷◌, ◌++◌, length, get_or, Option, Some, None, refl, sym, subst, ◌∙◌, arith}
+use Rattle.std.proofs.Common.{◌≡◌, ℕ, ◌+◌, ◌≤◌, ◌⊎◌, inl, inr, Bool, true, false, not, if◌then◌else◌, List, [], ◌∷◌, ◌++◌, Option, Some, None, refl, sym, subst, arith}
 use Rattle.std.specs.Bool.{beq}
-use Rattle.std.specs.List.{AllByRecursion, slice_get}
-use Rattle.std.proofs.lemmas.Option.{slice_get-get_or}
-use Rattle.ml_base.specs.Name.{IsName, IsAction}
+use Rattle.std.specs.List.{AllByRecursion}
+use Rattle.ml_base.specs.Name.{IsName}
 use Rattle.ml_lists.specs.Member.{IsMember}
-use Rattle.ml_lists.proofs.Member.{member-place, place-member}
-use Rattle.ml_graph.specs.Graph.{Graph, node_at, prop_at, size}
-use Rattle.ml_graph.specs.declared.node.Node.{Node}
-use Rattle.ml_graph.specs.declared.node.Node.TheVariants as node
+use Rattle.ml_graph.specs.Graph.{Graph}
 use Rattle.ml_text.specs.Names.{Proposition, of_kind}
 use Rattle.ml_text.specs.declared.token.Operator.{Operator}
 use Rattle.ml_text.specs.declared.token.Operator.TheVariants as operator
@@ -28,7 +24,7 @@ use Rattle.ml_ctl.specs.declared.term.Quantifier.{Quantifier}
 use Rattle.ml_ctl.specs.declared.term.Quantifier.TheVariants as quantifier
 use Rattle.ml_ctl.specs.Signs.{own}
 use Rattle.ml_ctl.specs.Spelling.{HasShortNames, is_spelled}
-use Rattle.ml_blocks.specs.BlockGraph.{HasForm, IsGraphAt, IsNumberedBy, IsReached, at_root, behind, children}
+use Rattle.ml_blocks.specs.BlockGraph.{IsGraphAt, IsReached, at_root, behind, children}
 use Rattle.ml_blocks.specs.Items.{Item, Row, OfState, Waits, Becomes, Either, now, put_off, row, row_at, row_of_connective, row_of_pairing}
 use Rattle.ml_blocks.specs.Items.{row_of_tense, unless_put_off, until_released, left_number, behind_next, operand_of}
 use Rattle.ml_blocks.specs.ItemSets.{due, eventualities, next_items, next_of, put_all, without}
@@ -39,7 +35,7 @@ use Rattle.ml_text.proofs.Names.{kind_parts}
 use Rattle.ml_blocks.proofs.ItemSetMembers.{next_items-member, put_all-member, without-member}
 use Rattle.ml_blocks.proofs.LocalRuns.{some_open}
 use Rattle.ml_nodes.proofs.HeldClosures.{IsNamedForm, held}
-use Rattle.ml_nodes.proofs.HeldNames.{Every, Fits, IsHeld, every_cons, kind_named}
+use Rattle.ml_nodes.proofs.HeldNames.{Every, IsHeld, every_cons, kind_named}
 
 -- ---- formulas
 
@@ -202,11 +198,11 @@ module _ (b : Block) (named : NamedItems b.items) where
           by_part (inl i) = all y i
           by_part (inr i) = without_named x y i
 
-  both_named : (sign : Bool) (p q : Place) → NamedPlace p → NamedPlace q → NamedForm (place.both_ways sign p q)
+  both_named : (sign : Bool) (p q : Place) → NamedPlace p → NamedPlace q → NamedForm (place.all_of sign p q)
   both_named true p q x y = (x, y)
   both_named false p q x y = (x, y)
 
-  one_named : (sign : Bool) (p q : Place) → NamedPlace p → NamedPlace q → NamedForm (place.one_way sign p q)
+  one_named : (sign : Bool) (p q : Place) → NamedPlace p → NamedPlace q → NamedForm (place.one_of sign p q)
   one_named true p q x y = (x, y)
   one_named false p q x y = (x, y)
 

@@ -5,7 +5,7 @@
 --   follows_of        == the same of items now or put off
 --   next_of_of        == what an item asks of the next place comes of f too
 --   is_eventuality    == an eventuality that comes of f is in the list
-use Rattle.std.proofs.Common.{ℕ, ◌≡◌, ◌+◌, ◌⊎◌, inl, inr, true, false, Bool, not, List, ◌∷◌, ◌++◌, refl, sym, ap, subst, map, filter}
+use Rattle.std.proofs.Common.{ℕ, ◌≡◌, ◌+◌, ◌⊎◌, inl, inr, true, false, Bool, not, List, ◌∷◌, ◌++◌, refl, sym, subst, map, filter}
 use Rattle.ml_lists.specs.Member.{IsMember}
 use Rattle.ml_lists.proofs.Ascending.{member-ascending}
 use Rattle.ml_lists.proofs.Member.{member-append, member-append_left, member-append_right, member-map, member-filter}
@@ -17,7 +17,7 @@ use Rattle.ml_ctl.specs.declared.term.Pairing.TheVariants as pairing
 use Rattle.ml_blocks.specs.Items.{Item, Row, OfState, Waits, Becomes, Either, now, put_off, row, behind_next, is_least}
 use Rattle.ml_blocks.specs.ItemSets.{key, due, items_within, eventualities}
 use Rattle.ml_blocks.proofs.ItemsWithin.{IsOf}
-use Rattle.ml_blocks.proofs.RowsOfItems.{item}
+use Rattle.ml_blocks.proofs.RowsOfItems.{due_now}
 
 abbrev pub FollowsBy : Item → Item → Row → Type 0
 FollowsBy y x OfState = ⊥
@@ -253,10 +253,7 @@ module _ (x y : Item) (follows : Follows y x) where
 pub follows_of : (first x y : Item) → x.later ≡ false → IsOf first x → Follows y x → IsOf first y
 follows_of first x y is_now of follows =
     within_closed x y follows first.number first.formula first.positive
-    (subst (λ z. IsMember z (items_within first.number first.formula first.positive)) (due_is x is_now) of)
-  where
-    due_is : (x : Item) → x.later ≡ false → due x ≡ x
-    due_is x e = ap (item x.number x.formula x.positive) (sym e)
+    (subst (λ z. IsMember z (items_within first.number first.formula first.positive)) (due_now x is_now) of)
 
 pub is_eventuality : (first x : Item)
     → IsOf first x

@@ -7,8 +7,9 @@
 --   decomposed            == each that isn't an X does so
 --   Waiting               == what is left of a run: it is put off, or is an X
 --   run_of                == a run is made by choosing the ways one after the other
-use Rattle.std.proofs.Common.{◌≡◌, ◌⊎◌, inl, inr, true, false, Bool, not, ◌&&◌, List, [], ◌∷◌, Some, None, refl, sym, ap, subst, ◌∙◌, ⊎_elim}
-use Rattle.std.proofs.lemmas.Bool.{cases_Bool, cases_eq, cond-true, cond-false, and_parts, false≢true}
+use Rattle.std.proofs.Common.{◌≡◌, ◌⊎◌, inl, inr, true, false, not, ◌&&◌, List, [], ◌∷◌, Some, None, refl, sym, ap, subst, ◌∙◌, ⊎_elim}
+use Rattle.std.proofs.lemmas.Bool.{cases_Bool, cases_eq, cond-true, cond-false, and_parts, false≢true, not-true}
+use Rattle.std.proofs.lemmas.Option.{same_Some}
 use Rattle.ml_lists.specs.Member.{IsMember}
 use Rattle.ml_blocks.specs.Items.{Item, Row, OfState, Waits, Becomes, Either, row, behind_next}
 use Rattle.ml_blocks.specs.ItemSets.{key, due, next_of, put_all, without}
@@ -51,9 +52,6 @@ none_open (x ∷ xs) e v m = by_test (cases_Bool (is_open x)) (none_open xs) m
     by_test (inr fails) rest (inr later) =
         rest (sym (cond-false (is_open x) (Some x) (first_open xs) fails) ∙ e) v later
 
-some_same : {x y : Item} → Some x ≡ Some y → x ≡ y
-some_same e = cc
-
 pub some_open : (xs : List Item) (x : Item) → first_open xs ≡ Some x → IsMember x xs × (is_open x ≡ true)
 some_open [] x e = absurd (cc)
 some_open (y ∷ ys) x e = by_test (cases_Bool (is_open y)) (some_open ys x)
@@ -65,18 +63,14 @@ some_open (y ∷ ys) x e = by_test (cases_Bool (is_open y)) (some_open ys x)
         → (first_open ys ≡ Some x → IsMember x ys × (is_open x ≡ true))
         → IsMember x (y ∷ ys) × (is_open x ≡ true)
     by_test (inl passes) rest =
-        let same : x ≡ y = some_same (sym e ∙ cond-true (is_open y) (Some y) (first_open ys) passes) in
+        let same : x ≡ y = same_Some _ _ (sym e ∙ cond-true (is_open y) (Some y) (first_open ys) passes) in
         (inl same, ap is_open same ∙ passes)
     by_test (inr fails) rest = later (rest (sym (cond-false (is_open y) (Some y) (first_open ys) fails) ∙ e))
 
 pub open_now : (x : Item) → is_open x ≡ true → (x.later ≡ false) × (is_wait (row x) ≡ false)
 open_now x e =
     let both = and_parts (not x.later) (not (is_wait (row x))) e in
-    (not_true x.later both.0, not_true (is_wait (row x)) both.1)
-  where
-    not_true : (b : Bool) → not b ≡ true → b ≡ false
-    not_true true wrong = absurd (false≢true wrong)
-    not_true false e = refl
+    (not-true x.later both.0, not-true (is_wait (row x)) both.1)
 
 pub is_open_if : (x : Item) → x.later ≡ false → is_wait (row x) ≡ false → is_open x ≡ true
 is_open_if x now moves = ap (λ b. not b && not (is_wait (row x))) now ∙ ap (λ b. true && not b) moves

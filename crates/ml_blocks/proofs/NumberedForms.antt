@@ -16,7 +16,7 @@ use Rattle.ml_ctl.specs.declared.term.Quantifier.TheVariants as quantifier
 use Rattle.ml_blocks.specs.Items.{Item, now}
 use Rattle.ml_blocks.specs.ItemSets.{next_items, eventualities, put_all, without}
 use Rattle.ml_blocks.specs.Places as node
-use Rattle.ml_blocks.specs.Places.{Place, path_of, both_ways, one_way, focus_behind, edge_priority, form_of, priority_of, form_of_item}
+use Rattle.ml_blocks.specs.Places.{Place, path_of, all_of, one_of, focus_behind, edge_priority, form_of, priority_of, form_of_item}
 use Rattle.ml_blocks.specs.Places.{form_of_edge, form_of_block, priority_of_block, form_of_formula, form_of_connective}
 use Rattle.ml_blocks.specs.private.Asked.{now_at, put_few, others}
 use Rattle.ml_blocks.specs.private.Forms.{row_in, is_open_in, next_all, is_pending, focus_in, edge_priority_in, path_at, with_items, item_form, edge_form}
@@ -58,15 +58,15 @@ module _ (names : List (List ℕ)) (fs : List Formula) (start : Place) where
       ap (λ f. node.Path (record { first = f; positive = sign; items = items_of fs (x ∷ xs); focus = k })) (sym is_first)
       ∙ ap (λ s. node.Path (record { first = b.first; positive = s; items = items_of fs (x ∷ xs); focus = k })) (sym is_sign)
 
-  two_is : (sign : Bool) (l r : Spot) → seen (form.Two sign l r) ≡ both_ways sign (here l) (here r)
+  two_is : (sign : Bool) (l r : Spot) → seen (form.Two sign l r) ≡ all_of sign (here l) (here r)
   two_is true l r = refl
   two_is false l r = refl
 
-  other_is : (sign : Bool) (l r : Spot) → seen (form.Two (not sign) l r) ≡ one_way sign (here l) (here r)
+  other_is : (sign : Bool) (l r : Spot) → seen (form.Two (not sign) l r) ≡ one_of sign (here l) (here r)
   other_is true l r = refl
   other_is false l r = refl
 
-  twice_is : (sign : Bool) (s : Spot) → seen (form.Twice sign s) ≡ both_ways sign (here s) (here s)
+  twice_is : (sign : Bool) (s : Spot) → seen (form.Twice sign s) ≡ all_of sign (here s) (here s)
   twice_is true s = refl
   twice_is false s = refl
 
@@ -87,14 +87,14 @@ module _ (names : List (List ℕ)) (fs : List Formula) (start : Place) where
   item_is b x row.OfState =
       let rest = without (item_of fs x) (items_of fs b.items) in
       two_is b.positive (spot.State part.Whole x.number (beq x.positive b.positive)) (with_items b (others x b.items))
-      ∙ ap (both_ways b.positive (node.Holding x.number (formula_at fs x.number) (beq x.positive b.positive)))
+      ∙ ap (all_of b.positive (node.Holding x.number (formula_at fs x.number) (beq x.positive b.positive)))
       (with_is b (others x b.items) rest (others_is fs x b.items))
   item_is b x row.Waits =
       ap (λ p. node.And p p) (with_is b b.items (items_of fs b.items) refl)
   item_is b x (row.Becomes ys) =
       let rest = others x b.items in
       twice_is b.positive (with_items b (put_few ys rest))
-      ∙ ap (λ p. both_ways b.positive p p)
+      ∙ ap (λ p. all_of b.positive p p)
       (with_is b (put_few ys rest) (put_all (few_of fs ys) (without (item_of fs x) (items_of fs b.items)))
       (put_few_is fs ys rest ∙ ap (put_all (few_of fs ys)) (others_is fs x b.items)))
   item_is b x (row.Either ys zs) =
@@ -103,10 +103,10 @@ module _ (names : List (List ℕ)) (fs : List Formula) (start : Place) where
       let right = with_items b (put_few zs rest) in
       let gone = without (item_of fs x) (items_of fs b.items) in
       other_is b.positive left right
-      ∙ ap (λ p. one_way b.positive p (here right))
+      ∙ ap (λ p. one_of b.positive p (here right))
       (with_is b (put_few ys rest) (put_all (few_of fs ys) gone)
       (put_few_is fs ys rest ∙ ap (put_all (few_of fs ys)) (others_is fs x b.items)))
-      ∙ ap (one_way b.positive (path_of (block_view fs b) (put_all (few_of fs ys) gone) b.focus))
+      ∙ ap (one_of b.positive (path_of (block_view fs b) (put_all (few_of fs ys) gone) b.focus))
       (with_is b (put_few zs rest) (put_all (few_of fs zs) gone)
       (put_few_is fs zs rest ∙ ap (put_all (few_of fs zs)) (others_is fs x b.items)))
 

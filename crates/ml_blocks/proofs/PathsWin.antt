@@ -41,8 +41,8 @@ use Rattle.ml_blocks.proofs.ItemsWithin.{IsOf, within_stands, same_key}
 use Rattle.ml_blocks.proofs.LocalRuns.{Takes, LocalRun, Of, left_of, left_settled, some_open, open_now, none_open, waiting, next_of_of, taken_of}
 use Rattle.ml_blocks.proofs.PlaceVertices.{Board, Known, Branches, Edges, at, game, player_of, Goes, vertex_is, edges, own_branch}
 use Rattle.ml_blocks.proofs.PlaceVertices.{other_left, other_right, other_edge, priority_at_place, move_walk, way_walk}
-use Rattle.ml_blocks.proofs.RowShapes.{Part, ways_parts, next_now, next_later, next_waits}
-use Rattle.ml_blocks.proofs.RowsOfItems.{rows_say_the_same}
+use Rattle.ml_blocks.proofs.RowShapes.{Part, ways_parts, next_later, next_waits, next_items_now}
+use Rattle.ml_blocks.proofs.RowsOfItems.{rows_say_the_same, due_now}
 use Rattle.ml_blocks.proofs.SaidItems.{Says, ways_say, decided_of, decided_say, later_origin, PutOffBy, path_step, path_states}
 
 -- nothing decides for the opponent where a state item holds
@@ -117,7 +117,7 @@ focus_is_least first x k of low is =
     let image = member-map_from key (get_or (eventualities first) k 0) (filter is_least all) there in
     let kept = member-filter_from is_least image.from all image.member in
     let now = (within_stands first.number first.formula first.positive image.from kept.0).is_now in
-    let due_is : due image.from ≡ image.from = block.due_now image.from now in
+    let due_is : due image.from ≡ image.from = due_now image.from now in
     let of_y : IsOf first image.from = subst (λ z. IsMember z all) (sym due_is) kept.0 in
     let same : due x ≡ image.from = same_key first (due x) image.from of of_y (is ∙ image.holds) in
     subst (λ z. is_least z ≡ true) (sym same) kept.1
@@ -379,11 +379,8 @@ module _ (B : Board) (first : Item) (b : Bool) (l : Lasso) (is_path : IsPath B.m
       left_of_first : Of first r.left
       left_of_first = left_of first (Good x.p x.place) x.xs r.left x.of r.run
 
-      closed : (y : Item) → IsMember y r.left → is_open y ≡ false
-      closed y i = none_open r.left shut y i
-
       next_of_all : (y : Item) → IsMember y r.left → IsOf first (next_of y)
-      next_of_all y i = next_of_of first y (left_of_first y i) (closed y i)
+      next_of_all y i = next_of_of first y (left_of_first y i) (none_open r.left shut y i)
 
       step_on : has_step B.m (entry l x.p) (entry l (next_place l x.p)) ≡ true
       step_on = path_step B.m l is_path x.p x.place
@@ -405,13 +402,8 @@ module _ (B : Board) (first : Item) (b : Bool) (l : Lasso) (is_path : IsPath B.m
           next_asks v i =
               let found = next_items-member v r.left i in
               subst (λ z. Asks B.m l z (next_place l x.p)) (sym found.2)
-              (asks_next x.p x.place found.0 (left_of_first found.0 found.1) (closed found.0 found.1)
+              (asks_next x.p x.place found.0 (left_of_first found.0 found.1) (none_open r.left shut found.0 found.1)
               ((r.inv).says found.0 found.1))
-
-          next_is_now : (v : Item) → IsMember v (next_items r.left) → v.later ≡ false
-          next_is_now v i =
-              let found = next_items-member v r.left i in
-              ap (λ z. z.later) found.2 ∙ next_now found.0 (closed found.0 found.1)
 
           made : Edges B (opponent foe) (entry l x.p) (r.to).number (path first b (next_items r.left) k2) → BigStep x
           made c =
@@ -426,7 +418,7 @@ module _ (B : Board) (first : Item) (b : Bool) (l : Lasso) (is_path : IsPath B.m
                   k = k2;
                   a = c.to;
                   of = next_items-all_of (IsOf first) (same_key first) r.left next_of_all;
-                  all_now = next_is_now;
+                  all_now = next_items_now r.left (none_open r.left shut);
                   asks = next_asks;
                   from = won_behind (game B) foe choice (at B (entry l x.p) (r.to).number) _ goes (r.inv).from;
                   low = focus_low (eventualities first) x.k r.left x.low;
@@ -525,7 +517,7 @@ module _ (B : Board) (first : Item) (b : Bool) (l : Lasso) (is_path : IsPath B.m
           by_part (inl now) = false≢true (sym now.0 ∙ o.later)
           by_part (inr e) =
               let same : q.by ≡ v =
-              sym (block.due_now q.by q.is_now) ∙ sym (ap due e) ∙ in_focus_still x t v member in_focus o in
+              sym (due_now q.by q.is_now) ∙ sym (ap due e) ∙ in_focus_still x t v member in_focus o in
               let first_way : q.ways ≡ w.first =
               (q.good).rule w.first w.second (ap row same ∙ w.is_row)
               (subst (λ z. AllSay B.m l (Asks B.m l z) w.first x.p) (sym same) there) in

@@ -29,10 +29,10 @@ use Rattle.ml_parity.proofs.Opponents.{no_own_opponent}
 use Rattle.ml_graph.specs.Graph.{Graph, IsGraph, size, node_at}
 use Rattle.ml_graph.specs.CheckingGame.{Vertex, Pair, owner_at, mover, vertex_number, successors, successors_of, pairs_or_sink, targets, checking_game}
 use Rattle.ml_graph.proofs.CheckingGame.{IsVertex, owner_is, priority_is, moves_are}
-use Rattle.ml_graph.proofs.OneStep.{vertex_low}
+use Rattle.ml_graph.proofs.OneStep.{vertex_low, pair_member}
 use Rattle.ml_ctl.specs.Paths.{IsTotal, has_step}
 use Rattle.ml_blocks.specs.BlockGraph.{IsNumberedBy, HasForm}
-use Rattle.ml_blocks.specs.Places.{Place, Form, And, Or, Diamond, Square, form_of, priority_of, both_ways, one_way}
+use Rattle.ml_blocks.specs.Places.{Place, Form, And, Or, Diamond, Square, form_of, priority_of, all_of, one_of}
 
 pub record Board : Type 0 where
   pub g : Graph
@@ -126,13 +126,13 @@ module _ (B : Board) where
       }
 
   pub both : {p : Place} (b : Bool) (l r : Place) (s : ℕ) (a : Known B p)
-      → form_of p ≡ both_ways b l r
+      → form_of p ≡ all_of b l r
       → Branches B (opponent (player_of b)) s a.number l r
   both true l r s a e = and_node l r s a e
   both false l r s a e = or_node l r s a e
 
   pub one : {p : Place} (b : Bool) (l r : Place) (s : ℕ) (a : Known B p)
-      → form_of p ≡ one_way b l r
+      → form_of p ≡ one_of b l r
       → Branches B (player_of b) s a.number l r
   one true l r s a e = or_node l r s a e
   one false l r s a e = and_node l r s a e
@@ -186,10 +186,6 @@ module _ (m : Structure) (s t : ℕ) where
       subst (λ u. IsMember u (targets m s (codes "_"))) (eqb-true (found.item).target t parts.1) member
 
 -- ---- moves that follow a strategy
-
-pair_member : (q p : ℕ) (ts : List ℕ) (t : ℕ) → IsMember t ts → IsMember (Pair t q) (pairs_or_sink q p ts)
-pair_member q p [] t none = absurd none
-pair_member q p (u ∷ us) t m = member-map (λ v. Pair v q) t (u ∷ us) m
 
 member_pair : (q p : ℕ) (ts : List ℕ) (t : ℕ) (w : Vertex)
     → IsMember t ts
@@ -277,7 +273,7 @@ module _ (B : Board) (p : Player) (choice : ℕ → ℕ) (is_strategy : IsStrate
     other_edge q c t some =
         other_move (Pair s n) is c.owner (Pair t (c.to).number)
         (subst (IsMember (Pair t (c.to).number)) (sym c.leads)
-        (pair_member (c.to).number c.stuck (targets B.m s (codes "_")) t (step_target B.m s t some)))
+        (pair_member (c.to).number c.stuck t (targets B.m s (codes "_")) (step_target B.m s t some)))
 
   -- ---- ways
 

@@ -3,6 +3,7 @@
 --   ways_later     == an item of a way of the row of x is a now-item, or x put off
 --   behind_now     == what a waiting item asks of the next place is a now-item
 --   next_now       == the same of all items that are left of a run
+--   next_items_now == what is asked of the next place, where no item is open, is asked there as it stands
 --   ways_smaller   == a now-item of a way has a smaller formula, and so has what an X asks
 use Rattle.std.proofs.Common.{ℕ, ◌≡◌, ◌+◌, ◌<◌, ◌⊎◌, inl, inr, arith, true, false, Bool, not, List, [], ◌∷◌, refl, sym, ap, subst, ◌∙◌}
 use Rattle.std.proofs.lemmas.Bool.{cond-true, cond-false}
@@ -13,10 +14,11 @@ use Rattle.ml_ctl.specs.Formula.{Formula, occurrences}
 use Rattle.ml_ctl.specs.declared.term.Tense.TheVariants as tense
 use Rattle.ml_ctl.specs.declared.term.Pairing.TheVariants as pairing
 use Rattle.ml_blocks.specs.Items.{Item, Waits, row, now, put_off, behind_next}
-use Rattle.ml_blocks.specs.ItemSets.{due, next_of}
+use Rattle.ml_blocks.specs.ItemSets.{due, next_of, next_items}
 use Rattle.ml_blocks.proofs.LocalRuns.{Takes, waiting}
 use Rattle.ml_blocks.specs.Places.{is_open}
 use Rattle.ml_blocks.proofs.RowsOfItems.{item}
+use Rattle.ml_blocks.proofs.ItemSetMembers.{next_items-member}
 
 -- y is a now-item of a smaller formula than f, or x put off
 abbrev pub Part : Formula → Item → Item → Type 0
@@ -190,3 +192,10 @@ next_now x shut = from (waiting x shut)
     from (inl later) = ap (λ y. y.later) (next_later x later)
     from (inr (now, waits)) =
         ap (λ y. y.later) (next_waits x now) ∙ (behind_parts x.number x.formula x.positive x.later waits).0
+
+-- what is asked of the next place, where no item is open, is asked there as it stands
+pub next_items_now : (xs : List Item)
+    → ((x : Item) → IsMember x xs → is_open x ≡ false)
+    → (v : Item) → IsMember v (next_items xs) → v.later ≡ false
+next_items_now xs shut v m =
+    let found = next_items-member v xs m in ap (λ z. z.later) found.2 ∙ next_now found.0 (shut found.0 found.1)

@@ -3,8 +3,9 @@
 --   start_of least     == what iterates begin with: nowhere for eventualities, everywhere for others
 --   meant              == of each item: it is a fixed point of its row, and the iterate
 --   rows_say_the_same, eventualities_are_least, others_are_greatest == the laws
-use Rattle.std.proofs.Common.{ℕ, ◌<◌, ◌↔◌, ◌⊎◌, Bool, true, false, inl, subst}
+use Rattle.std.proofs.Common.{ℕ, ◌<◌, ◌↔◌, ◌⊎◌, Bool, true, false, inl, subst, ◌≡◌, sym, ap}
 use Rattle.ml_lists.specs.Lasso.{Lasso, next_place}
+use Rattle.ml_lists.proofs.Decided.{decided_either}
 use Rattle.ml_text.specs.declared.token.Operator.{Operator}
 use Rattle.ml_text.specs.declared.token.Operator.TheVariants as operator
 use Rattle.ml_base.specs.Structure.{Structure}
@@ -20,9 +21,10 @@ use Rattle.ml_ctl.proofs.Negations.{not_until, until_not, not_release, release_n
 use Rattle.ml_ctl.proofs.StepByStep.{closed}
 use Rattle.ml_blocks.specs.Items.{Item, is_eventual}
 use Rattle.ml_blocks.specs.Laws.{Asks, RowSays, QuantifiersAreDecided, RowsSayTheSame, EventualitiesAreLeast, OthersAreGreatest}
-use Rattle.ml_blocks.proofs.DecidedTruth.{truth_is_decided, decided_either}
+use Rattle.ml_blocks.proofs.DecidedTruth.{truth_is_decided}
 use Rattle.ml_blocks.proofs.RowConnectives as row
 use Rattle.ml_blocks.proofs.SteadySteps.{IsIterated, itself, iterated, iterated_at_once}
+use Rattle.ml_blocks.specs.ItemSets.{due}
 
 abbrev pub start_of : Bool → Property
 start_of true = Nowhere
@@ -30,6 +32,10 @@ start_of false = Everywhere
 
 abbrev pub item : ℕ → Formula → Bool → Bool → Item
 item i f b t = record { number = i; formula = f; positive = b; later = t }
+
+-- what isn't put off is due as it stands
+pub due_now : (x : Item) → x.later ≡ false → due x ≡ x
+due_now x e = ap (item x.number x.formula x.positive) (sym e)
 
 module _ (m : Structure) (l : Lasso) (starts : l.start < places l) where
   abbrev next : ℕ → ℕ

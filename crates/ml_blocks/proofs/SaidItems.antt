@@ -14,6 +14,8 @@ use Rattle.ml_lists.specs.Lasso.{Lasso, entry, next_place}
 use Rattle.ml_lists.specs.Member.{IsMember}
 use Rattle.ml_lists.proofs.Member.{list_any-member, All-member}
 use Rattle.ml_lists.proofs.Unrolling.{next_step}
+use Rattle.ml_lists.proofs.Decided.{decided_both}
+use Rattle.ml_lists.proofs.Deciding.{decided_not}
 use Rattle.ml_base.specs.Structure.{Structure, IsStructure}
 use Rattle.ml_base.specs.declared.structure.Edge.{Edge}
 use Rattle.ml_text.specs.Operators.{weight}
@@ -26,7 +28,7 @@ use Rattle.ml_ctl.proofs.StepByStep.{next_is_place}
 use Rattle.ml_blocks.specs.Items.{Item, row}
 use Rattle.ml_blocks.specs.ItemSets.{put_all, without}
 use Rattle.ml_blocks.specs.Laws.{Asks, AllSay, by_time, signed, QuantifiersAreDecided}
-use Rattle.ml_blocks.proofs.DecidedTruth.{truth_is_decided, decided_not, decided_both}
+use Rattle.ml_blocks.proofs.DecidedTruth.{truth_is_decided}
 use Rattle.ml_blocks.proofs.ItemSetMembers.{put_all-member, without-member}
 use Rattle.ml_blocks.proofs.ItemsWithin.{IsOf, StandsAt, here, under_not, under_tense, at_left, at_right, before, behind, within_stands}
 use Rattle.ml_blocks.proofs.LocalRuns.{Takes, LocalRun, settled, taken, Of, after_of, some_open, open_now}

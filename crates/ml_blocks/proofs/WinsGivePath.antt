@@ -29,7 +29,7 @@ use Rattle.ml_blocks.specs.Items.{Item, Row, OfState, Waits, Becomes, Either, ro
 use Rattle.ml_blocks.specs.ItemSets.{key, due, next_of, next_items, eventualities}
 use Rattle.ml_blocks.specs.Laws.{Asks, AllSay, SaysBy, RowSays, by_time, signed, QuantifiersAreDecided}
 use Rattle.ml_blocks.specs.Places.{is_open, focus_behind}
-use Rattle.ml_blocks.proofs.BlockSteps.{due_now, off}
+use Rattle.ml_blocks.proofs.BlockSteps.{off}
 use Rattle.ml_blocks.proofs.BlockWalks.{AllWon, Entry, BigStep, Good, Same, advance, entry_at, vertex, priority, same_vertex, twice, Walk}
 use Rattle.ml_blocks.proofs.ComingTrue.{TwoWays, two_ways}
 use Rattle.ml_blocks.proofs.FocusRanks.{rank, Fell, rank_falls}
@@ -39,7 +39,7 @@ use Rattle.ml_blocks.proofs.ItemsWithin.{IsOf, same_key}
 use Rattle.ml_blocks.proofs.LocalRuns.{Takes, Seen, Of, left_of, none_open, next_of_of, waiting, seen_first, seen_waits, seen_of, Decomposed, decomposed}
 use Rattle.ml_blocks.proofs.PlaceVertices.{Board, game, player_of}
 use Rattle.ml_blocks.proofs.RowShapes.{Part, ways_parts, behind_parts, next_waits}
-use Rattle.ml_blocks.proofs.RowsOfItems.{rows_say_the_same, others_are_greatest}
+use Rattle.ml_blocks.proofs.RowsOfItems.{rows_say_the_same, others_are_greatest, due_now}
 use Rattle.ml_blocks.proofs.SaidItems.{all_say, decided_of}
 
 off_worst : (b : Bool) → side (1 + off b) ≡ opponent (player_of b)

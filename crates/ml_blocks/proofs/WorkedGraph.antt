@@ -9,6 +9,7 @@
 --   holds_at_turn        == so by the law the graph holds at 0
 use Rattle.std.proofs.Common.{ℕ, zero, suc, ◌≡◌, ◌+◌, ◌<◌, ◌==◌, inl, inr, true, false, if◌then◌else◌, List, [], ◌∷◌, Option, Some, None, codes, refl, sym, ap, subst, ⊎_elim, arith, get_or}
 use Rattle.std.specs.List.{IsDistinct, slice_get, range_with_len}
+use Rattle.std.proofs.lemmas.Option.{same_Some}
 use Rattle.ml_lists.specs.Lasso.{Lasso}
 use Rattle.ml_lists.specs.Member.{IsMember}
 use Rattle.ml_lists.proofs.Member.{member-All}
@@ -202,22 +203,19 @@ is_closure = record {
 
 -- ---- forms
 
-some_same : {x y : Place} → Some x ≡ Some y → x ≡ y
-some_same e = cc
-
 abbrev Fits : ℕ → Place → Type 0
 Fits n q = HasForm worked_graph places (node_at worked_graph n) (form_of q) × (priority_at worked_graph n ≡ priority_of q)
 
 fits : (n : ℕ) (q : Place) → slice_get places n ≡ Some q → Fits n q
-fits zero q e = subst (Fits 0) (some_same e) ((1, 2, refl, refl, refl), refl)
-fits (suc zero) q e = subst (Fits 1) (some_same e) ((3, 4, refl, refl, refl), refl)
-fits (suc (suc zero)) q e = subst (Fits 2) (some_same e) ((5, 6, refl, refl, refl), refl)
-fits (suc (suc (suc zero))) q e = subst (Fits 3) (some_same e) ((7, 8, refl, refl, refl), refl)
-fits (suc (suc (suc (suc zero)))) q e = subst (Fits 4) (some_same e) ((0, 1, refl, refl, refl), refl)
-fits (suc (suc (suc (suc (suc zero))))) q e = subst (Fits 5) (some_same e) ((0, 8, refl, refl, refl), refl)
-fits (suc (suc (suc (suc (suc (suc zero)))))) q e = subst (Fits 6) (some_same e) ((0, 2, refl, refl, refl), refl)
-fits (suc (suc (suc (suc (suc (suc (suc zero))))))) q e = subst (Fits 7) (some_same e) ((0, refl, refl), refl)
-fits (suc (suc (suc (suc (suc (suc (suc (suc zero)))))))) q e = subst (Fits 8) (some_same e) (refl, refl)
+fits zero q e = subst (Fits 0) (same_Some _ _ e) ((1, 2, refl, refl, refl), refl)
+fits (suc zero) q e = subst (Fits 1) (same_Some _ _ e) ((3, 4, refl, refl, refl), refl)
+fits (suc (suc zero)) q e = subst (Fits 2) (same_Some _ _ e) ((5, 6, refl, refl, refl), refl)
+fits (suc (suc (suc zero))) q e = subst (Fits 3) (same_Some _ _ e) ((7, 8, refl, refl, refl), refl)
+fits (suc (suc (suc (suc zero)))) q e = subst (Fits 4) (same_Some _ _ e) ((0, 1, refl, refl, refl), refl)
+fits (suc (suc (suc (suc (suc zero))))) q e = subst (Fits 5) (same_Some _ _ e) ((0, 8, refl, refl, refl), refl)
+fits (suc (suc (suc (suc (suc (suc zero)))))) q e = subst (Fits 6) (same_Some _ _ e) ((0, 2, refl, refl, refl), refl)
+fits (suc (suc (suc (suc (suc (suc (suc zero))))))) q e = subst (Fits 7) (same_Some _ _ e) ((0, refl, refl), refl)
+fits (suc (suc (suc (suc (suc (suc (suc (suc zero)))))))) q e = subst (Fits 8) (same_Some _ _ e) (refl, refl)
 fits (suc (suc (suc (suc (suc (suc (suc (suc (suc n))))))))) q e = absurd (cc)
 
 abbrev rows : List (List ℕ)

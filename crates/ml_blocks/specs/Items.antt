@@ -22,6 +22,7 @@ use Rattle.ml_ctl.specs.declared.term.Tense.{Tense}
 use Rattle.ml_ctl.specs.declared.term.Tense.TheVariants.{Next, Finally, Globally}
 use Rattle.ml_ctl.specs.declared.term.Pairing.{Pairing}
 use Rattle.ml_ctl.specs.declared.term.Pairing.TheVariants.{Until, Release, Weak}
+pub use Rattle.ml_ctl.specs.Eventualities.{is_eventual}
 
 pub record Item : Type 0 where
   pub number : ℕ
@@ -101,14 +102,6 @@ operand_of x _ = x
 abbrev pub behind_next : Item → Item
 behind_next x = operand_of x x.formula
 
--- what a formula asks that is to be true, or false, is an eventuality
-abbrev pub is_eventual : Formula → Bool → Bool
-is_eventual (Paired Until f g) b = b
-is_eventual (Paired Weak f g) b = not b
-is_eventual (Paired Release f g) b = not b
-is_eventual (Temporal Finally f) b = b
-is_eventual (Temporal Globally f) b = not b
-is_eventual f b = false
-
+-- what it asks has to come about
 abbrev pub is_least : Item → Bool
 is_least x = is_eventual x.formula x.positive

@@ -23,9 +23,7 @@ use Rattle.std.specs.Prelude.{ℕ, ◌+◌, ◌%◌, ◌==◌, ◌&&◌, Bool, t
 use Rattle.std.specs.Bool.{beq}
 use Rattle.std.specs.List.{list_any}
 use Rattle.ml_nodes.specs.ClosureGraph as closure
-pub use Rattle.ml_nodes.specs.ClosureGraph.{Constant, Literal, And, Or, Diamond, Square}
-use Rattle.ml_text.specs.declared.token.Operator.{Operator}
-use Rattle.ml_text.specs.declared.token.Operator.TheVariants as operator
+pub use Rattle.ml_nodes.specs.ClosureGraph.{Constant, Literal, And, Or, Diamond, Square, all_of, one_of, form_of_connective}
 use Rattle.ml_ctl.specs.Formula.{Formula, Const, Prop, Not, Binary, Temporal, Paired, Quantified, occurrences}
 use Rattle.ml_ctl.specs.declared.term.Quantifier.{Quantifier}
 use Rattle.ml_ctl.specs.declared.term.Quantifier.TheVariants.{Exists, Forall}
@@ -73,14 +71,6 @@ is_wait _ = false
 abbrev pub is_open : Item → Bool
 is_open x = not x.later && not (is_wait (row x))
 
-abbrev pub both_ways : Bool → Place → Place → Form
-both_ways true l r = And l r
-both_ways false l r = Or l r
-
-abbrev pub one_way : Bool → Place → Place → Form
-one_way true l r = Or l r
-one_way false l r = And l r
-
 -- is the eventuality in focus put off?
 abbrev pub is_put_off : List ℕ → ℕ → List Item → Bool
 is_put_off members k xs = list_any (λ x. x.later && (key (due x) == get_or members k 0)) xs
@@ -96,12 +86,12 @@ edge_priority (e ∷ es) k xs = if is_put_off (e ∷ es) k xs then 1 else 0
 
 abbrev pub form_of_item : Block → Item → Row → Form
 form_of_item b x OfState =
-    both_ways b.positive (Holding x.number x.formula (beq x.positive b.positive)) (path_of b (without x b.items) b.focus)
+    all_of b.positive (Holding x.number x.formula (beq x.positive b.positive)) (path_of b (without x b.items) b.focus)
 form_of_item b x Waits = leads_to (path_of b b.items b.focus)
 form_of_item b x (Becomes ys) =
-    both_ways b.positive (path_of b (put_all ys (without x b.items)) b.focus) (path_of b (put_all ys (without x b.items)) b.focus)
+    all_of b.positive (path_of b (put_all ys (without x b.items)) b.focus) (path_of b (put_all ys (without x b.items)) b.focus)
 form_of_item b x (Either ys zs) =
-    one_way b.positive (path_of b (put_all ys (without x b.items)) b.focus) (path_of b (put_all zs (without x b.items)) b.focus)
+    one_of b.positive (path_of b (put_all ys (without x b.items)) b.focus) (path_of b (put_all zs (without x b.items)) b.focus)
 
 abbrev pub form_of_edge : Block → Form
 form_of_edge b =
@@ -128,15 +118,6 @@ block_of first positive = Path (record { first = first; positive = positive; ite
 abbrev pub form_of_quantifier : Quantifier → ℕ → Formula → Bool → Form
 form_of_quantifier Exists i f positive = leads_to (block_of (now (i + 1) f true) positive)
 form_of_quantifier Forall i f positive = leads_to (block_of (now (i + 1) f false) (not positive))
-
-abbrev pub form_of_connective : Operator → Bool → (l r : Bool → Place) → (both neither : Bool → Place) → Form
-form_of_connective operator.And true l r both neither = And (l true) (r true)
-form_of_connective operator.And false l r both neither = Or (l false) (r false)
-form_of_connective operator.Or true l r both neither = Or (l true) (r true)
-form_of_connective operator.Or false l r both neither = And (l false) (r false)
-form_of_connective operator.Implies true l r both neither = Or (l false) (r true)
-form_of_connective operator.Implies false l r both neither = And (l true) (r false)
-form_of_connective operator.Iff sign l r both neither = Or (both sign) (neither sign)
 
 abbrev pub form_of_formula : ℕ → Formula → Bool → Form
 form_of_formula i (Const b) sign = Constant (beq b sign)

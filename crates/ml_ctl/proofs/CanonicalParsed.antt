@@ -10,7 +10,7 @@ use Rattle.ml_text.specs.Signs.{bracket_of}
 use Rattle.ml_text.proofs.AcceptedTexts.{accepted}
 use Rattle.ml_ctl.specs.Canonical.{canonical_text}
 use Rattle.ml_ctl.specs.Grammar.{IsReadAs}
-use Rattle.ml_ctl.specs.Parsing.{CanonicalIsParsed, CanonicalStandsForOne}
+use Rattle.ml_ctl.specs.ParsingLaws.{CanonicalIsParsed, CanonicalStandsForOne}
 use Rattle.ml_ctl.specs.Signs.{own}
 use Rattle.ml_ctl.specs.Text.{ctl_signs, items}
 use Rattle.ml_ctl.proofs.CanonicalLimits.{few_open, tokens_short}

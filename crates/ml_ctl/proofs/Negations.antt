@@ -5,6 +5,7 @@
 --   negations_of_..             == the laws
 use Rattle.std.proofs.Common.{ℕ, zero, suc, ◌<◌, ◌⊎◌, inl, inr, ⊎_elim}
 use Rattle.ml_lists.specs.Lasso.{next_place}
+use Rattle.ml_lists.proofs.Decided.{decided_either}
 use Rattle.ml_ctl.specs.Formula.{Quantified}
 use Rattle.ml_ctl.specs.declared.term.Quantifier.TheVariants.{Exists}
 use Rattle.ml_ctl.specs.Laws.{IsDecided, NegationsOfNext, NegationsOfUntil, NegationsOfRelease, NegationsOfWeak, NegationsOfFinally, NegationsOfGlobally, AllAreNotSome, SomeAreNotAll}
@@ -76,12 +77,6 @@ negations_of_release m l f g decided i place = (
   release_not (next_place l) (places l) (closed l place.0) (TruthAt m l f) (TruthAt m l g) (places l) i,
 )
 
--- one of two propositions is decided where both are
-one_of_two : {P Q : Type 0} → IsDecided P → IsDecided Q → IsDecided (P ⊎ Q)
-one_of_two (inl p) q = inl (inl p)
-one_of_two (inr not_p) (inl q) = inl (inr q)
-one_of_two (inr not_p) (inr not_q) = inr (⊎_elim not_p not_q)
-
 pub negations_of_weak : NegationsOfWeak
 negations_of_weak m l f g decided_f decided_g i place = ((λ none. apart (not_weak none)), (λ u. weak_not (together u)))
   where
@@ -101,7 +96,7 @@ negations_of_weak m l f g decided_f decided_g i place = ((λ none. apart (not_we
         → untils (next_place l) (λ x. G x → ⊥) Neither (places l) i
     not_weak none =
         not_release (next_place l) (places l) (closed l place.0) G (λ x. F x ⊎ G x)
-        (λ x low. one_of_two (decided_f x (place.0, low)) (decided_g x (place.0, low))) (places l) i place.1 none
+        (λ x low. decided_either (decided_f x (place.0, low)) (decided_g x (place.0, low))) (places l) i place.1 none
 
     weak_not : untils (next_place l) (λ x. G x → ⊥) Neither (places l) i
         → releases (next_place l) G (λ x. F x ⊎ G x) (places l) i

@@ -18,7 +18,8 @@ use Rattle.ml_text.proofs.OneAnswer as answer
 use Rattle.ml_ctl.specs.Formula.{Formula}
 use Rattle.ml_ctl.specs.declared.language.Language.{Language}
 use Rattle.ml_ctl.specs.Grammar.{IsReadAs}
-use Rattle.ml_ctl.specs.Parsing.{IsParsedAs, IsRefusedBy, ParsedAreWellFormed}
+use Rattle.ml_ctl.specs.Parsing.{IsParsedAs, IsRefusedBy}
+use Rattle.ml_ctl.specs.ParsingLaws.{ParsedAreWellFormed}
 use Rattle.ml_ctl.specs.Text.{items}
 use Rattle.ml_ctl.specs.WellFormed.{IsWellFormed}
 use Rattle.ml_ctl.specs.private.Tables.{ctl_grammar}

@@ -6,6 +6,8 @@ pub mod Paths
 pub mod Meaning
 -- problems
 pub mod Problem
+-- what has to come about
+pub mod Eventualities
 -- what is true of meanings
 pub mod Laws
 -- the plain formula of a term
@@ -24,5 +26,7 @@ pub mod Text
 pub mod Canonical
 -- what is parsed, and what is refused
 pub mod Parsing
+-- laws of canonical texts and of what is parsed
+pub mod ParsingLaws
 -- what private contracts cite
 pub mod private

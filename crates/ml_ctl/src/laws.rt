@@ -3,7 +3,8 @@ ghost use Rattle.ml_text.specs.Answers.{HaveOneAnswer, IsUnambiguous};
 ghost use Rattle.ml_ctl.specs.declared.language.Language.{Language};
 ghost use Rattle.ml_ctl.specs.Laws.{AllAreNotSome, FollowsThePath, LooksAtTheState, PathsStart, ReadAhead, ReadStepByStep, SomeAreNotAll};
 ghost use Rattle.ml_ctl.specs.Laws.{NegationsOfFinally, NegationsOfGlobally, NegationsOfNext, NegationsOfRelease, NegationsOfUntil, NegationsOfWeak};
-ghost use Rattle.ml_ctl.specs.Parsing.{CanonicalIsParsed, CanonicalStandsForOne, IsParsedAs, IsRefusedBy, ParsedAreWellFormed};
+ghost use Rattle.ml_ctl.specs.Parsing.{IsParsedAs, IsRefusedBy};
+ghost use Rattle.ml_ctl.specs.ParsingLaws.{CanonicalIsParsed, CanonicalStandsForOne, ParsedAreWellFormed};
 ghost use Rattle.ml_ctl.specs.Text.{IsTextOf};
 
 /// A text stands for one formula at most, by the grammar alone.

@@ -10,7 +10,8 @@ use Rattle.ml_base.specs.declared.parse_refusal.ParseRefusal.{ParseRefusal}
 use Rattle.ml_base.specs.Structure.{Structure}
 use Rattle.ml_extract.specs.Extraction.{Extracted}
 use Rattle.ml_graph.specs.Graph.{Graph}
-use Rattle.ml_front.specs.Graphs.{HasLargeClosure, HoldsWhere, IsGraphOf}
+use Rattle.ml_front.specs.Graphs.{HasLargeClosure, IsGraphOf}
+use Rattle.ml_front.specs.Laws.{HoldsWhere}
 use Rattle.ml_front.specs.Logics.{IsRefusedBy}
 use Rattle.ml_front.specs.declared.problem.Problem.{Problem}
 use Rattle.ml_front.specs.declared.problem.TheConstants.{MOST_NODES}

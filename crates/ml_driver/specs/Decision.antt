@@ -23,7 +23,7 @@
 use Rattle.std.specs.Prelude.{ℕ, ◌≡◌, ◌<◌, ◌≤◌, ◌⊎◌, Bool, true, false, List, length, Some}
 use Rattle.ml_base.specs.Structure.{Structure}
 use Rattle.ml_base.specs.declared.parse_refusal.ParseRefusal.{ParseRefusal}
-use Rattle.ml_kripke.specs.Laws.{IsWritten}
+use Rattle.ml_kripke.specs.ModelText.{IsWritten}
 use Rattle.ml_kripke.specs.Ordered.{IsOrdered}
 use Rattle.ml_front.specs.Graphs.{HasLargeClosure, IsGraphOf}
 use Rattle.ml_front.specs.Logics.{logic_of, IsParsedAs, IsRefusedBy}

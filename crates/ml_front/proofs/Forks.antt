@@ -4,7 +4,7 @@
 --   elsewhere, only_there == where one does, s is a fork; where none does, a step leads to t alone
 --   one_step_or_fork == exactly one such edge leads from a state, or the state is a fork
 --   word_or_fork     == so it is from each state, or there is a first fork
-use Rattle.std.proofs.Common.{arith, ◌≡◌, ◌≢◌, ◌⊎◌, ◌==◌, ◌&&◌, ◌<◌, ℕ, Bool, true, false, not, bytes_eq, codes, inl, inr, refl, sym, ap, ◌∙◌, eqb-true}
+use Rattle.std.proofs.Common.{arith, ◌≡◌, ◌⊎◌, ◌==◌, ◌&&◌, ◌<◌, ℕ, Bool, true, false, not, bytes_eq, codes, inl, inr, refl, sym, ◌∙◌, eqb-true}
 use Rattle.std.specs.List.{list_any}
 use Rattle.std.proofs.lemmas.Bool.{and_from, and_parts, cases_eq, true≢false}
 use Rattle.std.proofs.lemmas.Bool.Decides.{Decides-eqb, nat_tests}

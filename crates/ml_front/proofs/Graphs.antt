@@ -33,8 +33,10 @@ use Rattle.ml_word_graph.proofs.Agreement as words
 use Rattle.ml_word_graph.proofs.ClosureGraphs as word_graphs
 use Rattle.ml_word_graph.proofs.Complement as complement
 use Rattle.ml_word_graph.proofs.Sizes as sizes
-use Rattle.ml_front.specs.Graphs.{GraphsAgree, HasLargeClosureAs, HoldsWhere, IsGraphAs, IsGraphOf, IsMeaningful}
-use Rattle.ml_front.specs.Logics.{IsWellFormed, logic_of}
+use Rattle.ml_front.specs.Graphs.{HasLargeClosureAs, IsGraphAs, IsGraphOf}
+use Rattle.ml_front.specs.WellFormed.{IsMeaningful, IsWellFormed}
+use Rattle.ml_front.specs.Laws.{GraphsAgree, HoldsWhere}
+use Rattle.ml_front.specs.Logics.{logic_of}
 use Rattle.ml_front.specs.Problems.{HoldsAs, HoldsAt, IsAdmitted, IsDeadlock, IsFirstDeadlock, IsFirstFork}
 use Rattle.ml_front.specs.declared.logic.Logic.{Logic}
 use Rattle.ml_front.specs.declared.logic.Logic.TheVariants as logic

@@ -14,7 +14,8 @@ use Rattle.ml_lines.specs.Reading.{lines_of, left_of, words_of, is_blank}
 use Rattle.ml_lines.proofs.LineFronts.{IsInLine, none_passes, line_front}
 use Rattle.ml_lines.proofs.WrittenLines.{line_read}
 use Rattle.ml_front.specs.Head.{version_word, title_line, answer_line, logic_line, sense_line, sense_word, lines_about}
-use Rattle.ml_front.specs.HeadRules.{IsHead, OneHead}
+use Rattle.ml_front.specs.HeadRules.{IsHead}
+use Rattle.ml_front.specs.Laws.{OneHead}
 use Rattle.ml_front.specs.declared.answer.Answer.{Answer}
 use Rattle.ml_front.specs.declared.answer.Answer.TheVariants.{Satisfiable, Unsatisfiable, Undecided}
 use Rattle.ml_front.specs.Logics.{logic_of, IsParsedAs}

@@ -6,7 +6,7 @@
 use Rattle.std.proofs.Common.{◌⊎◌, Bool, true, not, inl, inr}
 use Rattle.ml_graph.specs.Graph.{Graph}
 use Rattle.ml_front.specs.Graphs.{HasLargeClosureAs, IsGraphAs}
-use Rattle.ml_front.specs.Logics.{IsWellFormed}
+use Rattle.ml_front.specs.WellFormed.{IsWellFormed}
 use Rattle.ml_front.specs.declared.problem.AnyFormula.{AnyFormula}
 use Rattle.ml_front.specs.declared.problem.AnyFormula.TheVariants.{Mu, Pdl, Ctl, Ltl, Word}
 use Rattle.ml_front.specs.declared.problem.TheConstants.{MOST_NODES}

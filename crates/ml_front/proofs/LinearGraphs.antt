@@ -10,7 +10,7 @@ use Rattle.ml_graph.specs.CheckingGame.{Holds}
 use Rattle.ml_graph.specs.Graph.{Graph}
 use Rattle.ml_ltl.specs.Problem as ltl
 use Rattle.ml_word_graph.specs.Laws as word
-use Rattle.ml_front.specs.Graphs.{HoldsWhere}
+use Rattle.ml_front.specs.Laws.{HoldsWhere}
 use Rattle.ml_front.specs.Logics.{logic_of}
 use Rattle.ml_front.specs.Problems as problems
 use Rattle.ml_front.specs.Problems.{IsAdmitted}

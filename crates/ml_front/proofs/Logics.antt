@@ -31,7 +31,8 @@ use Rattle.ml_pdl.proofs.CanonicalParsed as pdl_canonical
 use Rattle.ml_pdl.proofs.OneAnswer as pdl_answer
 use Rattle.ml_pdl.proofs.Parsed as pdl_parsed
 use Rattle.ml_front.specs.HeadRules.{IsFormulaOf}
-use Rattle.ml_front.specs.Logics.{canonical_text, logic_of, logic_word, some_logic, IsParsedAs, IsRefusedBy, IsWellFormed}
+use Rattle.ml_front.specs.Logics.{canonical_text, logic_of, logic_word, some_logic, IsParsedAs, IsRefusedBy}
+use Rattle.ml_front.specs.WellFormed.{IsWellFormed}
 use Rattle.ml_front.specs.declared.logic.Logic.{Logic}
 use Rattle.ml_front.specs.declared.logic.Logic.TheVariants as logic
 use Rattle.ml_front.specs.declared.problem.AnyFormula.{AnyFormula}

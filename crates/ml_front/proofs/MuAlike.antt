@@ -32,9 +32,6 @@ module _ (g h : Graph) where
   modalities n Diamond name t p x y = same_diamond g h n x.0 y.0 t p name x.1 y.1 x.2 y.2
   modalities n Square name t p x y = same_box g h n x.0 y.0 t p name x.1 y.1 x.2 y.2
 
-  ands : (n l r p : ℕ) → IsNode g n (node.And l r) p → IsNode h n (node.And l r) p → P n
-  ands = same_and g h
-
   same_in : (k : ℕ) (bs : Around) (i : ℕ) (f : Formula) → StandsAt g k bs i f → StandsAt h k bs i f
       → Range P i (i + occurrences f)
   same_in k bs i (Const b) x y =
@@ -43,11 +40,11 @@ module _ (g h : Graph) where
       one_occurrence P i (literals (positive i) p true k x.0 y.0) (literals (negative i) p false k x.1 y.1)
   same_in k bs i (Var v) x y =
       let b = binder_of bs v in
-      one_occurrence P i (ands (positive i) (positive b) (positive b) k x.0 y.0)
-      (ands (negative i) (negative b) (negative b) k x.1 y.1)
+      one_occurrence P i (same_and g h (positive i) (positive b) (positive b) k x.0 y.0)
+      (same_and g h (negative i) (negative b) (negative b) k x.1 y.1)
   same_in k bs i (Not f) x y =
-      one_part P i (occurrences f) (ands (positive i) (negative (i + 1)) (negative (i + 1)) k x.0 y.0)
-      (ands (negative i) (positive (i + 1)) (positive (i + 1)) k x.1 y.1) (same_in k bs (i + 1) f x.2 y.2)
+      one_part P i (occurrences f) (same_and g h (positive i) (negative (i + 1)) (negative (i + 1)) k x.0 y.0)
+      (same_and g h (negative i) (positive (i + 1)) (positive (i + 1)) k x.1 y.1) (same_in k bs (i + 1) f x.2 y.2)
   same_in k bs i (Binary op f e) x y =
       let l = i + weight op in
       two_parts P i (weight op) (occurrences f) (occurrences e) (same_joined g h k op i l (l + occurrences f) x.0 y.0)
@@ -57,8 +54,8 @@ module _ (g h : Graph) where
       (modalities (negative i) (dual m) a (negative (i + 1)) k x.1 y.1) (same_in k bs (i + 1) f x.2 y.2)
   same_in k bs i (Binder q v f) x y =
       one_part P i (occurrences f)
-      (ands (positive i) (positive (i + 1)) (positive (i + 1)) (binder_priority q (length bs)) x.0 y.0)
-      (ands (negative i) (negative (i + 1)) (negative (i + 1)) (binder_priority (opposite q) (length bs)) x.1 y.1)
+      (same_and g h (positive i) (positive (i + 1)) (positive (i + 1)) (binder_priority q (length bs)) x.0 y.0)
+      (same_and g h (negative i) (negative (i + 1)) (negative (i + 1)) (binder_priority (opposite q) (length bs)) x.1 y.1)
       (same_in k ((v, i) ∷ bs) (i + 1) f x.2 y.2)
 
   pub alike : (f : Formula) (negated : Bool) → IsGraphOf g f negated → IsGraphOf h f negated → AreAlike g h

@@ -1,7 +1,7 @@
 -- The canonical text of a formula of the mu-calculus has no line end in it.
 --
 --   canonical_in_line  == where its names are spelled as they must be, it stands in one line
-use Rattle.std.proofs.Common.{◌≡◌, ℕ, Bool, true, false, List, [], cond, codes, bytes_eq, refl}
+use Rattle.std.proofs.Common.{◌≡◌, ℕ, true, false, List, codes, bytes_eq, refl}
 use Rattle.std.specs.Cmp.{first_so}
 use Rattle.std.proofs.lemmas.Bool.{and_parts}
 use Rattle.ml_lines.proofs.LineFronts.{IsInLine}
@@ -16,11 +16,7 @@ use Rattle.ml_mu.specs.declared.term.Modality.{Modality}
 use Rattle.ml_mu.specs.declared.term.Modality.TheVariants.{Diamond, Square}
 use Rattle.ml_mu.specs.Signs.{own}
 use Rattle.ml_mu.specs.Spelling.{is_action, is_proposition, is_spelled, is_variable}
-use Rattle.ml_front.proofs.WordLines.{action_in_line, between_in_line, both_in_line, proposition_in_line, seven_in_line, spelling_in_line, three_in_line, upper_in_line}
-
-unless_blank : (b : Bool) (text : List ℕ) → IsInLine text → IsInLine (cond b [] text)
-unless_blank true text is = refl
-unless_blank false text is = is
+use Rattle.ml_front.proofs.WordLines.{action_in_line, between_in_line, both_in_line, proposition_in_line, seven_in_line, spelling_in_line, three_in_line, upper_in_line, unless_blank}
 
 action_text_in_line : (a : List ℕ) → is_action a ≡ true → IsInLine (action_text a)
 action_text_in_line a is = unless_blank (bytes_eq a (codes "_")) a (action_in_line own a is)

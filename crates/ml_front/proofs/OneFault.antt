@@ -5,7 +5,7 @@
 --   head_or_fault   == never both
 --   one_fault       == a text has one first bad line at most
 --   head_rules_rise == the numbers of the rules of a line rise
-use Rattle.std.proofs.Common.{◌≡◌, ◌⊎◌, Bool, true, false, [], ◌∷◌, codes, inl, inr, sym, ap, ◌∙◌, ⊎_elim, get_or, arith}
+use Rattle.std.proofs.Common.{◌≡◌, Bool, true, false, [], ◌∷◌, codes, inl, inr, sym, ap, ◌∙◌, ⊎_elim, get_or, arith}
 use Rattle.ml_base.specs.declared.doc_fault.DocFault.{DocFault}
 use Rattle.ml_base.specs.declared.version.Version.{Version}
 use Rattle.ml_base.specs.declared.version.Version.TheVariants.{One, Two}
@@ -18,7 +18,8 @@ use Rattle.ml_lists.specs.Documents.{IsReadable, Judges}
 use Rattle.ml_lists.proofs.Decided.{Decided, decided_bytes, decided_same}
 use Rattle.ml_lists.proofs.Documents.{judged}
 use Rattle.ml_front.specs.Head.{title_line, answer_line, logic_line, sense_line}
-use Rattle.ml_front.specs.HeadRules.{AtTitle, AtAnswer, AtLogic, AtSense, AtFormula, Behind, IsFormulaLine, formula_bytes, rules, head, IsHeadFault, SomeHead, HeadOrFault, OneHeadFault, HeadRulesRise}
+use Rattle.ml_front.specs.HeadRules.{AtTitle, AtAnswer, AtLogic, AtSense, AtFormula, Behind, IsFormulaLine, formula_bytes, rules, head, IsHeadFault}
+use Rattle.ml_front.specs.Laws.{SomeHead, HeadOrFault, OneHeadFault, HeadRulesRise}
 use Rattle.ml_front.specs.Logics.{some_logic}
 use Rattle.ml_front.specs.declared.answer.Answer.{Answer}
 use Rattle.ml_front.specs.declared.answer.Answer.TheVariants.{Satisfiable, Unsatisfiable, Undecided}

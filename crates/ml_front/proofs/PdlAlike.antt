@@ -23,9 +23,6 @@ module _ (g h : Graph) where
   literals : (n : ℕ) (name : List ℕ) (s : Bool) → IsLiteral g n name s → IsLiteral h n name s → P n
   literals n name s x y = same_literal g h n x.0 y.0 s plain name x.1 y.1 x.2 y.2
 
-  ands : (n l r p : ℕ) → IsNode g n (node.And l r) p → IsNode h n (node.And l r) p → P n
-  ands = same_and g h
-
   ors : (n l r p : ℕ) → IsNode g n (node.Or l r) p → IsNode h n (node.Or l r) p → P n
   ors = same_or g h
 
@@ -36,8 +33,8 @@ module _ (g h : Graph) where
     same_in i (Prop p) x y =
         one_occurrence P i (literals (positive i) p true x.0 y.0) (literals (negative i) p false x.1 y.1)
     same_in i (Not f) x y =
-        one_part P i (occurrences f) (ands (positive i) (negative (i + 1)) (negative (i + 1)) plain x.0 y.0)
-        (ands (negative i) (positive (i + 1)) (positive (i + 1)) plain x.1 y.1) (same_in (i + 1) f x.2 y.2)
+        one_part P i (occurrences f) (same_and g h (positive i) (negative (i + 1)) (negative (i + 1)) plain x.0 y.0)
+        (same_and g h (negative i) (positive (i + 1)) (positive (i + 1)) plain x.1 y.1) (same_in (i + 1) f x.2 y.2)
     same_in i (Binary op f e) x y =
         let l = i + weight op in
         two_parts P i (weight op) (occurrences f) (occurrences e) (same_joined g h plain op i l (l + occurrences f) x.0 y.0)
@@ -46,13 +43,13 @@ module _ (g h : Graph) where
         let l = i + 1 in
         let r = l + program_occurrences p in
         two_parts P i 1 (program_occurrences p) (occurrences f)
-        (one_occurrence P i (ands (positive i) (own m l) (own m l) plain x.0 y.0)
-        (ands (negative i) (dual m l) (dual m l) plain x.1 y.1))
+        (one_occurrence P i (same_and g h (positive i) (own m l) (own m l) plain x.0 y.0)
+        (same_and g h (negative i) (dual m l) (dual m l) plain x.1 y.1))
         (program_same l (own m r) (dual m r) p x.2 y.2) (same_in r f x.3 y.3)
     same_in i (Repeat p) x y =
         let l = i + 1 in
-        one_part P i (program_occurrences p) (ands (positive i) (diamond l) (diamond l) 0 x.0 y.0)
-        (ands (negative i) (box l) (box l) 1 x.1 y.1) (program_same l (positive i) (negative i) p x.2 y.2)
+        one_part P i (program_occurrences p) (same_and g h (positive i) (diamond l) (diamond l) 0 x.0 y.0)
+        (same_and g h (negative i) (box l) (box l) 1 x.1 y.1) (program_same l (positive i) (negative i) p x.2 y.2)
 
     program_same : (i d b : ℕ) (p : Program) → ProgramStandsAt g i d b p → ProgramStandsAt h i d b p
         → Range P i (i + program_occurrences p)
@@ -63,23 +60,23 @@ module _ (g h : Graph) where
         let l = i + 1 in
         let r = l + program_occurrences p in
         two_parts P i 1 (program_occurrences p) (program_occurrences q)
-        (one_occurrence P i (ands (diamond i) (diamond l) (diamond l) plain x.0 y.0)
-        (ands (box i) (box l) (box l) plain x.1 y.1))
+        (one_occurrence P i (same_and g h (diamond i) (diamond l) (diamond l) plain x.0 y.0)
+        (same_and g h (box i) (box l) (box l) plain x.1 y.1))
         (program_same l (diamond r) (box r) p x.2 y.2) (program_same r d b q x.3 y.3)
     program_same i d b (Alt p q) x y =
         let l = i + 1 in
         let r = l + program_occurrences p in
         two_parts P i 1 (program_occurrences p) (program_occurrences q)
         (one_occurrence P i (ors (diamond i) (diamond l) (diamond r) plain x.0 y.0)
-        (ands (box i) (box l) (box r) plain x.1 y.1))
+        (same_and g h (box i) (box l) (box r) plain x.1 y.1))
         (program_same l d b p x.2 y.2) (program_same r d b q x.3 y.3)
     program_same i d b (Star p) x y =
         let l = i + 1 in
         one_part P i (program_occurrences p) (ors (diamond i) d (diamond l) 3 x.0 y.0)
-        (ands (box i) b (box l) 2 x.1 y.1) (program_same l (diamond i) (box i) p x.2 y.2)
+        (same_and g h (box i) b (box l) 2 x.1 y.1) (program_same l (diamond i) (box i) p x.2 y.2)
     program_same i d b (Test f) x y =
         let l = i + 1 in
-        one_part P i (occurrences f) (ands (diamond i) (positive l) d plain x.0 y.0)
+        one_part P i (occurrences f) (same_and g h (diamond i) (positive l) d plain x.0 y.0)
         (ors (box i) (negative l) b plain x.1 y.1) (same_in l f x.2 y.2)
 
   pub alike : (f : Formula) (negated : Bool) → IsGraphOf g f negated → IsGraphOf h f negated → AreAlike g h

@@ -1,7 +1,7 @@
 -- The canonical text of a formula of PDL has no line end in it.
 --
 --   canonical_in_line  == where its names are spelled as they must be, it stands in one line
-use Rattle.std.proofs.Common.{◌≡◌, ℕ, Bool, true, false, List, [], cond, codes, bytes_eq, refl}
+use Rattle.std.proofs.Common.{◌≡◌, ℕ, true, false, List, codes, bytes_eq, refl}
 use Rattle.std.specs.Cmp.{first_so}
 use Rattle.ml_lines.proofs.LineFronts.{IsInLine}
 use Rattle.ml_text.specs.Operators.{spelling_of}
@@ -13,11 +13,7 @@ use Rattle.ml_pdl.specs.declared.term.Modality.{Modality}
 use Rattle.ml_pdl.specs.declared.term.Modality.TheVariants.{Diamond, Square}
 use Rattle.ml_pdl.specs.Signs.{own}
 use Rattle.ml_pdl.specs.Spelling.{is_action, is_proposition, is_spelled, program_is_spelled}
-use Rattle.ml_front.proofs.WordLines.{action_in_line, between_in_line, both_in_line, three_in_line, five_in_line, proposition_in_line, spelling_in_line}
-
-unless_blank : (b : Bool) (text : List ℕ) → IsInLine text → IsInLine (cond b [] text)
-unless_blank true text is = refl
-unless_blank false text is = is
+use Rattle.ml_front.proofs.WordLines.{action_in_line, between_in_line, both_in_line, three_in_line, five_in_line, proposition_in_line, spelling_in_line, unless_blank}
 
 modality_in_line : (m : Modality) (text : List ℕ) → IsInLine text → IsInLine (modality_text m text)
 modality_in_line Diamond text is = three_in_line (codes "<") text (codes ">") refl is refl

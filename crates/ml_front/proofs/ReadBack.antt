@@ -2,7 +2,7 @@
 --
 --   heads_read_back  == the head of a written document about a well-formed formula is read as it was written
 use Rattle.std.proofs.Common.{refl}
-use Rattle.ml_front.specs.HeadRules.{HeadsReadBack}
+use Rattle.ml_front.specs.Laws.{HeadsReadBack}
 use Rattle.ml_front.specs.Logics.{canonical_text}
 use Rattle.ml_front.proofs.Logics.{text_in_line, text_parsed}
 

@@ -1,9 +1,10 @@
 -- Texts that stand in one line, put together.
 --
 --   three_in_line, five_in_line, seven_in_line == of parts that do
+--   unless_blank  == a text that is left out or does
 --   word_in_line  == a word does, and with it a name of any kind
 --   spelling_in_line, between_in_line == so do the signs of connectives, and two texts with a sign between them
-use Rattle.std.proofs.Common.{◌≡◌, ℕ, Bool, true, false, ◌||◌, ◌==◌, List, [], ◌∷◌, ◌++◌, codes, bytes_eq, refl, sym, ap, subst, ◌∙◌, ⊎_elim, eqb-true}
+use Rattle.std.proofs.Common.{◌≡◌, ℕ, Bool, true, false, ◌||◌, ◌==◌, List, [], ◌∷◌, ◌++◌, codes, bytes_eq, refl, sym, ap, subst, ◌∙◌, ⊎_elim, eqb-true, cond}
 use Rattle.std.specs.List.{list_all, list_any}
 use Rattle.std.proofs.lemmas.Bool.{and_from, and_parts, cases_Bool, or_from, or_left}
 use Rattle.std.proofs.lemmas.List.Folds.{list_any-append}
@@ -21,6 +22,10 @@ use Rattle.ml_text.proofs.FreeWords.{of_action, proposition_letters}
 
 pub both_in_line : (xs ys : List ℕ) → IsInLine xs → IsInLine ys → IsInLine (xs ++ ys)
 both_in_line xs ys a b = list_any-append is_line_end xs ys ∙ or_from (list_any is_line_end xs) (list_any is_line_end ys) a b
+
+pub unless_blank : (b : Bool) (text : List ℕ) → IsInLine text → IsInLine (cond b [] text)
+unless_blank true text is = refl
+unless_blank false text is = is
 
 pub three_in_line : (a b c : List ℕ) → IsInLine a → IsInLine b → IsInLine c → IsInLine (a ++ b ++ c)
 three_in_line a b c ia ib ic = both_in_line (a ++ b) c (both_in_line a b ia ib) ic

@@ -15,17 +15,16 @@
 --   rules a place           == the rules of a line at a place, where the answer a is wanted
 --   head a                  == the places with their rules
 --   IsHeadFault a text f    == f tells the first bad line of the head, and the lowest rule that it breaks
---   SomeHead, HeadOrFault, OneHead, OneHeadFault, HeadRulesRise, HeadsReadBack == the laws of these notions
-use Rattle.std.specs.Prelude.{ℕ, ◌≡◌, ◌⊎◌, Bool, false, List, [], ◌∷◌, ◌++◌, drop, codes}
+use Rattle.std.specs.Prelude.{ℕ, ◌≡◌, Bool, false, List, [], ◌∷◌, ◌++◌, drop, codes}
 use Rattle.std.specs.List.{list_any, join_with_byte}
 use Rattle.ml_base.specs.declared.doc_fault.DocFault.{DocFault}
 use Rattle.ml_base.specs.declared.version.Version.{Version}
 use Rattle.ml_lines.specs.Faults.{IsFault}
 use Rattle.ml_lines.specs.Lines.{Word, Line, text_of}
 use Rattle.ml_lines.specs.Reading.{is_line_end, word}
-use Rattle.ml_lists.specs.Documents.{Format, NumbersRise, Rule, rule}
-use Rattle.ml_front.specs.Head.{title_line, answer_line, logic_line, sense_line, lines_about, head_lines}
-use Rattle.ml_front.specs.Logics.{logic_of, some_logic, IsParsedAs, IsWellFormed}
+use Rattle.ml_lists.specs.Documents.{Format, Rule, rule}
+use Rattle.ml_front.specs.Head.{title_line, answer_line, logic_line, sense_line, lines_about}
+use Rattle.ml_front.specs.Logics.{logic_of, some_logic, IsParsedAs}
 use Rattle.ml_front.specs.declared.answer.Answer.{Answer}
 use Rattle.ml_front.specs.declared.head_rule.HeadRule.{HeadRule}
 use Rattle.ml_front.specs.declared.head_rule.HeadRule.TheVariants.{OfKind, Parses, Answers}
@@ -87,33 +86,3 @@ head a = record { rules = rules a; after = after; missing = [] }
 
 abbrev pub IsHeadFault : Answer → List ℕ → DocFault → Type 0
 IsHeadFault a text fault = IsFault (λ left. head a) 1 AtTitle text fault
-
--- ---- laws
-
--- a text is a head, or has a first bad line
-abbrev pub SomeHead : Type 0
-SomeHead = (a : Answer) (text : List ℕ)
-    → ((v : Version) × (p : Problem) × (rest : List ℕ) × IsHead a text v p rest) ⊎ ((fault : DocFault) × IsHeadFault a text fault)
-
--- a head has no bad line
-abbrev pub HeadOrFault : Type 0
-HeadOrFault = (a : Answer) (text : List ℕ) (v : Version) (p : Problem) (rest : List ℕ) (fault : DocFault)
-    → IsHead a text v p rest → IsHeadFault a text fault → ⊥
-
--- a text is a head in one version and about one problem at most, with one rest
-abbrev pub OneHead : Type 0
-OneHead = (a : Answer) (text : List ℕ) (v w : Version) (p q : Problem) (rest more : List ℕ)
-    → IsHead a text v p rest → IsHead a text w q more → (v ≡ w) × (p ≡ q) × (rest ≡ more)
-
--- a text has one first bad line at most
-abbrev pub OneHeadFault : Type 0
-OneHeadFault = (a : Answer) (text : List ℕ) (e f : DocFault) → IsHeadFault a text e → IsHeadFault a text f → e ≡ f
-
--- the rules of each line rise by their numbers, so the first one that is broken is the lowest
-abbrev pub HeadRulesRise : Type 0
-HeadRulesRise = (a : Answer) → NumbersRise (head a)
-
--- the head of a written document about a well-formed formula is read as it was written, in either version
-abbrev pub HeadsReadBack : Type 0
-HeadsReadBack = (a : Answer) (v : Version) (p : Problem) (rest : List ℕ)
-    → IsWellFormed p.formula → IsHead a (text_of (head_lines v a p) ++ rest) v p rest

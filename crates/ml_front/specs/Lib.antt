@@ -1,5 +1,7 @@
 -- formulas of all logics, and their texts
 pub mod Logics
+-- which formulas mean something, and which the program holds
+pub mod WellFormed
 -- problems, and where they hold
 pub mod Problems
 -- the graphs of problems
@@ -8,5 +10,7 @@ pub mod Graphs
 pub mod Head
 -- the rules of a head, and its first bad line
 pub mod HeadRules
+-- laws of heads and graphs
+pub mod Laws
 -- what private contracts cite
 pub mod private

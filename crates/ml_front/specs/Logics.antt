@@ -10,7 +10,6 @@
 --   IsParsedAs text f    == the text stands for f in the logic of f, within the limits
 --   IsRefusedBy l text e == the text is refused with e, where a formula of the logic l is wanted
 --   canonical_text f     == the canonical text of f
---   IsWellFormed f       == f is one of the formulas that the program holds
 use Rattle.std.specs.Prelude.{ℕ, List, Option, Some, None, if◌then◌else◌, unwrap_or, codes}
 use Rattle.std.specs.Str.{bytes_eq}
 use Rattle.ml_base.specs.declared.parse_refusal.ParseRefusal.{ParseRefusal}
@@ -18,17 +17,15 @@ use Rattle.ml_lines.specs.Lines as lines
 use Rattle.ml_ctl.specs.Canonical as ctl_canonical
 use Rattle.ml_ctl.specs.declared.language.Language.TheVariants as language
 use Rattle.ml_ctl.specs.Parsing as ctl_parsing
-use Rattle.ml_ctl.specs.WellFormed as ctl_formulas
 use Rattle.ml_mu.specs.Canonical as mu_canonical
 use Rattle.ml_mu.specs.Parsing as mu_parsing
-use Rattle.ml_mu.specs.WellFormed as mu_formulas
 use Rattle.ml_pdl.specs.Canonical as pdl_canonical
 use Rattle.ml_pdl.specs.Parsing as pdl_parsing
-use Rattle.ml_pdl.specs.WellFormed as pdl_formulas
 use Rattle.ml_front.specs.declared.logic.Logic.{Logic}
 use Rattle.ml_front.specs.declared.logic.Logic.TheVariants as logic
 use Rattle.ml_front.specs.declared.problem.AnyFormula.{AnyFormula}
 use Rattle.ml_front.specs.declared.problem.AnyFormula.TheVariants.{Mu, Pdl, Ctl, Ltl, Word}
+pub use Rattle.ml_front.specs.WellFormed.{IsWellFormed}
 
 abbrev pub logic_of : AnyFormula → Logic
 logic_of (Mu f) = logic.Mu
@@ -75,10 +72,3 @@ canonical_text (Pdl f) = pdl_canonical.canonical_text f
 canonical_text (Ctl f) = ctl_canonical.canonical_text f
 canonical_text (Ltl f) = ctl_canonical.canonical_text f
 canonical_text (Word f) = ctl_canonical.canonical_text f
-
-abbrev pub IsWellFormed : AnyFormula → Type 0
-IsWellFormed (Mu f) = mu_formulas.IsWellFormed f
-IsWellFormed (Pdl f) = pdl_formulas.IsWellFormed f
-IsWellFormed (Ctl f) = ctl_formulas.IsWellFormed language.Ctl f
-IsWellFormed (Ltl f) = ctl_formulas.IsWellFormed language.Ltl f
-IsWellFormed (Word f) = ctl_formulas.IsWellFormed language.Ltl f

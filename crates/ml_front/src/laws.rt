@@ -1,8 +1,7 @@
 // What holds of heads and of graphs by their definitions alone: the functions do nothing, their contracts are the
 // theorems.
 ghost use Rattle.std.specs.Prelude.{◌≡◌};
-ghost use Rattle.ml_front.specs.Graphs.{GraphsAgree};
-ghost use Rattle.ml_front.specs.HeadRules.{HeadOrFault, HeadRulesRise, HeadsReadBack, OneHead, OneHeadFault, SomeHead};
+ghost use Rattle.ml_front.specs.Laws.{GraphsAgree, HeadOrFault, HeadRulesRise, HeadsReadBack, OneHead, OneHeadFault, SomeHead};
 ghost use Rattle.ml_front.specs.declared.problem.TheConstants.{MOST_NODES};
 
 /// The graph of a problem holds where the problem does: on every structure of which the formula's logic speaks, of any

@@ -1,7 +1,8 @@
 // Problems of all logics.
 ghost use Rattle.std.specs.Prelude.{◌≡◌, false, not, IfOk, IfErr, IsErrOf};
 ghost use Rattle.ml_front.specs.Logics.{canonical_text, logic_of, IsParsedAs, IsRefusedBy};
-ghost use Rattle.ml_front.specs.Graphs.{HasLargeClosure, HoldsWhere, IsGraphOf};
+ghost use Rattle.ml_front.specs.Graphs.{HasLargeClosure, IsGraphOf};
+ghost use Rattle.ml_front.specs.Laws.{HoldsWhere};
 
 use crate::logic::Logic;
 use ml_base::{NoMemory, ParseRefusal};

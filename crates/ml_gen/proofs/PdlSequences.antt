@@ -10,7 +10,6 @@ use Rattle.std.specs.List.{AllByRecursion}
 use Rattle.ml_text.specs.declared.token.Operator.TheVariants as operator
 use Rattle.ml_text.specs.declared.token.Token.TheVariants as token
 use Rattle.ml_text.specs.declared.token.WordStart.TheVariants.{AnyLetter}
-use Rattle.ml_text.specs.declared.token.Placed.{Placed}
 use Rattle.ml_text.specs.Tokens.{tokens}
 use Rattle.ml_text.specs.Words.{constant_of}
 use Rattle.ml_text.specs.Refusals.{signs_of, most_occurrences}
@@ -30,9 +29,9 @@ use Rattle.ml_pdl.specs.Parsing.{IsParsedAs}
 use Rattle.ml_pdl.specs.Signs.{Sign, own}
 use Rattle.ml_text.specs.declared.named_signs.Sign.TheVariants.{Added}
 use Rattle.ml_pdl.specs.declared.signs.Own.TheVariants.{Paren, Repeats}
-use Rattle.ml_pdl.specs.Text.{pdl_signs, items, sign_by}
+use Rattle.ml_pdl.specs.Text.{pdl_signs, items}
 use Rattle.ml_pdl.proofs.CanonicalLimits.{opens_of, token_bracket, few_open, program_few, program_short, tokens_short}
-use Rattle.ml_pdl.proofs.CanonicalTexts.{plain_signs, program_onto, reads_formula, reads_program, scans_formula, scans_program, sign_spelt, signs_with_marks, tokens_onto}
+use Rattle.ml_pdl.proofs.CanonicalTexts.{plain_signs, program_onto, reads_formula, reads_program, scans_formula, scans_program, sign_spelt, signs_with_marks, tokens_onto, plain_spelt}
 use Rattle.ml_pdl.proofs.Counting.{counts, counted_items}
 use Rattle.ml_pdl.proofs.FromTables.{un_raised}
 use Rattle.ml_pdl.proofs.MarkedTexts.{marks_are_of_texts}
@@ -107,10 +106,6 @@ more_count zero p = omega arith
 more_count (suc k) p = omega (arith, more_count k (Seq p act))
 
 -- ---- texts, by their tokens
-
-plain_spelt : (text : List ℕ) (ps : List Placed) → map (sign_by text) ps ≡ plain_signs (map (spelt_at text) ps)
-plain_spelt text [] = refl
-plain_spelt text (p ∷ ps) = ap (λ ts. sign_by text p ∷ ts) (plain_spelt text ps)
 
 module _ (text : List ℕ) (spelt : List Spelt) (f : Formula) (scans : Scans AnyLetter text spelt)
     (reads : IsReadAs (signs_with_marks spelt) f) (small : occurrences f ≤ most_occurrences)

@@ -3,6 +3,7 @@
 --   IsVertex g m v       == the state and the node of a pair are those of m and g, and a sink is that of 0 or 1
 --   vertices-length      == how many vertices there are
 --   vertex_at            == the vertex with the number of a vertex is that vertex
+--   same_vertex          == vertices with one number are one
 --   owner_is, priority_is, moves_are == of the vertex with that number: the owner, the priority, the moves
 --   is_vertex            == all vertices are vertices
 --   leads_on             == each vertex leads somewhere
@@ -85,6 +86,15 @@ module _ (g : Graph) (m : Structure) where
       sink_at zero low = refl
       sink_at (suc zero) low = refl
       sink_at (suc (suc p)) low = absurd (omega arith)
+
+  -- vertices with one number are one
+  pub same_vertex : (v w : Vertex)
+      → IsVertex g m v
+      → IsVertex g m w
+      → vertex_number g m v ≡ vertex_number g m w
+      → v ≡ w
+  same_vertex v w v_is w_is same =
+      sym (vertex_at v v_is) ∙ ap (λ n. get_or (vertices g m) n (Sink 0)) same ∙ vertex_at w w_is
 
   -- what the game has at the number of a vertex
   pub owner_is : (v : Vertex) → IsVertex g m v → owner_of (checking_game g m) (vertex_number g m v) ≡ owner_at g v

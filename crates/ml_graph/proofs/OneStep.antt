@@ -6,6 +6,7 @@
 --   pair_member        == to each target, at the node behind it
 --   even_step, odd_step == who wins a vertex is told by the vertices to which it leads
 --   one_step        == where a node holds is told by the nodes to which it refers
+--   one_step_at     == and so it is of a node that is known
 use Rattle.std.proofs.Common.{ℕ, ◌≡◌, ◌<◌, ◌⊎◌, inl, inr, ◌↔◌, Bool, true, false, cond, List, [], ◌∷◌, length, map, Contains, refl, sym, ap, ◌∙◌, subst, arith}
 use Rattle.std.specs.Bool.{beq}
 use Rattle.std.proofs.lemmas.List.{length-map}
@@ -21,7 +22,7 @@ use Rattle.ml_parity.proofs.OneStep.{WinningMove, own_vertex_won, other_vertex_w
 use Rattle.ml_parity.proofs.SingleMoves.{single_move, sink_won}
 use Rattle.ml_graph.specs.declared.node.Node.{Node}
 use Rattle.ml_graph.specs.declared.node.Node.TheVariants as node
-use Rattle.ml_graph.specs.Graph.{Graph, IsGraph, node_at, prop_at, action_at}
+use Rattle.ml_graph.specs.Graph.{Graph, IsGraph, node_at, prop_at, action_at, size}
 use Rattle.ml_graph.specs.CheckingGame.{Vertex, Pair, Sink, owner_at, mover, vertex_number, successors, successors_of, pairs_or_sink, targets, vertices, checking_game, HoldsAt}
 use Rattle.ml_graph.specs.Laws.{NodeHolds, OneStepLaw}
 use Rattle.ml_graph.proofs.CheckingGame.{IsVertex, number_low, vertices-length, owner_is, priority_is, moves_are, is_game}
@@ -238,3 +239,16 @@ module _ (g : Graph) (m : Structure) (g_ok : IsGraph g) (m_ok : IsStructure m) w
 -- where a node holds is told by the nodes to which it refers
 pub one_step : OneStepLaw
 one_step g m g_ok m_ok s n s_low n_low = by_kind g m g_ok m_ok s n (s_low, n_low) (node_at g n) refl
+
+-- and so it is told of a node that is known
+pub one_step_at : (g : Graph) (m : Structure)
+    → IsGraph g
+    → IsStructure m
+    → (s n : ℕ)
+    → s < m.states
+    → n < size g
+    → (x : Node)
+    → node_at g n ≡ x
+    → HoldsAt g m s n ↔ NodeHolds g m s x
+one_step_at g m g_ok m_ok s n s_low n_low x is =
+    subst (λ y. HoldsAt g m s n ↔ NodeHolds g m s y) is (one_step g m g_ok m_ok s n s_low n_low)

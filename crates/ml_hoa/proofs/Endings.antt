@@ -9,9 +9,9 @@ use Rattle.ml_hoa.specs.declared.reader.Acceptance.TheVariants as acceptance
 use Rattle.ml_hoa.specs.declared.reader.Stage.{Stage}
 use Rattle.ml_hoa.specs.declared.reader.Stage.TheVariants as stage
 use Rattle.ml_hoa.specs.Tokens.{Token, Number, Text, Plain}
-use Rattle.ml_hoa.specs.private.Machine.{LevelState, State, Next, turn, turn_at, on_header, wanted, into_body, strings, closed, label_ended, first_of}
+use Rattle.ml_hoa.specs.private.Machine.{LevelState, State, Next, turn, turn_at, on_header, into_body, strings, closed, label_ended, first_of}
 use Rattle.ml_hoa.proofs.Runs.{led, run}
-use Rattle.ml_hoa.proofs.HeadRuns.{head_stage, strings_some}
+use Rattle.ml_hoa.proofs.HeadRuns.{head_stage, strings_some, wanted_free}
 
 pub record Ending (strict : Bool) (s : State) : Type 0 where
   pub tokens : List Token
@@ -93,10 +93,6 @@ module _ (strict : Bool) where
 
   -- ---- headers
 
-  free_turn : (b : Bool) (s : State) (q : Stage) → b ≡ false → wanted b s q ≡ Next (record s { stage = q })
-  free_turn true s q free = absurd (cc)
-  free_turn false s q free = refl
-
   states_named : (ignored : Bool) (s : State) → s.stage ≡ head_stage ignored → turn s (Plain mark.States) ≡ on_header s (Plain mark.States)
   states_named true s staged = ap (λ x. turn_at x s (Plain mark.States)) staged
   states_named false s staged = ap (λ x. turn_at x s (Plain mark.States)) staged
@@ -140,7 +136,7 @@ module _ (strict : Bool) where
   acceptance_ends true ignored s staged h = all_end ignored s staged h
   acceptance_ends false ignored s staged h =
       by_turn s (record s { stage = stage.AcceptanceNumber }) (Plain mark.Acceptance)
-      (acceptance_named ignored s staged ∙ free_turn s.stood.acceptance s stage.AcceptanceNumber h.acceptance)
+      (acceptance_named ignored s staged ∙ wanted_free s.stood.acceptance s stage.AcceptanceNumber h.acceptance)
       (by_turn _ (record s { stage = stage.EveryTruth }) (Number (codes "0") 0) refl
       (by_turn _ _ (Plain mark.Truth) refl
       (all_end false (record s { stage = stage.Headers; stood = record s.stood { acceptance = true }; acceptance = acceptance.Every }) refl
@@ -150,7 +146,7 @@ module _ (strict : Bool) where
   props_end true d ignored s staged h = acceptance_ends d ignored s staged h
   props_end false d ignored s staged h =
       by_turn s (record s { stage = stage.PropsNumber }) (Plain mark.Props)
-      (props_named ignored s staged ∙ free_turn s.stood.props s stage.PropsNumber h.props)
+      (props_named ignored s staged ∙ wanted_free s.stood.props s stage.PropsNumber h.props)
       (by_turn _ _ (Number (codes "0") 0) refl
       (acceptance_ends d false (record s { stage = stage.Headers; stood = record s.stood { props = true }; prop_count = 0; props = [] }) refl
       (record { states = h.states; start = h.start; props = refl; acceptance = h.acceptance })))
@@ -159,7 +155,7 @@ module _ (strict : Bool) where
   start_ends true c d ignored s staged h = props_end c d ignored s staged h
   start_ends false c d ignored s staged h =
       by_turn s (record s { stage = stage.StartNumber }) (Plain mark.Start)
-      (start_named ignored s staged ∙ free_turn s.stood.start s stage.StartNumber h.start)
+      (start_named ignored s staged ∙ wanted_free s.stood.start s stage.StartNumber h.start)
       (by_turn _ _ (Number (codes "0") 0) refl
       (props_end c d false (record s { stage = stage.Headers; stood = record s.stood { start = true }; first = 0; first_at = 0 }) refl
       (record { states = h.states; start = refl; props = h.props; acceptance = h.acceptance })))
@@ -168,7 +164,7 @@ module _ (strict : Bool) where
   states_end true b c d ignored s staged h = start_ends b c d ignored s staged h
   states_end false b c d ignored s staged h =
       by_turn s (record s { stage = stage.StatesNumber }) (Plain mark.States)
-      (states_named ignored s staged ∙ free_turn s.stood.states s stage.StatesNumber h.states)
+      (states_named ignored s staged ∙ wanted_free s.stood.states s stage.StatesNumber h.states)
       (by_turn _ _ (Number (codes "0") 0) refl
       (start_ends b c d false (record s { stage = stage.Headers; stood = record s.stood { states = true }; states = 0 }) refl
       (record { states = refl; start = h.start; props = h.props; acceptance = h.acceptance })))

@@ -5,9 +5,9 @@
 --   told h                 == what it holds behind all headers
 --   headed h               == so it enters the body
 --   headers_read           == headers are read
-use Rattle.std.proofs.Common.{◌≡◌, ℕ, suc, ◌+◌, ◌-◌, ◌==◌, ◌&&◌, Bool, true, false, nat_le, min, if◌then◌else◌, List, [], ◌∷◌, ◌++◌, length, map, Option, Some, None, refl, sym, ◌∙◌, ap, arith, codes}
+use Rattle.std.proofs.Common.{◌≡◌, ℕ, suc, ◌+◌, ◌-◌, ◌==◌, Bool, true, false, nat_le, min, if◌then◌else◌, List, [], ◌∷◌, ◌++◌, length, map, Option, Some, None, refl, sym, ◌∙◌, ap, arith, codes}
 use Rattle.std.specs.List.{flat_map, list_all}
-use Rattle.std.proofs.lemmas.Bool.{cond-false}
+use Rattle.std.proofs.lemmas.Bool.{cond-false, and_parts}
 use Rattle.std.proofs.lemmas.Bool.Decides.{nat_tests}
 use Rattle.std.proofs.lemmas.List.{append_assoc, append-nil}
 use Rattle.ml_hoa.specs.declared.token.Mark.TheVariants as mark
@@ -89,7 +89,7 @@ comes : {A : Type 0} (b : Bool) (P : Type 0) (xs : List A) (n x : A) → Tells b
 comes {A} true P xs n x tells = let e = tells.1 in absurd (cc)
 comes {A} false P xs n x tells = record { free = refl; is = cc; rest = cc }
 
-wanted_free : (b : Bool) (s : State) (q : Stage) → b ≡ false → wanted b s q ≡ Next (record s { stage = q })
+pub wanted_free : (b : Bool) (s : State) (q : Stage) → b ≡ false → wanted b s q ≡ Next (record s { stage = q })
 wanted_free true s q free = absurd (cc)
 wanted_free false s q free = refl
 
@@ -131,16 +131,12 @@ passed s (Plain m) is = refl
 passed s (Number digits at) is = refl
 passed s (Text bytes) is = refl
 
-and_both : (p q : Bool) → (p && q) ≡ true → (p ≡ true) × (q ≡ true)
-and_both true q is = (refl, is)
-and_both false q is = absurd (cc)
-
 passed_over : (strict : Bool) (b : Head) (ts rest : List Token)
     → list_all is_passed ts ≡ true
     → run strict (at_head stage.Ignored b) (ts ++ rest) ≡ run strict (at_head stage.Ignored b) rest
 passed_over strict b [] rest all = refl
 passed_over strict b (t ∷ ts) rest all =
-    let both = and_both (is_passed t) (list_all is_passed ts) all in
+    let both = and_parts (is_passed t) (list_all is_passed ts) all in
     ap (λ turn. led strict turn (λ next. run strict next (ts ++ rest))) (passed (at_head stage.Ignored b) t both.0)
     ∙ passed_over strict b ts rest both.1
 

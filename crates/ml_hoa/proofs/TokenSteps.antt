@@ -3,9 +3,10 @@
 --   piece_taken    == behind a piece that is read, what comes is what comes of the others
 --   piece_stopped  == a piece that is refused is what comes
 --   open_behind    == where no `"` is closed, behind a piece none is either
-use Rattle.std.proofs.Common.{◌≡◌, ℕ, ◌+◌, ◌-◌, ◌<◌, ◌≤◌, ◌==◌, ◌||◌, ◌&&◌, Bool, true, false, List, [], ◌∷◌, ◌++◌, length, drop, get_or, Option, Some, None, refl, sym, ◌∙◌, ap, subst, arith}
+use Rattle.std.proofs.Common.{◌≡◌, ℕ, ◌+◌, ◌-◌, ◌<◌, ◌≤◌, ◌==◌, ◌||◌, Bool, true, false, List, [], ◌∷◌, ◌++◌, length, drop, get_or, Option, Some, None, refl, sym, ◌∙◌, ap, subst, arith}
 use Rattle.std.proofs.lemmas.Bool.Decides.{nat_tests}
 use Rattle.std.proofs.lemmas.List.{drop_more}
+use Rattle.std.proofs.lemmas.Bool.{and_parts}
 use Rattle.ml_hoa.specs.declared.refusal.HoaRefusal.{HoaRefusal}
 use Rattle.ml_hoa.specs.declared.refusal.HoaRefusal.TheVariants as refusal
 use Rattle.ml_hoa.specs.Tokens.{Token, Placed, placed, Piece, front_piece, quoted, closing_quote}
@@ -40,10 +41,6 @@ pub told_along : (e : HoaRefusal) (a b : Outcome) → a ≡ b → IsOutcome e b 
 told_along e a b is told = subst (IsOutcome e) (sym is) told
 
 -- ---- quotes
-
-and_parts : (p q : Bool) → (p && q) ≡ true → (p ≡ true) × (q ≡ true)
-and_parts true q is = (refl, is)
-and_parts false q is = absurd (cc)
 
 not_quoted : (xs : List ℕ) (o : Option ℕ) → (quoted xs o).size ≡ 1 → o ≡ None
 not_quoted xs None is = refl

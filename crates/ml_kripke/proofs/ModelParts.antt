@@ -18,8 +18,7 @@ use Rattle.ml_lines.proofs.WrittenLines.{text_read}
 use Rattle.ml_lists.specs.Chains.{Above, Chain}
 use Rattle.ml_lists.proofs.Chains.{chain_sorted, sorted_chain}
 use Rattle.ml_kripke.specs.private.BodyParts.{AreRows, AreEdges, IsWholeEnd}
-use Rattle.ml_kripke.specs.Laws.{IsWritten}
-use Rattle.ml_kripke.specs.ModelText.{states_line, start_line, state_lines, edge_line, end_line, model_lines, model_text}
+use Rattle.ml_kripke.specs.ModelText.{IsWritten, states_line, start_line, state_lines, edge_line, end_line, model_lines, model_text}
 use Rattle.ml_kripke.specs.Ordered.{of_parts, IsOrdered, HasNames}
 use Rattle.ml_base.specs.EdgeOrder.{edge_cmp}
 use Rattle.ml_kripke.proofs.OneStructure.{edge_order}

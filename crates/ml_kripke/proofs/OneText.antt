@@ -24,8 +24,8 @@ use Rattle.ml_base.specs.Name.{is_name, is_name_byte, is_blank_action, IsName, I
 use Rattle.ml_base.specs.Structure.{Structure}
 use Rattle.ml_lines.specs.Lines.{Line, number}
 use Rattle.ml_lines.proofs.Unique.{has, avoids, IsPlain, ArePlain, text_unique}
-use Rattle.ml_kripke.specs.Laws.{OneText, IsWritten}
-use Rattle.ml_kripke.specs.ModelText.{state_line, edge_line, model_lines}
+use Rattle.ml_kripke.specs.Laws.{OneText}
+use Rattle.ml_kripke.specs.ModelText.{IsWritten, state_line, edge_line, model_lines}
 
 -- neither a blank nor an LF
 abbrev Plain : List ℕ → Type 0

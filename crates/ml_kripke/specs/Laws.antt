@@ -2,8 +2,6 @@
 --
 --   HasSame m n     == m and n have as many states, the same labels at each state, and the same edges
 --   OneStructure    == structures in order that have the same are equal
---   IsWritten m s   == m and a state s of it have a text: m is a structure whose labels and actions are names, and its
---                      numbers fit 32 bits
 --   IsModelText t   == t is the text of a model in order
 --   OneText         == two that have a text have the same text only where they are the same
 --   FaultOrModel    == the text of a model in order has no first bad line
@@ -11,14 +9,14 @@
 --   ReadableIsModel == a text has no bad line exactly where it is that of a model in order
 --   OneFault        == a text has one first bad line at most
 --   RulesRise       == the rules of each line rise by their numbers, so the first one that is broken is the lowest
-use Rattle.std.specs.Prelude.{ℕ, ◌≡◌, ◌↔◌, ◌⊎◌, ◌^◌, ◌<◌, List, [], slice_index_or, Contains}
+use Rattle.std.specs.Prelude.{ℕ, ◌≡◌, ◌↔◌, ◌⊎◌, List, [], slice_index_or, Contains}
 use Rattle.ml_base.specs.declared.doc_fault.DocFault.{DocFault}
 use Rattle.ml_base.specs.declared.structure.Edge.{Edge}
 use Rattle.ml_base.specs.Structure.{Structure, IsStructure}
 use Rattle.ml_lists.specs.Documents.{NumbersRise}
 use Rattle.ml_kripke.specs.BodyRules.{body, IsFaultOf, IsReadableBody}
-use Rattle.ml_kripke.specs.Ordered.{IsOrdered, HasNames}
-use Rattle.ml_kripke.specs.ModelText.{model_text}
+use Rattle.ml_kripke.specs.Ordered.{IsOrdered}
+use Rattle.ml_kripke.specs.ModelText.{IsWritten, model_text}
 
 pub record HasSame (m n : Structure) : Type 0 where
   pub states_same : m.states ≡ n.states
@@ -28,12 +26,6 @@ pub record HasSame (m n : Structure) : Type 0 where
 
 abbrev pub OneStructure : Type 0
 OneStructure = (m n : Structure) → IsStructure m → IsStructure n → IsOrdered m → IsOrdered n → HasSame m n → m ≡ n
-
-pub record IsWritten (m : Structure) (start : ℕ) : Type 0 where
-  pub is_structure : IsStructure m
-  pub has_names : HasNames m
-  pub fits : m.states < 2 ^ 32
-  pub is_state : start < m.states
 
 abbrev pub OneText : Type 0
 OneText = (m n : Structure) (s t : ℕ) → IsWritten m s → IsWritten n t → model_text m s ≡ model_text n t → (m ≡ n) × (s ≡ t)

@@ -11,11 +11,14 @@
 --   edge_line e           == `edge s a t`
 --   model_lines m start   == states n; start s; the state lines; the edge lines; end
 --   model_text m start    == these lines as bytes
-use Rattle.std.specs.Prelude.{ℕ, List, [], ◌∷◌, ◌++◌, map, codes}
+--   IsWritten m start     == m and a state of it have a text: m is a structure whose labels and actions are names, and its
+--                            numbers fit 32 bits
+use Rattle.std.specs.Prelude.{ℕ, ◌<◌, ◌^◌, List, [], ◌∷◌, ◌++◌, map, codes}
 use Rattle.std.specs.List.{enumerate_from}
 use Rattle.ml_base.specs.declared.structure.Edge.{Edge}
-use Rattle.ml_base.specs.Structure.{Structure}
+use Rattle.ml_base.specs.Structure.{Structure, IsStructure}
 use Rattle.ml_lines.specs.Lines.{Line, number, text_of}
+use Rattle.ml_kripke.specs.Ordered.{HasNames}
 
 abbrev pub states_line : ℕ → Line
 states_line n = codes "states" ∷ number n ∷ []
@@ -41,3 +44,9 @@ model_lines m start =
 
 abbrev pub model_text : Structure → ℕ → List ℕ
 model_text m start = text_of (model_lines m start)
+
+pub record IsWritten (m : Structure) (start : ℕ) : Type 0 where
+  pub is_structure : IsStructure m
+  pub has_names : HasNames m
+  pub fits : m.states < 2 ^ 32
+  pub is_state : start < m.states

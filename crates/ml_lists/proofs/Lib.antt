@@ -88,3 +88,5 @@ pub mod BreadthFirstSearch
 pub mod Deciding
 -- whether one number leads to another along a decided relation
 pub mod DecidedReach
+-- rows of numbers that come in turn, in breadth-first order
+pub mod RowsInTurn

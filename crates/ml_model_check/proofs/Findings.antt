@@ -8,9 +8,10 @@ use Rattle.ml_base.specs.Structure.{Structure, IsStructure}
 use Rattle.ml_base.specs.declared.doc_fault.DocFault.{DocFault}
 use Rattle.ml_lists.proofs.Decided.{Decided}
 use Rattle.ml_graph.specs.Graph.{Graph}
-use Rattle.ml_front.specs.Graphs.{HasLargeClosure, IsGraphOf, IsMeaningful}
+use Rattle.ml_front.specs.Graphs.{HasLargeClosure, IsGraphOf}
+use Rattle.ml_front.specs.WellFormed.{IsMeaningful}
 use Rattle.ml_front.specs.Logics.{logic_of}
-use Rattle.ml_front.specs.Problems.{HoldsAt, IsAdmitted}
+use Rattle.ml_front.specs.Problems.{HoldsAt}
 use Rattle.ml_front.specs.declared.problem.Problem.{Problem}
 use Rattle.ml_front.specs.declared.problem.TheConstants.{MOST_NODES}
 use Rattle.ml_front.proofs.Graphs.{IsFirstUnfit, admitted_or_not, dead_or_fork, holds_or_fails, never_both, one_deadlock, one_fork}

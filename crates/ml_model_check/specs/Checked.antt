@@ -18,8 +18,7 @@ use Rattle.ml_base.specs.Structure.{Structure}
 use Rattle.ml_base.specs.declared.doc_fault.DocFault.{DocFault}
 use Rattle.ml_base.specs.declared.version.Version.{Version}
 use Rattle.ml_kripke.specs.BodyRules.{IsFaultOf}
-use Rattle.ml_kripke.specs.Laws.{IsWritten}
-use Rattle.ml_kripke.specs.ModelText.{model_text}
+use Rattle.ml_kripke.specs.ModelText.{IsWritten, model_text}
 use Rattle.ml_kripke.specs.Ordered.{IsOrdered}
 use Rattle.ml_front.specs.Graphs.{HasLargeClosure}
 use Rattle.ml_front.specs.declared.answer.Answer.TheVariants.{Satisfiable}

@@ -6,11 +6,10 @@ use Rattle.std.specs.Prelude.{ℕ, ◌≡◌, List, ◌++◌}
 use Rattle.ml_base.specs.Structure.{Structure}
 use Rattle.ml_base.specs.declared.version.Version.{Version}
 use Rattle.ml_lines.specs.Lines.{text_of}
-use Rattle.ml_kripke.specs.Laws.{IsWritten}
-use Rattle.ml_kripke.specs.ModelText.{model_text}
+use Rattle.ml_kripke.specs.ModelText.{IsWritten, model_text}
 use Rattle.ml_kripke.specs.Ordered.{IsOrdered}
 use Rattle.ml_front.specs.Head.{head_lines}
-use Rattle.ml_front.specs.Logics.{IsWellFormed}
+use Rattle.ml_front.specs.WellFormed.{IsWellFormed}
 use Rattle.ml_front.specs.declared.answer.Answer.TheVariants.{Satisfiable}
 use Rattle.ml_front.specs.declared.problem.Problem.{Problem}
 use Rattle.ml_model_check.specs.Checked.{IsCheckedAs, IsDocument}

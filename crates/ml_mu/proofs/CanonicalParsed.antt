@@ -11,7 +11,7 @@ use Rattle.ml_text.proofs.AcceptedTexts.{accepted}
 use Rattle.ml_mu.specs.Formula.{Formula}
 use Rattle.ml_mu.specs.Canonical.{canonical_text}
 use Rattle.ml_mu.specs.Grammar.{IsReadAs}
-use Rattle.ml_mu.specs.Parsing.{CanonicalIsParsed}
+use Rattle.ml_mu.specs.ParsingLaws.{CanonicalIsParsed}
 use Rattle.ml_mu.specs.Signs.{own}
 use Rattle.ml_mu.specs.Text.{mu_signs, items}
 use Rattle.ml_mu.proofs.CanonicalTexts.{canonical_tokens, canonical_stands, sign_spelt, tokens_onto}

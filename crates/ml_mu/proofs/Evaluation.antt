@@ -6,15 +6,10 @@
 --   binary_flags        == and it has as many flags
 --   stops_early         == an iterate that is its own next one is the last one too
 --   iterates_once_more  == the next iterate
---   same_flags          == two lists of flags that pass the test for equality are equal
-use Rattle.std.proofs.Common.{◌≡◌, ℕ, ◌+◌, ◌≤◌, Bool, true, false, List, ◌∷◌, length, map, replicate, refl, sym, ap, ◌∙◌, arith}
+use Rattle.std.proofs.Common.{◌≡◌, ℕ, ◌+◌, ◌≤◌, Bool, false, List, ◌∷◌, length, map, replicate, sym, ap, ◌∙◌, arith}
 use Rattle.std.specs.List.{range_with_len, zip}
 use Rattle.std.proofs.lemmas.List.{length-map}
 use Rattle.std.proofs.lemmas.Slice.Zip.{length-zip}
-use Rattle.std.proofs.Math.Bool.{beq}
-use Rattle.std.specs.Cmp.{booleans_Decides}
-use Rattle.std.specs.Cmp.Lexicographic.{pointwise}
-use Rattle.std.proofs.lemmas.Slice.Eq.{slice_eq-Decides}
 use Rattle.ml_lists.specs.Iterate.{iterate}
 use Rattle.ml_lists.proofs.Iterates.{iterate_once_more, iterate_stays}
 use Rattle.ml_lists.proofs.Tables.{table_const, table_zip}
@@ -59,6 +54,3 @@ pub binary_flags : (n : ℕ) (op : Operator) (left right set : StateSet) → len
 binary_flags n op left right set left_long right_long is =
     let mapped = length-map (zip left right) (λ (p : Bool × Bool). truth_of op p.0 p.1) in
     ap length is ∙ mapped ∙ omega (arith, length-zip left right)
-
-pub same_flags : (left right : StateSet) → true ≡ pointwise beq left right → left ≡ right
-same_flags left right test = (slice_eq-Decides booleans_Decides left right true test).0 refl

@@ -10,6 +10,7 @@ use Rattle.std.specs.List.{list_any}
 use Rattle.std.proofs.lemmas.Bool.{and_from, and_parts, cases_Bool, cases_lt, cond-true, cond-false}
 use Rattle.std.proofs.lemmas.Slice.Eq.{bytes_eq-Decides}
 use Rattle.ml_text.specs.declared.token.Operator.TheVariants.{Iff, Implies, Or, And}
+use Rattle.ml_text.proofs.NameLists.{same_name}
 use Rattle.ml_mu.specs.Formula.{Formula, Fixpoint, Const, Prop, Var, Not, Binary, Modal, Binder}
 use Rattle.ml_mu.specs.Variables.{is_bound, occurs_only, is_positive}
 use Rattle.ml_mu.specs.VariableFaults.{Standing, Fine, Unbound, NotPositive, Around, standing_of, standings_in, standings, are_fine}
@@ -42,9 +43,6 @@ found_innermost (a ∷ bs) x is =
     let later = found_innermost bs x (sym (ap (λ v. v || list_any (λ y. bytes_eq y x) (names bs)) other) ∙ is) in
     (later.0, cond-false (bytes_eq a.name x) (Some a) (innermost bs x) other ∙ later.1))
     (cases_Bool (bytes_eq a.name x))
-
-same_name : (x : List ℕ) → bytes_eq x x ≡ true
-same_name x = (bytes_eq-Decides x x).1 refl
 
 variable_fine : (bs : List Around) (n i : ℕ) (x : List ℕ)
     → AreAround bs n i

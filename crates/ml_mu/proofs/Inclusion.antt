@@ -7,12 +7,14 @@
 --   within_not         == complements turn inclusion round
 --   within_where       == so do the states that pass one test lie within those that pass a weaker one
 --   truth_implied      == a truth value implies another
-use Rattle.std.proofs.Common.{◌≡◌, ℕ, ◌<◌, ◌≤◌, Bool, true, false, not, length, map, replicate, get_or, refl, sym, ap, ◌∙◌, ⊎_elim, arith}
+use Rattle.std.proofs.Common.{◌≡◌, ℕ, ◌<◌, Bool, true, false, not, length, map, replicate, get_or, refl, sym, ap, ◌∙◌, arith}
 use Rattle.std.specs.List.{range_with_len}
-use Rattle.std.proofs.lemmas.Bool.{cases_lt, true≢false}
-use Rattle.std.proofs.lemmas.List.{length-map, length-replicate, get_or-map, get_or-replicate, get_or_past, get_or_default, same_lists}
+use Rattle.std.proofs.lemmas.Bool.{true≢false}
+use Rattle.std.proofs.lemmas.List.{length-map, length-replicate, get_or-map, get_or-replicate, get_or_default, same_lists}
 use Rattle.std.proofs.lemmas.List.FromFn.{length-map-range_with_len, get_or-map-range_with_len}
+use Rattle.ml_lists.proofs.Says.{same_truth}
 use Rattle.ml_base.specs.Structure.{StateSet, is_member}
+use Rattle.ml_base.proofs.StateSets.{member_below}
 
 abbrev pub Implies : Bool → Bool → Type 0
 Implies a b = a ≡ true → b ≡ true
@@ -20,11 +22,6 @@ Implies a b = a ≡ true → b ≡ true
 -- each member of the one set is one of the other
 abbrev pub Within : StateSet → StateSet → Type 0
 Within s t = (k : ℕ) → Implies (is_member s k) (is_member t k)
-
-same_truth : (a b : Bool) → Implies a b → Implies b a → a ≡ b
-same_truth true b there back = sym (there refl)
-same_truth false true there back = back refl
-same_truth false false there back = refl
 
 pub implies_not : (a b : Bool) → Implies a b → Implies (not b) (not a)
 implies_not true b there h = absurd (true≢false (sym h ∙ ap not (there refl)))
@@ -36,14 +33,6 @@ within_both s t long there back =
     (λ k d below.
     get_or_default s k d false below ∙ same_truth (get_or s k false) (get_or t k false) (there k) (back k)
     ∙ get_or_default t k false d (omega (arith, long)))
-
--- a member is one of the flags
-pub member_below : (s : StateSet) (k : ℕ) → is_member s k ≡ true → k < length s
-member_below s k inside =
-    ⊎_elim
-    (λ (below : k < length s). below)
-    (λ (past : length s ≤ k). absurd (true≢false (sym inside ∙ get_or_past s k false past)))
-    (cases_lt k (length s))
 
 pub nowhere_within : (n : ℕ) (t : StateSet) → Within (replicate n false) t
 nowhere_within n t k inside =

@@ -34,3 +34,5 @@ pub mod Fixpoints
 pub mod CanonicalLimits
 -- canonical texts are parsed
 pub mod CanonicalParsed
+-- each formula has an occurrence
+pub mod SomeOccurrence

@@ -13,7 +13,8 @@ use Rattle.ml_text.proofs.OneAnswer.{refused_once, accepted_not_refused}
 use Rattle.ml_mu.specs.Canonical.{canonical_text}
 use Rattle.ml_mu.specs.Formula.{Formula}
 use Rattle.ml_mu.specs.Grammar.{IsReadAs}
-use Rattle.ml_mu.specs.Parsing.{CanonicalStandsForOne, IsParsedAs, IsRefusedBy, ComesFirst, HasFault}
+use Rattle.ml_mu.specs.Parsing.{IsParsedAs, IsRefusedBy, ComesFirst, HasFault}
+use Rattle.ml_mu.specs.ParsingLaws.{CanonicalStandsForOne}
 use Rattle.ml_mu.specs.private.Tables.{mu_grammar}
 use Rattle.ml_mu.specs.Text.{IsTextOf, items, variable_places}
 use Rattle.ml_mu.specs.VariableFaults.{Standing, Fine, Unbound, NotPositive, standings, fault_at, are_fine}

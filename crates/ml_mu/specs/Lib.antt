@@ -24,5 +24,7 @@ pub mod Text
 pub mod VariableFaults
 -- what is parsed, and what is refused
 pub mod Parsing
+-- laws of canonical texts and of what is parsed
+pub mod ParsingLaws
 -- what private contracts cite
 pub mod private

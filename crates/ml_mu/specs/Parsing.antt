@@ -5,19 +5,14 @@
 --
 --   IsParsedAs text f   == the text is one of f, keeps the limits, and no variable is at fault
 --   IsRefusedBy text e  == the text is refused with this answer
---   CanonicalStandsForOne, ParsedAreWellFormed, CanonicalIsParsed == the laws of these notions, beside those of
---   `ml_text/specs/Answers`
-use Rattle.std.specs.Prelude.{ℕ, ◌≡◌, List, length, Some, true, IsTrue}
+use Rattle.std.specs.Prelude.{ℕ, ◌≡◌, List, length, Some, true}
 use Rattle.ml_base.specs.declared.parse_refusal.ParseRefusal.{ParseRefusal}
 use Rattle.ml_base.specs.declared.parse_refusal.ParseRefusal.TheVariants as refusal
 use Rattle.ml_text.specs.Refusals as cause
 use Rattle.ml_text.specs.Refusals.{Cause, IsAccepted}
-use Rattle.ml_mu.specs.Canonical.{canonical_text}
 use Rattle.ml_mu.specs.Formula.{Formula}
 use Rattle.ml_mu.specs.Grammar.{IsReadAs}
-use Rattle.ml_mu.specs.Spelling.{is_spelled}
-use Rattle.ml_mu.specs.Text.{IsTextOf, items, variable_places}
-use Rattle.ml_mu.specs.WellFormed.{IsWellFormed}
+use Rattle.ml_mu.specs.Text.{items, variable_places}
 use Rattle.ml_mu.specs.VariableFaults.{Standing, Unbound, NotPositive, standings, fault_at, are_fine}
 
 pub record IsParsedAs (text : List ℕ) (f : Formula) : Type 0 where
@@ -36,17 +31,3 @@ abbrev pub IsRefusedBy : List ℕ → ParseRefusal → Type 0
 IsRefusedBy text (refusal.Unbound at) = HasFault text Unbound at
 IsRefusedBy text (refusal.NotPositive at) = HasFault text NotPositive at
 IsRefusedBy text e = cause.IsRefusedBy IsReadAs (items text) (length text) e
-
--- ---- laws
-
--- the canonical text of a formula whose names are spelled as they must be stands for it, and for no other
-abbrev pub CanonicalStandsForOne : Type 0
-CanonicalStandsForOne = (f g : Formula) → IsTrue (is_spelled f) → IsTextOf (canonical_text f) f × (IsTextOf (canonical_text f) g → g ≡ f)
-
--- the formulas that are parsed are well formed
-abbrev pub ParsedAreWellFormed : Type 0
-ParsedAreWellFormed = (text : List ℕ) (f : Formula) → IsParsedAs text f → IsWellFormed f
-
--- the canonical text of a well-formed formula is parsed as it
-abbrev pub CanonicalIsParsed : Type 0
-CanonicalIsParsed = (f : Formula) → IsWellFormed f → IsParsedAs (canonical_text f) f

@@ -6,7 +6,8 @@ ghost use Rattle.ml_text.specs.Answers.{HaveOneAnswer, IsUnambiguous};
 ghost use Rattle.ml_mu.specs.Formula.{Formula, Binder, Fixpoint, Least, Greatest};
 ghost use Rattle.ml_mu.specs.Meaning.{Given, HaveFlags, meaning};
 ghost use Rattle.ml_mu.specs.Variables.{is_positive};
-ghost use Rattle.ml_mu.specs.Parsing.{CanonicalIsParsed, CanonicalStandsForOne, IsParsedAs, IsRefusedBy, ParsedAreWellFormed};
+ghost use Rattle.ml_mu.specs.Parsing.{IsParsedAs, IsRefusedBy};
+ghost use Rattle.ml_mu.specs.ParsingLaws.{CanonicalIsParsed, CanonicalStandsForOne, ParsedAreWellFormed};
 ghost use Rattle.ml_mu.specs.Text.{IsTextOf};
 
 /// A text stands for one formula at most, by the grammar alone.

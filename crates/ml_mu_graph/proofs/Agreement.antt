@@ -3,7 +3,8 @@
 --   agree           == at each occurrence that stands in a graph whose binders around are cut open
 --   agreement       == of a whole formula: its graph holds at a state exactly where the problem does
 --   graphs_agree    == so graphs agree with formulas
-use Rattle.std.proofs.Common.{◌≡◌, ◌↔◌, ℕ, ◌+◌, ◌*◌, ◌<◌, Bool, true, false, not, [], ◌∷◌, refl, sym, subst, arith}
+use Rattle.std.proofs.Common.{◌≡◌, ◌↔◌, ℕ, ◌+◌, ◌*◌, ◌<◌, Bool, true, false, [], ◌∷◌, refl, sym, subst, arith}
+use Rattle.std.proofs.lemmas.Bool.{not-true, not_from_false}
 use Rattle.ml_base.specs.Structure.{Structure, IsStructure, is_member}
 use Rattle.ml_graph.specs.Graph.{Graph}
 use Rattle.ml_graph.specs.CheckingGame.{HoldsAt, Holds}
@@ -68,17 +69,13 @@ module _ (f : Formula) (g : Graph) (m : Structure) (m_ok : IsStructure m) (bound
     outside = tt;
   })
 
-  not_true : (b : Bool) → (not b ≡ true) ↔ (b ≡ false)
-  not_true true = (λ e. sym e, λ e. sym e)
-  not_true false = (λ e. refl, λ e. refl)
-
   pub agreement : (negated : Bool) → IsGraphOf g f negated → (s : ℕ) → s < m.states
       → Holds g m s ↔ problem.HoldsAt m s (record { formula = f; negated = negated })
   agreement false is s low = subst (λ n. HoldsAt g m s n ↔ (is_member (meaning m [] f) s ≡ true)) (sym is.root_is) ((whole false is).holds s low)
   agreement true is s low =
       let says = (whole true is).fails s low in
-      let turn = not_true (is_member (meaning m [] f) s) in
-      subst (λ n. HoldsAt g m s n ↔ (is_member (meaning m [] f) s ≡ false)) (sym is.root_is) (λ h. turn.0 (says.0 h), λ e. says.1 (turn.1 e))
+      let now = is_member (meaning m [] f) s in
+      subst (λ n. HoldsAt g m s n ↔ (is_member (meaning m [] f) s ≡ false)) (sym is.root_is) (λ h. not-true now (says.0 h), λ e. says.1 (not_from_false now e))
 
 pub graphs_agree : GraphsAgree
 graphs_agree f negated g bound positives is m m_ok s low = agreement f g m m_ok bound positives negated is s low

@@ -23,7 +23,8 @@ use Rattle.ml_parity.specs.Winner.{Wins}
 use Rattle.ml_parity.proofs.Opponents.{same_player, same_player-true, same_player-from_true}
 use Rattle.ml_parity.proofs.Winners.{Winners, winners, won, won_by_either, clash}
 use Rattle.ml_mu.proofs.Fixpoints.{meaning_fixpoint, least_within, greatest_around}
-use Rattle.ml_mu.proofs.Inclusion.{Within, member_below}
+use Rattle.ml_base.proofs.StateSets.{member_below}
+use Rattle.ml_mu.proofs.Inclusion.{Within}
 use Rattle.ml_graph.specs.Graph.{Graph, IsGraph, size, node_at, priority_at, prop_at}
 use Rattle.ml_graph.specs.CheckingGame.{Vertex, Pair, Sink, vertex_number, owner_at, mover, successors, successors_of, vertices, checking_game, HoldsAt}
 use Rattle.ml_graph.specs.declared.node.Node.{Node}
@@ -41,8 +42,9 @@ use Rattle.ml_mu.proofs.MeaningFlags.{meaning_flags}
 use Rattle.ml_nodes.specs.Nodes.{positive, negative}
 use Rattle.ml_mu_graph.specs.MuGraph.{Around, binder_priority, opposite}
 use Rattle.ml_mu_graph.proofs.Told.{node_of}
-use Rattle.ml_mu_graph.proofs.Values.{Says}
-use Rattle.ml_mu_graph.proofs.Situations.{Situation, Agree, member_where}
+use Rattle.ml_lists.proofs.Says.{Says}
+use Rattle.ml_base.proofs.StateSets.{member_where}
+use Rattle.ml_mu_graph.proofs.Situations.{Situation, Agree}
 use Rattle.ml_mu_graph.proofs.Recurring.{Region, IsInside, IsEnded, is_inside, is_outer, is_sink, inside_vertex, ended_vertex, at_inside, not_ended, game_moves, region_stays, recurs}
 use Rattle.ml_fixpoints.proofs.LeastSets.{least_of}
 use Rattle.ml_mu_graph.proofs.Recurring.{outer_low}
@@ -56,7 +58,7 @@ use Rattle.ml_lists.specs.Member.{IsMember}
 use Rattle.std.proofs.Common.{◌%◌, eqb}
 use Rattle.std.proofs.lemmas.Bool.{cond-true, cond-false}
 use Rattle.std.proofs.lemmas.Bool.Decides.{nat_tests}
-use Rattle.ml_mu_graph.proofs.FreeVariables.{some_occurrence}
+use Rattle.ml_mu.proofs.SomeOccurrence.{some_occurrence}
 
 abbrev pub player_of : Bool → Player
 player_of true = Even

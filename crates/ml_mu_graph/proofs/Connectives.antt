@@ -5,6 +5,7 @@ use Rattle.std.proofs.Common.{◌≡◌, ℕ, ◌+◌, ◌<◌, ◌==◌, Bool, 
 use Rattle.std.specs.List.{list_any, list_all}
 use Rattle.std.specs.Str.{bytes_eq}
 use Rattle.std.proofs.lemmas.Bool.{and_parts}
+use Rattle.ml_lists.proofs.Says.{says_same, not-and, not-or, iff_is}
 use Rattle.ml_base.specs.declared.structure.Edge.{Edge}
 use Rattle.ml_base.specs.Structure.{Structure, lists, is_member}
 use Rattle.ml_graph.specs.Graph.{Graph}
@@ -21,31 +22,17 @@ use Rattle.ml_mu.proofs.MeaningFlags.{meaning_flags}
 use Rattle.ml_nodes.specs.Nodes.{positive, negative}
 use Rattle.ml_mu_graph.specs.MuGraph.{Around, binder_of}
 use Rattle.ml_mu_graph.proofs.Told.{names}
-use Rattle.ml_mu_graph.proofs.Values.{says_same, says_constant, says_literal, says_negative, says_leads, says_and, says_or, says_diamond, says_square}
-use Rattle.ml_mu_graph.proofs.Situations.{Situation, Agree, member_where, member_not, told_of, part}
+use Rattle.ml_mu_graph.proofs.Values.{says_constant, says_literal, says_negative, says_leads, says_and, says_or, says_diamond, says_square}
+use Rattle.ml_base.proofs.StateSets.{member_where}
+use Rattle.ml_mu_graph.proofs.Situations.{Situation, Agree, member_not, told_of, part}
 
 not_not : (b : Bool) → not (not b) ≡ b
 not_not true = refl
 not_not false = refl
 
--- de Morgan's laws
-not_and : (a b : Bool) → (not a || not b) ≡ not (a && b)
-not_and true b = refl
-not_and false b = refl
-
-not_or : (a b : Bool) → (not a && not b) ≡ not (a || b)
-not_or true b = refl
-not_or false b = refl
-
 not_implies : (a b : Bool) → (a && not b) ≡ not (not a || b)
 not_implies true b = refl
 not_implies false b = refl
-
-iff_is : (a b : Bool) → ((a && b) || (not a && not b)) ≡ ((not a || b) && (not b || a))
-iff_is true true = refl
-iff_is true false = refl
-iff_is false true = refl
-iff_is false false = refl
 
 not_iff : (a b : Bool) → ((a && not b) || (not a && b)) ≡ not ((not a || b) && (not b || a))
 not_iff true true = refl
@@ -58,9 +45,9 @@ not_some : (t v : Edge → Bool) (es : List Edge)
     → list_all (λ e. not (t e) || not (v e)) es ≡ not (list_any (λ e. t e && v e) es)
 not_some t v [] = refl
 not_some t v (e ∷ es) =
-    ap (λ b. b && list_all (λ d. not (t d) || not (v d)) es) (not_and (t e) (v e))
+    ap (λ b. b && list_all (λ d. not (t d) || not (v d)) es) (not-and (t e) (v e))
     ∙ ap (λ b. not (t e && v e) && b) (not_some t v es)
-    ∙ not_or (t e && v e) (list_any (λ d. t d && v d) es)
+    ∙ not-or (t e && v e) (list_any (λ d. t d && v d) es)
 
 not_every : (t v : Edge → Bool) (es : List Edge)
     → list_any (λ e. t e && not (v e)) es ≡ not (list_all (λ e. not (t e) || v e) es)
@@ -68,7 +55,7 @@ not_every t v [] = refl
 not_every t v (e ∷ es) =
     ap (λ b. b || list_any (λ d. t d && not (v d)) es) (not_implies (t e) (v e))
     ∙ ap (λ b. not (not (t e) || v e) || b) (not_every t v es)
-    ∙ not_and (not (t e) || v e) (list_all (λ d. not (t d) || v d) es)
+    ∙ not-and (not (t e) || v e) (list_all (λ d. not (t d) || v d) es)
 
 module _ (m0 : Structure) (gs : Given) (g : Graph) (m : Structure) (k : ℕ) (bs : Around) (i : ℕ) where
   pub agree_const : (b : Bool) → Situation m0 gs (Const b) g m k bs i → Agree m0 gs (Const b) g m i
@@ -171,7 +158,7 @@ module _ (m0 : Structure) (gs : Given) (g : Graph) (m : Structure) (k : ℕ) (bs
         _ a b w.stands.0.0.0 (x.holds s low) (y.holds s low));
     fails = λ s low.
         let a : Bool = is_member (meaning m0 gs f) s in let b : Bool = is_member (meaning m0 gs h) s in
-        says_same (HoldsAt g m s (negative i)) (not a || not b) _ (not_and a b ∙ sym (ap not (member_where m0 _ s low)))
+        says_same (HoldsAt g m s (negative i)) (not a || not b) _ (not-and a b ∙ sym (ap not (member_where m0 _ s low)))
         (says_or g m w.is_graph w.is_structure s (negative i) (omega (arith, w.same_states)) (omega (arith, w.room)) _
         _ (not a) (not b) w.stands.0.1.0 (x.fails s low) (y.fails s low));
   }
@@ -183,7 +170,7 @@ module _ (m0 : Structure) (gs : Given) (g : Graph) (m : Structure) (k : ℕ) (bs
         _ a b w.stands.0.0.0 (x.holds s low) (y.holds s low));
     fails = λ s low.
         let a : Bool = is_member (meaning m0 gs f) s in let b : Bool = is_member (meaning m0 gs h) s in
-        says_same (HoldsAt g m s (negative i)) (not a && not b) _ (not_or a b ∙ sym (ap not (member_where m0 _ s low)))
+        says_same (HoldsAt g m s (negative i)) (not a && not b) _ (not-or a b ∙ sym (ap not (member_where m0 _ s low)))
         (says_and g m w.is_graph w.is_structure s (negative i) (omega (arith, w.same_states)) (omega (arith, w.room)) _
         _ (not a) (not b) w.stands.0.1.0 (x.fails s low) (y.fails s low));
   }

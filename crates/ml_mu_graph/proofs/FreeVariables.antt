@@ -1,12 +1,12 @@
 -- Free variables of a formula are bound around it.
 --
 --   free_bound == a variable that occurs free in a formula has a binder around, where every variable has one
-use Rattle.std.proofs.Common.{◌≡◌, ℕ, ◌≤◌, arith, Bool, true, false, ◌||◌, not, List, ◌∷◌, inl, inr, sym, ap, subst, ◌∙◌}
+use Rattle.std.proofs.Common.{◌≡◌, ℕ, Bool, true, false, ◌||◌, not, List, ◌∷◌, inl, inr, sym, ap, subst, ◌∙◌}
 use Rattle.std.specs.List.{list_any}
 use Rattle.std.specs.Str.{bytes_eq}
 use Rattle.std.proofs.lemmas.Bool.{and_parts}
 use Rattle.ml_text.specs.declared.token.Operator.TheVariants as operator
-use Rattle.ml_mu.specs.Formula.{Formula, Const, Prop, Var, Not, Binary, Modal, Binder, occurrences}
+use Rattle.ml_mu.specs.Formula.{Formula, Const, Prop, Var, Not, Binary, Modal, Binder}
 use Rattle.ml_mu.specs.Variables.{is_bound}
 use Rattle.ml_mu_graph.proofs.Told.{FreeAt}
 
@@ -29,13 +29,3 @@ free_bound (Binary operator.Iff f g) xs e y c bound (inr (inr h)) = free_bound g
 free_bound (Modal m a f) xs e y c bound h = free_bound f xs e y c bound h
 free_bound (Binder q x f) xs e y c bound h =
     sym (ap (λ d. d || list_any (λ z. bytes_eq z y) xs) h.0) ∙ free_bound f (x ∷ xs) e y c bound h.1
-
--- a formula has some occurrence
-pub some_occurrence : (f : Formula) → 1 ≤ occurrences f
-some_occurrence (Const b) = omega arith
-some_occurrence (Prop p) = omega arith
-some_occurrence (Var x) = omega arith
-some_occurrence (Not f) = omega arith
-some_occurrence (Binary op f g) = let one = some_occurrence f in omega arith
-some_occurrence (Modal m a f) = omega arith
-some_occurrence (Binder q x f) = omega arith

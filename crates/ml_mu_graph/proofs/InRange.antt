@@ -20,7 +20,8 @@ use Rattle.ml_nodes.specs.private.Connectives.{operator_nodes}
 use Rattle.ml_nodes.proofs.InRange.{AllFit, both_fit, constant_fits, Fits, fitting_graph, led_fit, none_twice, one, operator_fits, two}
 use Rattle.ml_mu_graph.specs.private.NodeList.{bound, nodes_of, priorities_of, props_onto, actions_onto}
 use Rattle.ml_mu_graph.specs.private.Views.{none_around}
-use Rattle.ml_mu_graph.proofs.NodeLists.{length-nodes, length-priorities, one_symbol}
+use Rattle.ml_mu.proofs.SomeOccurrence.{some_occurrence}
+use Rattle.ml_mu_graph.proofs.NodeLists.{length-nodes, length-priorities}
 
 module _ (n : ℕ) (ps acts : List (List ℕ)) where
   modality_fits : (m : Modality) (a t : ℕ) → a < length acts → t < n → Fits n ps acts (modality m a t)
@@ -52,7 +53,7 @@ module _ (n : ℕ) (ps acts : List (List ℕ)) where
       let low = around x in
       led_fit n ps acts (positive (b x)) (negative (b x)) [] (omega (arith, low)) (omega (arith, low)) tt
   nodes_fit b i (Not f) among room around =
-      let some = one_symbol f in
+      let some = some_occurrence f in
       led_fit n ps acts (negative (i + 1)) (positive (i + 1)) (nodes_of ps acts b (i + 1) f)
       (omega (arith, room, some)) (omega (arith, room, some))
       (nodes_fit b (i + 1) f among (omega (arith, room)) around)
@@ -60,14 +61,14 @@ module _ (n : ℕ) (ps acts : List (List ℕ)) where
       let parts = among_parts ps acts (names f) (names h) among in
       let l = i + weight op in
       let r = l + occurrences f in
-      let left = one_symbol f in
-      let right = one_symbol h in
+      let left = some_occurrence f in
+      let right = some_occurrence h in
       both_fit n ps acts (operator_nodes op i l r) (nodes_of ps acts b l f ++ nodes_of ps acts b r h)
       (operator_fits n ps acts op i l r (omega (arith, room)) (omega (arith, room, left, right)) (omega (arith, room, left, right)))
       (both_fit n ps acts (nodes_of ps acts b l f) (nodes_of ps acts b r h) (nodes_fit b l f parts.0 (omega (arith, room)) around)
       (nodes_fit b r h parts.1 (omega (arith, room)) around))
   nodes_fit b i (Modal m a f) among room around =
-      let some = one_symbol f in
+      let some = some_occurrence f in
       let known = (place_found acts a among.1.0).below in (
         modality_fits m (place_of acts a) (positive (i + 1)) known (omega (arith, room, some)),
         (
@@ -76,7 +77,7 @@ module _ (n : ℕ) (ps acts : List (List ℕ)) where
         ),
       )
   nodes_fit b i (Binder q x f) among room around =
-      let some = one_symbol f in
+      let some = some_occurrence f in
       led_fit n ps acts (positive (i + 1)) (negative (i + 1)) (nodes_of ps acts (bound x i b) (i + 1) f)
       (omega (arith, room, some)) (omega (arith, room, some))
       (nodes_fit (bound x i b) (i + 1) f among (omega (arith, room))
@@ -92,7 +93,7 @@ pub lists_make_graph : (g : Graph) (f : Formula) (negated : Bool)
 lists_make_graph g f negated props actions nodes priorities root =
     let n = size g in
     let long : n ≡ 2 * occurrences f = ap length nodes ∙ length-nodes g.props g.actions none_around 0 f in
-    let some = one_symbol f in
+    let some = some_occurrence f in
     let among = names_among (names f) props actions in
     let fit =
     nodes_fit n g.props g.actions none_around 0 f among (omega (arith, long)) (λ x. omega (arith, long, some)) in

@@ -2,7 +2,7 @@
 --
 --   length-nodes, length-priorities == two for each occurrence
 --   stands            == the nodes and priorities of a formula say what stands there
-use Rattle.std.proofs.Common.{◌≡◌, ℕ, ◌+◌, ◌*◌, ◌/◌, ◌≤◌, List, [], ◌∷◌, ◌++◌, length, refl, sym, ◌∙◌, ap, subst, arith, length-append, append_assoc, take, drop}
+use Rattle.std.proofs.Common.{◌≡◌, ℕ, ◌+◌, ◌*◌, ◌/◌, List, [], ◌∷◌, ◌++◌, length, refl, sym, ◌∙◌, ap, subst, arith, length-append, append_assoc, take, drop}
 use Rattle.std.proofs.Math.Seq.{take-append_seam, drop-append_seam}
 use Rattle.ml_graph.specs.Graph.{Graph}
 use Rattle.ml_graph.specs.declared.node.Node.{Node}
@@ -167,12 +167,3 @@ pub second_number : (op : Operator) (at : ℕ) (f : Formula) (after slice : List
     → second ≡ length slice / 2
     → second ≡ at + weight op + occurrences f
 second_number op at f after slice second size is half = omega (arith, size, ap length is, half)
-
-pub one_symbol : (f : Formula) → 1 ≤ occurrences f
-one_symbol (Const b) = omega arith
-one_symbol (Prop p) = omega arith
-one_symbol (Var x) = omega arith
-one_symbol (Not f) = omega arith
-one_symbol (Binary op f h) = omega (arith, one_symbol f)
-one_symbol (Modal m a f) = omega arith
-one_symbol (Binder q x f) = omega arith

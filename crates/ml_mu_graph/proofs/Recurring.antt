@@ -15,19 +15,19 @@ use Rattle.std.specs.Bool.{beq}
 use Rattle.std.proofs.lemmas.Bool.{false≢true}
 use Rattle.ml_lists.specs.Lasso.{Lasso, entry, round}
 use Rattle.ml_lists.specs.Member.{IsMember}
-use Rattle.ml_lists.proofs.Lasso.{round-entry, on_loop, loop_length, loop_closed, lowest_on_loop_is}
+use Rattle.ml_lists.proofs.Lasso.{on_loop, loop_length, loop_closed, lowest_on_loop_is, on_loop-entry}
 use Rattle.ml_lists.proofs.Loops.{around}
-use Rattle.ml_lists.proofs.Member.{Image, member-map_from, member-filter_from, All-member}
+use Rattle.ml_lists.proofs.Member.{Image, member-map_from}
 use Rattle.ml_lists.proofs.Members.{member_of_contains}
 use Rattle.ml_base.specs.Structure.{Structure, IsStructure, lists}
 use Rattle.ml_parity.specs.Game.{HasMove, priority_of}
 use Rattle.ml_parity.specs.Winner.{IsPlay, winner}
 use Rattle.ml_parity.specs.Player.{side}
 use Rattle.ml_graph.specs.Graph.{Graph, node_at, priority_at, prop_at, action_at}
-use Rattle.ml_graph.specs.CheckingGame.{Vertex, Pair, Sink, vertex_number, successors, successors_of, pairs_or_sink, targets, vertices, checking_game}
+use Rattle.ml_graph.specs.CheckingGame.{Vertex, Pair, Sink, vertex_number, successors, successors_of, pairs_or_sink, targets, checking_game}
 use Rattle.ml_graph.specs.declared.node.Node.{Node}
 use Rattle.ml_graph.specs.declared.node.Node.TheVariants as node
-use Rattle.ml_graph.proofs.CheckingGame.{IsVertex, vertex_at, priority_is, moves_are}
+use Rattle.ml_graph.proofs.CheckingGame.{IsVertex, priority_is, moves_are, target_is_state, same_vertex}
 use Rattle.ml_mu.specs.Formula.{Formula, Binder}
 use Rattle.ml_mu.specs.declared.term.Fixpoint.{Fixpoint}
 use Rattle.ml_mu.specs.declared.term.Fixpoint.TheVariants.{Least, Greatest}
@@ -107,13 +107,6 @@ verdict_low : (c : Bool) → (if c then 0 else 1) < 2
 verdict_low true = omega arith
 verdict_low false = omega arith
 
-target_low : (m : Structure) → IsStructure m → (s : ℕ) (a : List ℕ) (t : ℕ) → IsMember t (targets m s a) → t < m.states
-target_low m ok s a t h =
-    let image = member-map_from (λ d. d.target) t _ h in
-    let kept = member-filter_from _ image.from m.edges image.member in
-    let low = (All-member (λ d. (d.source < m.states) × (d.target < m.states)) m.edges ok.joins_states image.from kept.0).1 in
-    subst (λ n. n < m.states) (sym image.holds) low
-
 of_pairs : (m : Structure) (x : Node) (to p : ℕ) (ts : List ℕ)
     → IsChild x to
     → p < 2
@@ -138,9 +131,9 @@ leads_to g m ok s low (node.Lit p sign) u h = inr (one_sink _ (verdict_low (beq 
 leads_to g m ok s low (node.And l r) u h = two_children m (node.And l r) s l r low (inl refl) (inr refl) u h
 leads_to g m ok s low (node.Or l r) u h = two_children m (node.Or l r) s l r low (inl refl) (inr refl) u h
 leads_to g m ok s low (node.Diamond a to) u h =
-    of_pairs m (node.Diamond a to) to 1 (targets m s (action_at g a)) refl (omega arith) (target_low m ok s (action_at g a)) u h
+    of_pairs m (node.Diamond a to) to 1 (targets m s (action_at g a)) refl (omega arith) (target_is_state m ok s (action_at g a)) u h
 leads_to g m ok s low (node.Square a to) u h =
-    of_pairs m (node.Square a to) to 0 (targets m s (action_at g a)) refl (omega arith) (target_low m ok s (action_at g a)) u h
+    of_pairs m (node.Square a to) to 0 (targets m s (action_at g a)) refl (omega arith) (target_is_state m ok s (action_at g a)) u h
 
 module _ (m0 : Structure) (gs : Given) (q : Fixpoint) (x : List ℕ) (f : Formula) (g : Graph) (m : Structure) (k : ℕ) (bs : Around) (b : ℕ)
     (w : Situation m0 gs (Binder q x f) g m k bs b) (e : Bool) where
@@ -234,10 +227,6 @@ module _ (m0 : Structure) (gs : Given) (q : Fixpoint) (x : List ℕ) (f : Formul
   region_stays v y (inl i) move = stays v y i move
   region_stays v y (inr i) move = inr (ends_stay v y i move)
 
-  -- vertices with one number are one
-  same_vertex : (u v : Vertex) → IsVertex g m u → IsVertex g m v → number u ≡ number v → u ≡ v
-  same_vertex u v u_is v_is same = sym (vertex_at g m u u_is) ∙ ap (λ n. get_or (vertices g m) n (Sink 0)) same ∙ vertex_at g m v v_is
-
   abbrev pub own : ℕ
   own = node_of e b
 
@@ -268,13 +257,13 @@ module _ (m0 : Structure) (gs : Given) (q : Fixpoint) (x : List ℕ) (f : Formul
       from : (u : Vertex) → at s ≡ number u → IsEnded u → ⊥
       from u same (is_outer t n t_low h) =
           let one =
-          same_vertex (Pair s own) (Pair t n) (inside_vertex (Pair s own) (at_inside s low))
+          same_vertex g m (Pair s own) (Pair t n) (inside_vertex (Pair s own) (at_inside s low))
           (ended_vertex (Pair t n) (is_outer t n t_low h)) same
           in
           let nodes = ap node_of_vertex one in
           omega (arith, nodes, own_high, outer_low b bs n w.outside h)
       from u same (is_sink p p_low) =
-          let one = same_vertex (Pair s own) (Sink p) (inside_vertex (Pair s own) (at_inside s low)) p_low same in
+          let one = same_vertex g m (Pair s own) (Sink p) (inside_vertex (Pair s own) (at_inside s low)) p_low same in
           absurd (false≢true (sym (ap is_pair one)))
 
   -- the priority of the binder's node
@@ -326,18 +315,15 @@ module _ (m0 : Structure) (gs : Given) (q : Fixpoint) (x : List ℕ) (f : Formul
       place : ℕ
       place = j - l.start
 
-      there : (i : ℕ) → l.start ≤ i → i < length l.entries → on_loop l (i - l.start) ≡ entry l i
-      there i i_late i_low = let same : l.start + (i - l.start) ≡ i = omega arith in ap (λ n. get_or (round l) n 0) same ∙ round-entry l i i_low
-
       everywhere : (i : ℕ) → i ≤ loop_length l → Region (on_loop l i)
       everywhere =
           around (on_loop l) Region (loop_length l) (loop_closed l play.starts)
           (λ i i_low r. region_stays (on_loop l i) (on_loop l (i + 1)) r (joined i i_low))
-          (j - l.start) (omega (arith, late, low)) (subst Region (sym (there j late low ∙ here)) (inl (Pair s own, (refl, at_inside s s_low))))
+          (j - l.start) (omega (arith, late, low)) (subst Region (sym (on_loop-entry l j late low ∙ here)) (inl (Pair s own, (refl, at_inside s s_low))))
 
       never_ended : (i : ℕ) → i ≤ loop_length l → Ended (on_loop l i) → ⊥
       never_ended i i_low ended =
-          not_ended s s_low (subst Ended (there j late low ∙ here)
+          not_ended s s_low (subst Ended (on_loop-entry l j late low ∙ here)
           (around (on_loop l) Ended (loop_length l) (loop_closed l play.starts)
           (λ n n_low r. ends_stay (on_loop l n) (on_loop l (n + 1)) r (joined n n_low)) i i_low ended (j - l.start)
           (omega (arith, late, low))))
@@ -356,5 +342,5 @@ module _ (m0 : Structure) (gs : Given) (q : Fixpoint) (x : List ℕ) (f : Formul
       least i i_late i_low =
           let within : i - l.start ≤ loop_length l = omega (arith, i_late, i_low) in
           let high = high_at (on_loop l (i - l.start)) (everywhere (i - l.start) within) (never_ended (i - l.start) within) in
-          let same = ap (priority_of (checking_game g m)) (there i i_late i_low) in
+          let same = ap (priority_of (checking_game g m)) (on_loop-entry l i i_late i_low) in
           omega (arith, high, same, at_priority)

@@ -5,14 +5,13 @@
 --                         the sets gs in the structure m; m has the states and edges of m0, and its propositions of f
 --   Agree m0 gs f g m i == at each state, the two nodes of the occurrence hold as the meaning of f says
 --   told_of            == a bound variable is told its given set
---   member_where, member_not == members of sets that are computed
+--   member_not == members of the complement of a set
 use Rattle.std.proofs.Common.{◌≡◌, ℕ, ◌+◌, ◌*◌, ◌<◌, ◌≤◌, Bool, true, false, ◌||◌, not, List, [], ◌∷◌, length, map, if◌then◌else◌, refl, sym, ap, subst, ◌∙◌, arith}
 use Rattle.std.specs.List.{list_any}
 use Rattle.std.specs.Str.{bytes_eq}
 use Rattle.std.proofs.lemmas.Bool.{false≢true}
 use Rattle.std.proofs.lemmas.List.{get_or-map}
-use Rattle.std.proofs.lemmas.List.FromFn.{get_or-map-range_with_len}
-use Rattle.ml_base.specs.Structure.{Structure, IsStructure, StateSet, lists, is_member, states_where}
+use Rattle.ml_base.specs.Structure.{Structure, IsStructure, StateSet, lists, is_member}
 use Rattle.ml_graph.specs.Graph.{Graph, IsGraph, size}
 use Rattle.ml_graph.specs.CheckingGame.{HoldsAt}
 use Rattle.ml_mu.specs.Formula.{Formula, Const, Prop, Var, Not, Binary, Modal, Binder, occurrences}
@@ -21,7 +20,7 @@ use Rattle.ml_mu.specs.Variables.{is_bound, is_positive}
 use Rattle.ml_nodes.specs.Nodes.{positive, negative}
 use Rattle.ml_mu_graph.specs.MuGraph.{binders, Around, binder_of, StandsAt}
 use Rattle.ml_mu_graph.proofs.Told.{names, IsTold, AreTold, AreOutside}
-use Rattle.ml_mu_graph.proofs.Values.{Says}
+use Rattle.ml_lists.proofs.Says.{Says}
 
 abbrev pub PropsAgree : Structure → Structure → Formula → Type 0
 PropsAgree m0 m (Const b) = Unit {0}
@@ -50,9 +49,6 @@ pub record Situation (m0 : Structure) (gs : Given) (f : Formula) (g : Graph) (m 
 pub record Agree (m0 : Structure) (gs : Given) (f : Formula) (g : Graph) (m : Structure) (i : ℕ) : Type 0 where
   pub holds : (s : ℕ) → s < m0.states → Says (HoldsAt g m s (positive i)) (is_member (meaning m0 gs f) s)
   pub fails : (s : ℕ) → s < m0.states → Says (HoldsAt g m s (negative i)) (not (is_member (meaning m0 gs f) s))
-
-pub member_where : (m : Structure) (test : ℕ → Bool) (s : ℕ) → s < m.states → is_member (states_where m test) s ≡ test s
-member_where m test s low = get_or-map-range_with_len test 0 m.states s s false low (omega arith)
 
 pub member_not : (set : StateSet) (n s : ℕ) → length set ≡ n → s < n → is_member (map not set) s ≡ not (is_member set s)
 member_not set n s long low = get_or-map not set s false false (omega (arith, long, low))

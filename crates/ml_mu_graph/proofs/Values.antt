@@ -1,16 +1,16 @@
 -- Where a graph holds at a node, as a truth value.
 --
---   Says P b            == P holds exactly where b is true
 --   says_leads, says_and, says_or, says_literal, says_constant == at a node of each kind, by its children
 --   says_diamond, says_square == at a modality, by an edge or every edge
 --   Agree               == at each state, the nodes of an occurrence hold as the formula's meaning and its negation say
-use Rattle.std.proofs.Common.{◌≡◌, ◌↔◌, ℕ, ◌<◌, ◌==◌, ◌⊎◌, Bool, true, false, ◌&&◌, ◌||◌, not, List, [], ◌∷◌, Contains, inl, inr, refl, sym, ap, subst, ◌∙◌, ⊎_elim}
+use Rattle.std.proofs.Common.{◌≡◌, ◌↔◌, ℕ, ◌<◌, ◌==◌, ◌⊎◌, Bool, true, false, ◌&&◌, ◌||◌, not, List, [], ◌∷◌, Contains, inl, inr, refl, sym, ap, subst, ◌∙◌}
 use Rattle.std.specs.List.{list_any, list_all}
 use Rattle.std.specs.Str.{bytes_eq}
 use Rattle.std.proofs.lemmas.Bool.{false≢true, and_parts, and_from}
 use Rattle.ml_lists.specs.Member.{IsMember}
 use Rattle.ml_lists.proofs.Member.{member-map, member-map_from, member-filter, member-filter_from, list_any-member, member-list_any, All-member}
 use Rattle.ml_lists.proofs.Members.{member_of_contains, contains_of_member}
+use Rattle.ml_lists.proofs.Says.{Says, says_by, both_say, either_says}
 use Rattle.ml_base.specs.declared.structure.Edge.{Edge}
 use Rattle.ml_base.specs.Structure.{Structure, IsStructure, lists}
 use Rattle.ml_graph.specs.Graph.{Graph, IsGraph, size, node_at, prop_at, action_at}
@@ -18,27 +18,8 @@ use Rattle.ml_graph.specs.CheckingGame.{HoldsAt, targets}
 use Rattle.ml_graph.specs.Laws.{NodeHolds}
 use Rattle.ml_graph.specs.declared.node.Node.{Node}
 use Rattle.ml_graph.specs.declared.node.Node.TheVariants as node
-use Rattle.ml_graph.proofs.OneStep.{one_step}
+use Rattle.ml_graph.proofs.OneStep.{one_step_at}
 use Rattle.ml_nodes.specs.Nodes.{constant}
-
-abbrev pub Says : Type 0 → Bool → Type 0
-Says P b = P ↔ (b ≡ true)
-
-pub says_same : (P : Type 0) (b c : Bool) → b ≡ c → Says P b → Says P c
-says_same P b c e says = subst (Says P) e says
-
-pub says_by : (P Q : Type 0) (b : Bool) → P ↔ Q → Says Q b → Says P b
-says_by P Q b same says = (λ p. says.0 (same.0 p), λ e. same.1 (says.1 e))
-
-both_say : (P Q : Type 0) (a b : Bool) → Says P a → Says Q b → Says (P × Q) (a && b)
-both_say P Q a b x y = (λ h. and_from a b (x.0 h.0) (y.0 h.1), λ e. let parts = and_parts a b e in (x.1 parts.0, y.1 parts.1))
-
-either_says : (P Q : Type 0) (a b : Bool) → Says P a → Says Q b → Says (P ⊎ Q) (a || b)
-either_says P Q true b x y = (λ h. refl, λ e. inl (x.1 refl))
-either_says P Q false b x y = (
-  λ h. ⊎_elim (λ (p : P). absurd (false≢true (x.0 p))) (λ (q : Q). y.0 q) h,
-  λ e. inr (y.1 e),
-)
 
 -- of edges
 all_pass : (test : Edge → Bool) (xs : List Edge) → list_all test xs ≡ true → (x : Edge) → IsMember x xs → test x ≡ true
@@ -62,8 +43,8 @@ abbrev pub leaves : ℕ → List ℕ → Edge → Bool
 leaves s name e = (e.source == s) && bytes_eq e.action name
 
 module _ (g : Graph) (m : Structure) (g_ok : IsGraph g) (m_ok : IsStructure m) (s n : ℕ) (s_low : s < m.states) (n_low : n < size g) where
-  step : (x : Node) → node_at g n ≡ x → HoldsAt g m s n ↔ NodeHolds g m s x
-  step x is = subst (λ y. HoldsAt g m s n ↔ NodeHolds g m s y) is (one_step g m g_ok m_ok s n s_low n_low)
+  abbrev step : (x : Node) → node_at g n ≡ x → HoldsAt g m s n ↔ NodeHolds g m s x
+  step = one_step_at g m g_ok m_ok s n s_low n_low
 
   pub says_constant : (b : Bool) → node_at g n ≡ constant b → Says (HoldsAt g m s n) b
   says_constant true is = let one = step node.True is in (λ h. refl, λ e. one.1 tt)

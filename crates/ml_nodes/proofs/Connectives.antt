@@ -2,8 +2,7 @@
 --
 --   length-operator, length-operator_priorities == two for each occurrence
 --   length-parts == of two parts behind one another, where each part has two for each of its occurrences
---   one_weight == a connective has an occurrence
-use Rattle.std.proofs.Common.{◌≡◌, ℕ, ◌+◌, ◌*◌, ◌≤◌, List, ◌++◌, length, length-append, refl, arith}
+use Rattle.std.proofs.Common.{◌≡◌, ℕ, ◌+◌, ◌*◌, List, ◌++◌, length, length-append, refl, arith}
 use Rattle.ml_text.specs.Operators.{weight}
 use Rattle.ml_text.specs.declared.token.Operator.{Operator}
 use Rattle.ml_text.specs.declared.token.Operator.TheVariants as operator
@@ -26,9 +25,3 @@ pub length-parts : {A : Type 0} (xs ys : List A) (m n : ℕ)
     → length ys ≡ 2 * n
     → length (xs ++ ys) ≡ 2 * (m + n)
 length-parts xs ys m n left right = omega (arith, length-append xs ys, left, right)
-
-pub one_weight : (op : Operator) → 1 ≤ weight op
-one_weight operator.And = omega arith
-one_weight operator.Or = omega arith
-one_weight operator.Implies = omega arith
-one_weight operator.Iff = omega arith

@@ -1,23 +1,18 @@
 -- Lists in which numbers come up in their order.
 --
---   once-member          == what a list has once, it has
+--   each_once-member          == what a list has once, it has
 --   range_prefix         == the front of a range has all smaller numbers
 --   Orderly A xs         == behind A, each number of xs comes up behind all smaller ones
 --   orderly              == of a list that has each number of a range first in the range's order
 --   rows_before n rows   == the first n rows, one behind the other
 --   all_rows             == they are the front of all rows
-use Rattle.std.proofs.Common.{ℕ, zero, suc, ◌≡◌, ◌+◌, ◌<◌, ◌≤◌, ◌==◌, ◌⊎◌, inl, inr, arith, not, List, [], ◌∷◌, ◌++◌, length, get_or, refl, sym, ap, ◌∙◌, ⊎_elim, append_assoc}
+use Rattle.std.proofs.Common.{ℕ, zero, suc, ◌≡◌, ◌+◌, ◌<◌, ◌≤◌, ◌⊎◌, inl, inr, arith, List, [], ◌∷◌, ◌++◌, length, get_or, refl, sym, ap, ◌∙◌, ⊎_elim, append_assoc}
 use Rattle.std.specs.List.{flat_map, range_with_len}
 use Rattle.std.proofs.lemmas.Bool.{cases_eq}
 use Rattle.ml_lists.specs.BreadthFirst.{each_once}
 use Rattle.ml_lists.specs.Member.{IsMember}
-use Rattle.ml_lists.proofs.BreadthFirst.{member-each_once, each_once-front}
-use Rattle.ml_lists.proofs.Member.{member-append, member-append_left, member-append_right, member-filter_from}
-
-pub once-member : (v : ℕ) (xs : List ℕ) → IsMember v (each_once xs) → IsMember v xs
-once-member v [] none = absurd none
-once-member v (x ∷ xs) (inl e) = inl e
-once-member v (x ∷ xs) (inr m) = inr (once-member v xs (member-filter_from (λ y. not (y == x)) v (each_once xs) m).0)
+use Rattle.ml_lists.proofs.BreadthFirst.{member-each_once, each_once-front, each_once-member}
+use Rattle.ml_lists.proofs.Member.{member-append, member-append_left, member-append_right}
 
 heads : {x y : ℕ} {xs ys : List ℕ} → x ∷ xs ≡ y ∷ ys → (x ≡ y) × (xs ≡ ys)
 heads {x = x} {xs = xs} e = (ap (λ l. get_or l 0 x) e, ap tail_of e)
@@ -72,7 +67,7 @@ orderly n A (x ∷ xs) e = (before, orderly n (A ++ x ∷ []) xs longer)
         range_prefix (each_once (A ++ x ∷ [])) front.0 0 n x d (sym front.1 ∙ sym longer) here (omega arith) less in
         ⊎_elim (λ (i : IsMember d A). i)
         (λ (i : IsMember d (x ∷ [])). absurd (alone i))
-        (member-append d A (x ∷ []) (once-member d (A ++ x ∷ []) smaller))
+        (member-append d A (x ∷ []) (each_once-member d (A ++ x ∷ []) smaller))
       where
         alone : IsMember d (x ∷ []) → ⊥
         alone (inl e) = omega (arith, e, less)

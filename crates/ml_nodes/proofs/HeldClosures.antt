@@ -4,7 +4,6 @@
 --   held          == so it is where the forms of all values that are reached are named, and priorities fit
 use Rattle.std.proofs.Common.{◌≡◌, ℕ, ◌<◌, Bool, true, false, List, refl, sym, subst, ◌∙◌, arith}
 use Rattle.ml_base.specs.Name.{IsName, IsAction}
-use Rattle.ml_lists.specs.Member.{IsMember}
 use Rattle.ml_lists.proofs.Member.{member-place, member_of_get}
 use Rattle.ml_graph.specs.Graph.{Graph, node_at, prop_at, size}
 use Rattle.ml_graph.specs.declared.node.Node.{Node}

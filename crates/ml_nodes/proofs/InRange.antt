@@ -8,7 +8,7 @@
 --   operator_fits    == the nodes of a connective fit, where those of its operands are nodes
 --   none_twice       == no name stands twice among none
 --   fitting_graph    == where all nodes fit, the lists make a graph
-use Rattle.std.proofs.Common.{◌≡◌, ℕ, ◌+◌, ◌*◌, ◌<◌, ◌≤◌, Bool, true, false, if◌then◌else◌, List, [], ◌∷◌, ◌++◌, length, bytes_eq, All, sym, subst, arith}
+use Rattle.std.proofs.Common.{◌≡◌, ℕ, ◌+◌, ◌*◌, ◌<◌, ◌≤◌, Bool, true, false, if◌then◌else◌, List, [], ◌∷◌, ◌++◌, length, bytes_eq, All, sym, subst, arith, zero, suc, get_or}
 use Rattle.std.specs.List.{flat_map, IsDistinct}
 use Rattle.std.proofs.lemmas.List.Concat.{flat_map-cons}
 use Rattle.std.proofs.lemmas.List.Elements.{All-append, All-cons, All-nil}
@@ -16,6 +16,7 @@ use Rattle.std.proofs.lemmas.Map.Keys.{IsDistinct-tail}
 use Rattle.ml_graph.proofs.Places.{one_name}
 use Rattle.ml_graph.specs.Graph.{Graph, IsGraph, Reference, references_of, size}
 use Rattle.ml_graph.specs.declared.node.Node.{Node}
+use Rattle.ml_graph.specs.declared.node.Node.TheVariants as node
 use Rattle.ml_text.specs.Operators.{weight}
 use Rattle.ml_text.specs.declared.token.Operator.{Operator}
 use Rattle.ml_text.specs.declared.token.Operator.TheVariants as operator
@@ -36,6 +37,16 @@ two k bound j limit low under =
     All-cons IsInRange (record { number = k; bound = bound }) (record { number = j; bound = limit } ∷ []) low
     (one j limit under)
 
+-- the references of all nodes are in range if those of each are
+pub all_in_range : (refs : Node → List Reference) (xs : List Node)
+    → ((n : ℕ) → n < length xs → All IsInRange (refs (get_or xs n node.True)))
+    → All IsInRange (flat_map refs xs)
+all_in_range refs [] each = All-nil IsInRange
+all_in_range refs (x ∷ xs) each =
+    subst (All IsInRange) (sym (flat_map-cons refs x xs))
+    (All-append IsInRange (refs x) (flat_map refs xs) (each 0 (omega arith))
+    (all_in_range refs xs (λ n low. each (suc n) (omega (arith, low)))))
+
 module _ (n : ℕ) (ps acts : List (List ℕ)) where
   abbrev pub Fits : Node → Type 0
   Fits x = All IsInRange (references_of n (length ps) (length acts) x)
@@ -44,14 +55,10 @@ module _ (n : ℕ) (ps acts : List (List ℕ)) where
   AllFit [] = Unit {0}
   AllFit (x ∷ xs) = Fits x × AllFit xs
 
-  all_in_range : (xs : List Node)
-      → AllFit xs
-      → All IsInRange (flat_map (references_of n (length ps) (length acts)) xs)
-  all_in_range [] fit = All-nil IsInRange
-  all_in_range (x ∷ xs) (fits, others) =
-      let refs = references_of n (length ps) (length acts) in
-      subst (All IsInRange) (sym (flat_map-cons refs x xs))
-      (All-append IsInRange (refs x) (flat_map refs xs) fits (all_in_range xs others))
+  each_fits : (xs : List Node) → AllFit xs → (k : ℕ) → k < length xs → Fits (get_or xs k node.True)
+  each_fits [] fit k low = absurd (omega arith)
+  each_fits (x ∷ xs) (fits, others) zero low = fits
+  each_fits (x ∷ xs) (fits, others) (suc k) low = each_fits xs others k (omega (arith, low))
 
   pub both_fit : (xs ys : List Node) → AllFit xs → AllFit ys → AllFit (xs ++ ys)
   both_fit [] ys left right = right
@@ -121,7 +128,7 @@ fitting_graph g negated some priorities fit root props actions =
       priorities = priorities;
       in_range =
           All-append IsInRange (flat_map refs g.nodes) (record { number = g.root; bound = n } ∷ [])
-          (all_in_range n g.props g.actions g.nodes fit) (one g.root n low);
+          (all_in_range refs g.nodes (each_fits n g.props g.actions g.nodes fit)) (one g.root n low);
       props_differ = props;
       actions_differ = actions;
     }

@@ -6,6 +6,8 @@
 -- have the action `_`.
 --
 --   Form P                   == what a node is, and to which values it leads
+--   all_of b p q, one_of b p q == a conjunction, and a disjunction; for the negation the other one
+--   form_of_connective op b  == a connective, or its negation, by the values of its operands
 --   Forms P                  == the form of each value, and its priority
 --   children f               == the values to which a form leads, left before right
 --   IsReached F root p       == the value p is reached from the root
@@ -16,7 +18,7 @@
 --   IsNumberedBy F g root ps == the nodes of g are those of the closure, numbered by their places
 --   IsGraphFrom F g root     == g is the graph of the closure
 --   HasMoreThan F root n     == more than n values are reached: some list has that many, each once
-use Rattle.std.specs.Prelude.{ℕ, ◌≡◌, ◌<◌, ◌↔◌, Bool, List, [], ◌∷◌, Some, length, map, slice_get, codes}
+use Rattle.std.specs.Prelude.{ℕ, ◌≡◌, ◌<◌, ◌↔◌, Bool, true, false, not, List, [], ◌∷◌, Some, length, map, slice_get, codes}
 use Rattle.std.specs.List.{range_with_len}
 use Rattle.ml_lists.specs.BreadthFirst.{IsBreadthFirst}
 use Rattle.ml_lists.specs.Member.{IsMember}
@@ -24,6 +26,8 @@ use Rattle.ml_graph.specs.Graph.{Graph, IsGraph, size, node_at, priority_at, pro
 use Rattle.ml_graph.specs.declared.node.Node.{Node}
 use Rattle.ml_graph.specs.declared.node.Node.TheVariants as node
 use Rattle.ml_nodes.specs.Nodes.{constant}
+use Rattle.ml_text.specs.declared.token.Operator.{Operator}
+use Rattle.ml_text.specs.declared.token.Operator.TheVariants as operator
 
 pub data Form (P : Type 0) : Type 0 where
   Constant : Bool → Form P
@@ -31,6 +35,21 @@ pub data Form (P : Type 0) : Type 0 where
   And Or : (left right : P) → Form P
   -- along some edge by the action `_`, and along each
   Diamond Square : P → Form P
+
+-- a conjunction; for the negation a disjunction
+abbrev pub all_of : {P : Type 0} → Bool → P → P → Form P
+all_of true l r = And l r
+all_of false l r = Or l r
+
+abbrev pub one_of : {P : Type 0} → Bool → P → P → Form P
+one_of sign l r = all_of (not sign) l r
+
+-- a connective, or its negation, by the values of its operands; of an iff those of both, and of neither
+abbrev pub form_of_connective : {P : Type 0} → Operator → Bool → (l r both neither : Bool → P) → Form P
+form_of_connective operator.And sign l r both neither = all_of sign (l sign) (r sign)
+form_of_connective operator.Or sign l r both neither = one_of sign (l sign) (r sign)
+form_of_connective operator.Implies sign l r both neither = one_of sign (l (not sign)) (r sign)
+form_of_connective operator.Iff sign l r both neither = Or (both sign) (neither sign)
 
 pub record Forms (P : Type 0) : Type 0 where
   pub form_of : P → Form P

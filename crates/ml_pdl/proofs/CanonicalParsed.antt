@@ -12,7 +12,7 @@ use Rattle.ml_text.proofs.AcceptedTexts.{accepted}
 use Rattle.ml_pdl.specs.Formula.{Formula}
 use Rattle.ml_pdl.specs.Canonical.{canonical_text}
 use Rattle.ml_pdl.specs.Grammar.{IsReadAs}
-use Rattle.ml_pdl.specs.Parsing.{CanonicalIsParsed, CanonicalStandsForOne}
+use Rattle.ml_pdl.specs.ParsingLaws.{CanonicalIsParsed, CanonicalStandsForOne}
 use Rattle.ml_pdl.specs.Signs.{own}
 use Rattle.ml_pdl.specs.Text.{pdl_signs, items}
 use Rattle.ml_pdl.proofs.PdlGrammar.{one_formula}

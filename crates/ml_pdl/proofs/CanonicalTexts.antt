@@ -548,7 +548,7 @@ mutual
 
 -- ---- the text
 
-plain_spelt : (text : List ℕ) (ps : List Placed) → map (sign_by text) ps ≡ plain_signs (map (spelt_at text) ps)
+pub plain_spelt : (text : List ℕ) (ps : List Placed) → map (sign_by text) ps ≡ plain_signs (map (spelt_at text) ps)
 plain_spelt text [] = refl
 plain_spelt text (p ∷ ps) = ap (λ ts. sign_by text p ∷ ts) (plain_spelt text ps)
 

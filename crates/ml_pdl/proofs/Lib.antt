@@ -38,3 +38,5 @@ pub mod CanonicalTexts
 pub mod CanonicalLimits
 -- canonical texts are parsed
 pub mod CanonicalParsed
+-- each formula has an occurrence, and so does each program
+pub mod SomeOccurrence

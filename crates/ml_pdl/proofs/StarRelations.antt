@@ -1,29 +1,25 @@
 -- What a star relates, and at which states a program can be repeated for ever: the n-th iterates on n states are
 -- fixpoints.
 --
---   member_where    == a member of the states that pass a test passes it
 --   star_stays      == a star relates each state to itself
 --   star_first      == what a program and then its star relate, the star relates
 --   repeat_goes_on  == from a state at which a program can be repeated, it leads to one at which it can
 --   repeat_has      == a set from each state of which the program leads into it lies within those states
 --   stars_are_least, repetitions_are_greatest == the laws
 use Rattle.std.proofs.Common.{◌≡◌, ℕ, zero, suc, ◌+◌, ◌-◌, ◌<◌, ◌==◌, Bool, true, false, not, refl, sym, ap, subst, ◌∙◌, ⊎_elim, arith}
-use Rattle.std.proofs.lemmas.Bool.{false≢true, or_cases, or_left, or_right}
+use Rattle.std.proofs.lemmas.Bool.{false≢true, or_cases, or_left, or_right, eq-eqb, eqb-true}
 use Rattle.std.proofs.lemmas.List.{get_or-replicate}
-use Rattle.std.proofs.lemmas.List.FromFn.{get_or-map-range_with_len}
 use Rattle.ml_lists.specs.Growing.{Grows, Stable}
 use Rattle.ml_lists.specs.Iterate.{iterate}
 use Rattle.ml_lists.specs.Search.{Found}
 use Rattle.ml_lists.proofs.Growing.{stable_soon}
-use Rattle.ml_base.specs.Structure.{Structure, StateSet, is_member, states_where, everywhere}
+use Rattle.ml_base.specs.Structure.{Structure, StateSet, is_member, everywhere}
+use Rattle.ml_base.proofs.StateSets.{member_where}
 use Rattle.ml_pdl.specs.Formula.{Program, Star, Repeat}
 use Rattle.ml_pdl.specs.declared.term.Modality.TheVariants.{Diamond}
 use Rattle.ml_pdl.specs.Meaning.{Relation, identity, either, followed_by, some_run, modal, relation, meaning}
 use Rattle.ml_pdl.specs.Laws.{HasRuns, StarsAreLeast, RepetitionsAreGreatest}
-use Rattle.ml_pdl.proofs.RunsInto.{same_number, equal_number, into, run_of, of_run}
-
-pub member_where : (m : Structure) (test : ℕ → Bool) (s : ℕ) → s < m.states → is_member (states_where m test) s ≡ test s
-member_where m test s low = get_or-map-range_with_len test 0 m.states s s false low (omega arith)
+use Rattle.ml_pdl.proofs.RunsInto.{into, run_of, of_run}
 
 -- a sequence of sets that grows, and stands still once it stood still, stands still at n
 still : (n : ℕ) (sets : ℕ → ℕ → Bool)
@@ -75,8 +71,8 @@ module _ (m : Structure) (r : Relation) where
   all = rounds m.states
 
   stays_at : (k s : ℕ) → rounds k s s ≡ true
-  stays_at zero s = equal_number s
-  stays_at (suc k) s = or_left (s == s) (followed_by m (rounds k) r s s) (equal_number s)
+  stays_at zero s = eq-eqb s s refl
+  stays_at (suc k) s = or_left (s == s) (followed_by m (rounds k) r s s) (eq-eqb s s refl)
 
   last_round : (s u t : ℕ) → u < m.states → t < m.states → all s u ≡ true → r u t ≡ true → all s t ≡ true
   last_round s u t u_low t_low a b =
@@ -90,11 +86,11 @@ module _ (m : Structure) (r : Relation) where
       → rounds k u t ≡ true
       → all s t ≡ true
   first_round zero s u t u_low t_low s_low a b =
-      last_round s s t s_low t_low (stays_at m.states s) (subst (λ x. r s x ≡ true) (same_number u t b) a)
+      last_round s s t s_low t_low (stays_at m.states s) (subst (λ x. r s x ≡ true) (eqb-true u t b) a)
   first_round (suc k) s u t u_low t_low s_low a b =
       ⊎_elim
       (λ (same : (u == t) ≡ true). last_round s s t s_low t_low (stays_at m.states s)
-      (subst (λ x. r s x ≡ true) (same_number u t same) a))
+      (subst (λ x. r s x ≡ true) (eqb-true u t same) a))
       (λ (runs : followed_by m (rounds k) r u t ≡ true).
       let some = run_of m (rounds k) (λ v. r v t) u runs in
       last_round s some.state t some.low t_low (first_round k s u some.state u_low some.low s_low a some.run)
@@ -184,10 +180,10 @@ module _ (m : Structure) (p : Program) where
 -- a relation that has the runs has as many rounds of them as one likes
 has_rounds : (m : Structure) (p : Program) (q : Relation) → HasRuns m p q
     → (k s t : ℕ) → s < m.states → t < m.states → rounds m (relation m p) k s t ≡ true → q s t ≡ true
-has_rounds m p q has zero s t s_low t_low is = subst (λ x. q s x ≡ true) (same_number s t is) (has.stays s s_low)
+has_rounds m p q has zero s t s_low t_low is = subst (λ x. q s x ≡ true) (eqb-true s t is) (has.stays s s_low)
 has_rounds m p q has (suc k) s t s_low t_low is =
     ⊎_elim
-    (λ (same : (s == t) ≡ true). subst (λ x. q s x ≡ true) (same_number s t same) (has.stays s s_low))
+    (λ (same : (s == t) ≡ true). subst (λ x. q s x ≡ true) (eqb-true s t same) (has.stays s s_low))
     (λ (runs : followed_by m (rounds m (relation m p) k) (relation m p) s t ≡ true).
     let some = run_of m (rounds m (relation m p) k) (λ u. relation m p u t) s runs in
     has.goes_on s some.state t s_low some.low t_low (has_rounds m p q has k s some.state s_low some.low some.run)

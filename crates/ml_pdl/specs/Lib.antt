@@ -26,5 +26,7 @@ pub mod Text
 pub mod Canonical
 -- what is parsed, and what is refused
 pub mod Parsing
+-- laws of canonical texts and of what is parsed
+pub mod ParsingLaws
 -- what private contracts cite
 pub mod private

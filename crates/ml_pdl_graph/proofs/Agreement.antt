@@ -3,7 +3,8 @@
 --   shown         == at each occurrence that stands in a graph, its nodes are won as the formula's meaning says
 --   tests_shown   == and so are those of the tests of a program
 --   graphs_agree  == so graphs agree with formulas
-use Rattle.std.proofs.Common.{◌≡◌, ◌↔◌, ℕ, ◌+◌, ◌*◌, ◌<◌, ◌≤◌, Bool, true, false, not, refl, sym, subst, arith}
+use Rattle.std.proofs.Common.{◌≡◌, ◌↔◌, ℕ, ◌+◌, ◌*◌, ◌<◌, ◌≤◌, Bool, true, false, not, sym, subst, arith}
+use Rattle.std.proofs.lemmas.Bool.{not-true, not_from_false}
 use Rattle.ml_base.specs.Structure.{Structure, IsStructure, is_member}
 use Rattle.ml_graph.specs.Graph.{Graph, IsGraph, size}
 use Rattle.ml_graph.specs.CheckingGame.{HoldsAt, Holds}
@@ -15,7 +16,8 @@ use Rattle.ml_pdl_graph.specs.Laws.{GraphsAgree}
 use Rattle.ml_nodes.specs.Nodes.{positive, negative}
 use Rattle.ml_pdl_graph.specs.PdlGraph.{diamond, box, own, dual, StandsAt, ProgramStandsAt, IsGraphOf}
 use Rattle.ml_pdl_graph.proofs.Players.{tells_turned}
-use Rattle.ml_pdl_graph.proofs.ProgramNodes.{Tests, some_occurrence}
+use Rattle.ml_pdl.proofs.SomeOccurrence.{some_occurrence}
+use Rattle.ml_pdl_graph.proofs.ProgramNodes.{Tests}
 use Rattle.ml_pdl_graph.proofs.Connectives.{Both, both_const, both_prop, both_not, both_binary, both_modal, both_repeat}
 
 module _ (g : Graph) (m : Structure) (g_ok : IsGraph g) (m_ok : IsStructure m) where
@@ -50,10 +52,6 @@ module _ (g : Graph) (m : Structure) (g_ok : IsGraph g) (m_ok : IsStructure m) w
     tests_shown (Star p) i d b w room e = tests_shown p (i + 1) (diamond i) (box i) w.2 (omega (arith, room)) e
     tests_shown (Test f) i d b w room e = shown f (i + 1) w.2 (omega (arith, room)) e
 
-not_true : (b : Bool) → (not b ≡ true) ↔ (b ≡ false)
-not_true true = (λ e. sym e, λ e. sym e)
-not_true false = (λ e. refl, λ e. refl)
-
 module _ (f : Formula) (g : Graph) (m : Structure) (m_ok : IsStructure m) where
   agreement : (negated : Bool) → IsGraphOf g f negated → (s : ℕ) → s < m.states
       → Holds g m s ↔ problem.HoldsAt m s (record { formula = f; negated = negated })
@@ -66,9 +64,9 @@ module _ (f : Formula) (g : Graph) (m : Structure) (m_ok : IsStructure m) where
       tells_turned g m is.is_graph m_ok false s (negative 0) low (omega (arith, is.two_for_each, some))
       (is_member (meaning m f) s)
       (shown g m is.is_graph m_ok f 0 is.stands (omega (arith, is.two_for_each)) false s low) in
-      let turn = not_true (is_member (meaning m f) s) in
+      let now = is_member (meaning m f) s in
       subst (λ n. HoldsAt g m s n ↔ (is_member (meaning m f) s ≡ false)) (sym is.root_is)
-      (λ h. turn.0 (says.0 h), λ e. says.1 (turn.1 e))
+      (λ h. not-true now (says.0 h), λ e. says.1 (not_from_false now e))
 
 pub graphs_agree : GraphsAgree
 graphs_agree f negated g is m m_ok s low = agreement f g m m_ok negated is s low

@@ -5,6 +5,7 @@
 use Rattle.std.proofs.Common.{◌≡◌, ℕ, ◌+◌, ◌*◌, ◌<◌, ◌≤◌, Bool, true, false, ◌&&◌, ◌||◌, not, List, [], ◌∷◌, refl, sym, ap, subst, ◌∙◌, arith}
 use Rattle.std.specs.List.{list_any, list_all, range_with_len}
 use Rattle.std.proofs.lemmas.List.{get_or-map}
+use Rattle.ml_lists.proofs.Says.{iff_is}
 use Rattle.ml_base.specs.Structure.{Structure, IsStructure, lists, is_member}
 use Rattle.ml_graph.specs.Graph.{Graph, IsGraph, size, node_at, prop_at}
 use Rattle.ml_graph.specs.declared.node.Node.TheVariants as node
@@ -19,11 +20,12 @@ use Rattle.ml_nodes.specs.Nodes.{positive, negative}
 use Rattle.ml_pdl_graph.specs.PdlGraph.{StandsAt}
 use Rattle.ml_pdl_graph.proofs.Players.{player_of, node_of, own_by, other_by, node_range, Tells, tells_turned, tells_own, tells_other_by}
 use Rattle.ml_pdl_graph.proofs.Players.{tells_leads, tells_constant, tells_negated_constant, tells_literal, tells_negated_literal}
-use Rattle.ml_pdl_graph.proofs.ProgramNodes.{NodesAt, Shown, Tests, nodes_of, turn, some_occurrence}
+use Rattle.ml_pdl.proofs.SomeOccurrence.{some_occurrence}
+use Rattle.ml_pdl_graph.proofs.ProgramNodes.{NodesAt, Shown, Tests, nodes_of, turn}
 use Rattle.ml_pdl_graph.proofs.Programs.{program_told, repeat_told}
 use Rattle.ml_pdl.proofs.MeaningFlags.{meaning_flags}
 use Rattle.ml_pdl.proofs.RunsInto.{into}
-use Rattle.ml_pdl.proofs.StarRelations.{member_where}
+use Rattle.ml_base.proofs.StateSets.{member_where}
 
 member_not : (m : Structure) (f : Formula) (s : ℕ)
     → s < m.states
@@ -33,12 +35,6 @@ member_not m f s low = get_or-map not (meaning m f) s false false (omega (arith,
 not_not : (b : Bool) → not (not b) ≡ b
 not_not true = refl
 not_not false = refl
-
-iff_is : (a b : Bool) → ((a && b) || (not a && not b)) ≡ ((not a || b) && (not b || a))
-iff_is true true = refl
-iff_is true false = refl
-iff_is false true = refl
-iff_is false false = refl
 
 not_iff_is : (a b : Bool) → ((not a || b) && (a || not b)) ≡ ((not a || b) && (not b || a))
 not_iff_is true true = refl

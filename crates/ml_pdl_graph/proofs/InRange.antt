@@ -19,7 +19,8 @@ use Rattle.ml_pdl_graph.specs.PdlGraph.{diamond, box, own, dual}
 use Rattle.ml_nodes.specs.private.Connectives.{operator_nodes}
 use Rattle.ml_nodes.proofs.InRange.{AllFit, both_fit, constant_fits, fitting_graph, led_fit, none_twice, one, operator_fits, two}
 use Rattle.ml_pdl_graph.specs.private.NodeList.{nodes_of, program_nodes, priorities_of, props_onto, actions_onto}
-use Rattle.ml_pdl_graph.proofs.NodeLists.{length-nodes, length-priorities, one_symbol, program_symbol}
+use Rattle.ml_pdl.proofs.SomeOccurrence.{some_occurrence, some_program_occurrence}
+use Rattle.ml_pdl_graph.proofs.NodeLists.{length-nodes, length-priorities}
 
 sides_fit : (m : Modality) (i n : ℕ) → 2 * (i + 1) ≤ n → (own m i < n) × (dual m i < n)
 sides_fit Diamond i n room = (omega (arith, room), omega (arith, room))
@@ -42,15 +43,15 @@ module _ (n : ℕ) (ps acts : List (List ℕ)) where
         let found = place_found ps p among.0.0 in
         (one (place_of ps p) (length ps) found.below, (one (place_of ps p) (length ps) found.below, tt))
     nodes_fit i (Not f) among room =
-        let some = one_symbol f in
+        let some = some_occurrence f in
         led_fit n ps acts (negative (i + 1)) (positive (i + 1)) (nodes_of ps acts (i + 1) f)
         (omega (arith, room, some)) (omega (arith, room, some)) (nodes_fit (i + 1) f among (omega (arith, room)))
     nodes_fit i (Binary op f h) among room =
         let parts = among_parts ps acts (names f) (names h) among in
         let l = i + weight op in
         let r = l + occurrences f in
-        let left = one_symbol f in
-        let right = one_symbol h in
+        let left = some_occurrence f in
+        let right = some_occurrence h in
         both_fit n ps acts (operator_nodes op i l r) (nodes_of ps acts l f ++ nodes_of ps acts r h)
         (operator_fits n ps acts op i l r (omega (arith, room)) (omega (arith, room, left, right)) (omega (arith, room, left, right)))
         (both_fit n ps acts (nodes_of ps acts l f) (nodes_of ps acts r h) (nodes_fit l f parts.0 (omega (arith, room)))
@@ -59,14 +60,14 @@ module _ (n : ℕ) (ps acts : List (List ℕ)) where
         let parts = among_parts ps acts (program_names p) (names f) among in
         let l = i + 1 in
         let r = l + program_occurrences p in
-        let first = sides_fit m l n (omega (arith, room, program_symbol p)) in
-        let second = sides_fit m r n (omega (arith, room, one_symbol f)) in
+        let first = sides_fit m l n (omega (arith, room, some_program_occurrence p)) in
+        let second = sides_fit m r n (omega (arith, room, some_occurrence f)) in
         led_both (own m l) (dual m l) (program_nodes ps acts l (own m r) (dual m r) p) (nodes_of ps acts r f) first.0 first.1
         (program_fits l (own m r) (dual m r) p parts.0 (omega (arith, room)) second.0 second.1)
         (nodes_fit r f parts.1 (omega (arith, room)))
     nodes_fit i (Repeat p) among room =
         let l = i + 1 in
-        let some = program_symbol p in
+        let some = some_program_occurrence p in
         led_fit n ps acts (diamond l) (box l) (program_nodes ps acts l (positive i) (negative i) p)
         (omega (arith, room, some)) (omega (arith, room, some))
         (program_fits l (positive i) (negative i) p among (omega (arith, room)) (omega (arith, room)) (omega (arith, room)))
@@ -80,8 +81,8 @@ module _ (n : ℕ) (ps acts : List (List ℕ)) where
         let parts = among_parts ps acts (program_names p) (program_names q) among in
         let l = i + 1 in
         let r = l + program_occurrences p in
-        let left = program_symbol p in
-        let right = program_symbol q in
+        let left = some_program_occurrence p in
+        let right = some_program_occurrence q in
         led_both (diamond l) (box l) (program_nodes ps acts l (diamond r) (box r) p) (program_nodes ps acts r d b q)
         (omega (arith, room, left)) (omega (arith, room, left))
         (program_fits l (diamond r) (box r) p parts.0 (omega (arith, room)) (omega (arith, room, right)) (omega (arith, room, right)))
@@ -90,8 +91,8 @@ module _ (n : ℕ) (ps acts : List (List ℕ)) where
         let parts = among_parts ps acts (program_names p) (program_names q) among in
         let l = i + 1 in
         let r = l + program_occurrences p in
-        let left = program_symbol p in
-        let right = program_symbol q in (
+        let left = some_program_occurrence p in
+        let right = some_program_occurrence q in (
           two (diamond l) n (diamond r) n (omega (arith, room, left)) (omega (arith, room, right)),
           (
             two (box l) n (box r) n (omega (arith, room, left)) (omega (arith, room, right)),
@@ -102,7 +103,7 @@ module _ (n : ℕ) (ps acts : List (List ℕ)) where
         )
     program_fits i d b (Star p) among room on off =
         let l = i + 1 in
-        let some = program_symbol p in (
+        let some = some_program_occurrence p in (
           two d n (diamond l) n on (omega (arith, room, some)),
           (
             two b n (box l) n off (omega (arith, room, some)),
@@ -111,7 +112,7 @@ module _ (n : ℕ) (ps acts : List (List ℕ)) where
         )
     program_fits i d b (Test f) among room on off =
         let l = i + 1 in
-        let some = one_symbol f in (
+        let some = some_occurrence f in (
           two (positive l) n d n (omega (arith, room, some)) on,
           (two (negative l) n b n (omega (arith, room, some)) off, nodes_fit l f among (omega (arith, room))),
         )
@@ -126,7 +127,7 @@ pub lists_make_graph : (g : Graph) (f : Formula) (negated : Bool)
 lists_make_graph g f negated props actions nodes priorities root =
     let n = size g in
     let long : n ≡ 2 * occurrences f = ap length nodes ∙ length-nodes g.props g.actions 0 f in
-    let some = one_symbol f in
+    let some = some_occurrence f in
     let among = names_among (names f) props actions in
     let fit =
     nodes_fit n g.props g.actions 0 f among (omega (arith, long)) in

@@ -21,13 +21,13 @@ use Rattle.ml_parity.proofs.Opponents.{no_own_opponent}
 use Rattle.ml_graph.specs.Graph.{Graph, IsGraph, size, priority_at}
 use Rattle.ml_graph.specs.CheckingGame.{Vertex, Pair, Sink, vertex_number, vertices, targets, checking_game}
 use Rattle.ml_graph.proofs.CheckingGame.{IsVertex, leads_to_vertices, vertex_at, owner_is, priority_is}
-use Rattle.ml_graph.proofs.OneStep.{vertex_low}
-use Rattle.ml_pdl.specs.Formula.{Formula, Program, Act, Seq, Alt, Star, Test, occurrences, program_occurrences}
+use Rattle.ml_graph.proofs.OneStep.{vertex_low, move_to, move_from}
+use Rattle.ml_pdl.specs.Formula.{Program, Act, Seq, Alt, Star, Test, occurrences, program_occurrences}
 use Rattle.ml_pdl.specs.Meaning.{meaning, relation}
 use Rattle.ml_pdl.proofs.RunsInto.{into, no_run}
 use Rattle.ml_nodes.proofs.EndlessWalks.{Onward, never_for_ever}
-use Rattle.ml_pdl_graph.proofs.Players.{player_of, node_of, node_range, at, WinsAt, Tells, move_to, move_from, never_both, tells_other}
-use Rattle.ml_pdl_graph.proofs.ProgramNodes.{star_priority, NodesAt, Tests, some_occurrence}
+use Rattle.ml_pdl_graph.proofs.Players.{player_of, node_of, node_range, at, WinsAt, Tells, never_both, tells_other}
+use Rattle.ml_pdl_graph.proofs.ProgramNodes.{star_priority, NodesAt, Tests, tested_low}
 use Rattle.ml_pdl_graph.proofs.Unmet.{Unmet, start_unmet, seq_unmet, left_unmet, right_unmet, here_unmet, round_unmet, test_unmet, target_edge}
 use Rattle.ml_pdl_graph.proofs.Traps.{Going, Trapped, leads_trapped, own_trapped, other_trapped, go_trapped, to_pair, before_next}
 
@@ -123,13 +123,9 @@ module _ (g : Graph) (m : Structure) (g_ok : IsGraph g) (m_ok : IsStructure m) (
       (test_unmet m K s s_low f never yes_f))))
       (λ (no_f : is_member (meaning m f) s ≡ false).
       other_trapped g m g_ok m_ok e P s (node_of e i) (node_of e l) k w.0 (Pair s (node_of e l)) (inl refl)
-      (inr ((tells_other g m g_ok m_ok (player_of e) s (node_of e l) s_low (tested_low i f room) holds
+      (inr ((tells_other g m g_ok m_ok (player_of e) s (node_of e l) s_low (tested_low g e i f room) holds
       (tests s s_low)).1 (ap not no_f))))
       (cases_Bool (is_member (meaning m f) s)))
-    where
-      tested_low : (j : ℕ) (h : Formula) → 2 * (j + (1 + occurrences h)) ≤ size g → node_of e (j + 1) < size g
-      tested_low j h fits =
-          let range = node_range e (j + 1) in let some = some_occurrence h in omega (arith, fits, range.1, some)
 
   -- ---- priorities and numbers of unmet nodes
 

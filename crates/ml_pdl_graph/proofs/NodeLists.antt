@@ -2,8 +2,7 @@
 --
 --   length-nodes, length-program_nodes, .. == two for each occurrence
 --   stands, program_stands                 == the nodes and priorities of a formula, or of a program, say what stands there
---   one_symbol, program_symbol             == each formula and program has an occurrence
-use Rattle.std.proofs.Common.{◌≡◌, ℕ, ◌+◌, ◌*◌, ◌≤◌, List, [], ◌++◌, length, refl, arith}
+use Rattle.std.proofs.Common.{◌≡◌, ℕ, ◌+◌, ◌*◌, List, [], ◌++◌, length, refl, arith}
 use Rattle.ml_graph.specs.Graph.{Graph}
 use Rattle.ml_text.specs.Operators.{weight}
 use Rattle.ml_text.specs.NameLists.{place_of}
@@ -13,7 +12,7 @@ use Rattle.ml_pdl.specs.Formula.{Formula, Const, Prop, Not, Binary, Modal, Repea
 use Rattle.ml_nodes.specs.Nodes.{positive, negative}
 use Rattle.ml_pdl_graph.specs.PdlGraph.{diamond, box, own, dual, plain, StandsAt, ProgramStandsAt}
 use Rattle.ml_pdl_graph.specs.private.NodeList.{nodes_of, program_nodes, priorities_of, program_priorities}
-use Rattle.ml_nodes.proofs.Connectives.{length-operator, length-operator_priorities, length-parts, one_weight}
+use Rattle.ml_nodes.proofs.Connectives.{length-operator, length-operator_priorities, length-parts}
 use Rattle.ml_nodes.proofs.StandingLists.{Stand, Parts, joined, pair, parts}
 
 mutual
@@ -158,18 +157,3 @@ mutual
       (here.first, here.second, stands g (i + 1) f among here.behind)
 
 -- ---- each has an occurrence
-
-pub one_symbol : (f : Formula) → 1 ≤ occurrences f
-one_symbol (Const b) = omega arith
-one_symbol (Prop p) = omega arith
-one_symbol (Not f) = omega arith
-one_symbol (Binary op f h) = omega (arith, one_weight op)
-one_symbol (Modal m p f) = omega arith
-one_symbol (Repeat p) = omega arith
-
-pub program_symbol : (p : Program) → 1 ≤ program_occurrences p
-program_symbol (Act a) = omega arith
-program_symbol (Seq p q) = omega arith
-program_symbol (Alt p q) = omega arith
-program_symbol (Star p) = omega arith
-program_symbol (Test f) = omega arith

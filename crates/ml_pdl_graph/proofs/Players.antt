@@ -10,11 +10,10 @@
 --   Tells g m q s n b      == q wins the node n at the state s exactly if b is true
 --   tells_other            == the opponent wins it exactly if b is false
 --   tells_leads, tells_own, tells_other_by, tells_literal, tells_constant == at a node of each kind
-use Rattle.std.proofs.Common.{◌≡◌, ◌↔◌, ℕ, ◌+◌, ◌*◌, ◌<◌, ◌≤◌, ◌⊎◌, Bool, true, false, ◌&&◌, ◌||◌, not, [], ◌∷◌, map, Contains, inl, inr, refl, sym, ap, subst, ◌∙◌, ⊎_elim, arith}
-use Rattle.std.proofs.lemmas.Bool.{false≢true, and_parts, and_from}
+use Rattle.std.proofs.Common.{◌≡◌, ◌↔◌, ℕ, ◌+◌, ◌*◌, ◌<◌, ◌≤◌, ◌⊎◌, Bool, true, false, ◌&&◌, ◌||◌, not, [], ◌∷◌, inl, inr, refl, sym, ap, subst, ◌∙◌, ⊎_elim, arith}
+use Rattle.std.proofs.lemmas.Bool.{false≢true}
 use Rattle.ml_lists.specs.Member.{IsMember}
-use Rattle.ml_lists.proofs.Member.{Image, member-map, member-map_from}
-use Rattle.ml_lists.proofs.Members.{member_of_contains, contains_of_member}
+use Rattle.ml_lists.proofs.Says.{Says, says_by, both_say, either_says}
 use Rattle.ml_base.specs.Structure.{Structure, IsStructure, lists}
 use Rattle.ml_parity.specs.declared.players.Player.{Player}
 use Rattle.ml_parity.specs.declared.players.Player.TheVariants.{Even, Odd}
@@ -27,9 +26,8 @@ use Rattle.ml_graph.specs.declared.node.Node.{Node}
 use Rattle.ml_graph.specs.declared.node.Node.TheVariants as node
 use Rattle.ml_graph.specs.Graph.{Graph, IsGraph, size, node_at, prop_at}
 use Rattle.ml_graph.specs.CheckingGame.{Vertex, Pair, mover, vertex_number, successors, successors_of, checking_game, HoldsAt}
-use Rattle.ml_graph.proofs.CheckingGame.{IsVertex, owner_is, moves_are, is_game}
-use Rattle.ml_graph.proofs.OneStep.{vertex_low, one_step}
-use Rattle.ml_graph.specs.Laws.{NodeHolds}
+use Rattle.ml_graph.proofs.CheckingGame.{IsVertex, owner_is, is_game}
+use Rattle.ml_graph.proofs.OneStep.{vertex_low, one_step_at, move_to, move_from}
 use Rattle.ml_nodes.specs.Nodes.{positive, negative, constant}
 
 abbrev pub player_of : Bool → Player
@@ -84,23 +82,6 @@ other_player false = refl
 
 -- ---- who wins
 
-abbrev pub Says : Type 0 → Bool → Type 0
-Says P b = P ↔ (b ≡ true)
-
-both_say : (P Q : Type 0) (a b : Bool) → Says P a → Says Q b → Says (P × Q) (a && b)
-both_say P Q a b x y =
-    (λ h. and_from a b (x.0 h.0) (y.0 h.1), λ e. let parts = and_parts a b e in (x.1 parts.0, y.1 parts.1))
-
-either_says : (P Q : Type 0) (a b : Bool) → Says P a → Says Q b → Says (P ⊎ Q) (a || b)
-either_says P Q true b x y = (λ h. refl, λ e. inl (x.1 refl))
-either_says P Q false b x y = (
-  λ h. ⊎_elim (λ (p : P). absurd (false≢true (x.0 p))) (λ (q : Q). y.0 q) h,
-  λ e. inr (y.1 e),
-)
-
-says_by : (P Q : Type 0) (b : Bool) → P ↔ Q → Says Q b → Says P b
-says_by P Q b same says = (λ p. says.0 (same.0 p), λ e. same.1 (says.1 e))
-
 module _ (g : Graph) (m : Structure) (g_ok : IsGraph g) (m_ok : IsStructure m) where
   abbrev pub at : ℕ → ℕ → ℕ
   at s n = vertex_number g m (Pair s n)
@@ -110,21 +91,6 @@ module _ (g : Graph) (m : Structure) (g_ok : IsGraph g) (m_ok : IsStructure m) w
 
   abbrev pub Tells : Player → ℕ → ℕ → Bool → Type 0
   Tells q s n b = Says (WinsAt q s n) b
-
-  -- a move leads to a vertex to which v leads, and the other way round
-  pub move_to : (v : Vertex) → IsVertex g m v → (w : Vertex) → IsMember w (successors g m v)
-      → HasMove (checking_game g m) (vertex_number g m v) (vertex_number g m w)
-  move_to v is w h =
-      subst (λ ws. Contains ws (vertex_number g m w)) (sym (moves_are g m v is))
-      (contains_of_member (vertex_number g m w) (map (vertex_number g m) (successors g m v))
-      (member-map (vertex_number g m) w (successors g m v) h))
-
-  pub move_from : (v : Vertex) → IsVertex g m v → (x : ℕ) → HasMove (checking_game g m) (vertex_number g m v) x
-      → Image (vertex_number g m) x (successors g m v)
-  move_from v is x move =
-      member-map_from (vertex_number g m) x (successors g m v)
-      (member_of_contains x (map (vertex_number g m) (successors g m v))
-      (subst (λ ws. Contains ws x) (moves_are g m v is) move))
 
   pub never_both : (q : Player) (v : Vertex)
       → IsVertex g m v
@@ -175,19 +141,19 @@ module _ (g : Graph) (m : Structure) (g_ok : IsGraph g) (m_ok : IsStructure m) w
         → successors_of g m s x ≡ Pair s l ∷ Pair s r ∷ []
         → WinsAt q s n ↔ (WinsAt q s l ⊎ WinsAt q s r)
     own_won q x is own l r next = (
-      λ a. let good = step.0 a in let image = move_from (Pair s n) (s_low, n_low) good.to good.move in
+      λ a. let good = step.0 a in let image = move_from g m g_ok m_ok (Pair s n) (s_low, n_low) good.to good.move in
           there image.from (subst (Wins (checking_game g m) q) image.holds good.wins)
           (subst (IsMember image.from) leads image.member),
       λ h. ⊎_elim
           (λ (a : WinsAt q s l). step.1 (record {
             to = at s l;
-            move = move_to (Pair s n) (s_low, n_low) (Pair s l)
+            move = move_to g m g_ok m_ok (Pair s n) (s_low, n_low) (Pair s l)
                 (subst (IsMember (Pair s l)) (sym leads) (inl refl));
             wins = a;
           }))
           (λ (a : WinsAt q s r). step.1 (record {
             to = at s r;
-            move = move_to (Pair s n) (s_low, n_low) (Pair s r)
+            move = move_to g m g_ok m_ok (Pair s n) (s_low, n_low) (Pair s r)
                 (subst (IsMember (Pair s r)) (sym leads) (inr (inl refl)));
             wins = a;
           }))
@@ -219,12 +185,12 @@ module _ (g : Graph) (m : Structure) (g_ok : IsGraph g) (m_ok : IsStructure m) w
         → WinsAt q s n ↔ (WinsAt q s l × WinsAt q s r)
     other_won q x is own l r next = (
       λ a. (
-        step.0 a (at s l) (move_to (Pair s n) (s_low, n_low) (Pair s l)
+        step.0 a (at s l) (move_to g m g_ok m_ok (Pair s n) (s_low, n_low) (Pair s l)
             (subst (IsMember (Pair s l)) (sym leads) (inl refl))),
-        step.0 a (at s r) (move_to (Pair s n) (s_low, n_low) (Pair s r)
+        step.0 a (at s r) (move_to g m g_ok m_ok (Pair s n) (s_low, n_low) (Pair s r)
             (subst (IsMember (Pair s r)) (sym leads) (inr (inl refl)))),
       ),
-      λ h. step.1 (λ v move. let image = move_from (Pair s n) (s_low, n_low) v move in
+      λ h. step.1 (λ v move. let image = move_from g m g_ok m_ok (Pair s n) (s_low, n_low) v move in
           subst (Wins (checking_game g m) q) (sym image.holds)
           (there h image.from (subst (IsMember image.from) leads image.member))),
     )
@@ -281,17 +247,14 @@ module _ (g : Graph) (m : Structure) (g_ok : IsGraph g) (m_ok : IsStructure m) w
         → Tells (player_of e) s n b
     tells_leads e t b is x = says_by (WinsAt (player_of e) s n) (WinsAt (player_of e) s t) b (leads_won e t is) x
 
-    holds : (x : Node) → node_at g n ≡ x → HoldsAt g m s n ↔ NodeHolds g m s x
-    holds x is = subst (λ y. HoldsAt g m s n ↔ NodeHolds g m s y) is (one_step g m g_ok m_ok s n s_low n_low)
-
     even_constant : (b : Bool) → node_at g n ≡ constant b → Tells Even s n b
-    even_constant true is = let one = holds node.True is in (λ h. refl, λ e. one.1 tt)
-    even_constant false is = let one = holds node.False is in (λ h. absurd (one.0 h), λ e. absurd (false≢true e))
+    even_constant true is = let one = one_step_at g m g_ok m_ok s n s_low n_low node.True is in (λ h. refl, λ e. one.1 tt)
+    even_constant false is = let one = one_step_at g m g_ok m_ok s n s_low n_low node.False is in (λ h. absurd (one.0 h), λ e. absurd (false≢true e))
 
     even_literal : (q : ℕ) (sign : Bool)
         → node_at g n ≡ node.Lit q sign
         → HoldsAt g m s n ↔ (lists m s (prop_at g q) ≡ sign)
-    even_literal q sign is = holds (node.Lit q sign) is
+    even_literal q sign is = one_step_at g m g_ok m_ok s n s_low n_low (node.Lit q sign) is
 
     not_not : (b : Bool) → not (not b) ≡ b
     not_not true = refl

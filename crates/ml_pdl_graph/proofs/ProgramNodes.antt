@@ -5,16 +5,16 @@
 --   nodes_of            == where a program stands in a graph, they do with either sign
 --   Shown e i f         == the node of f with the sign e is won by the player of that sign where f holds
 --   Tests e i p         == so are those of the formulas of all tests of p
---   some_occurrence, some_program_occurrence == each formula and each program has an occurrence
-use Rattle.std.proofs.Common.{◌≡◌, ℕ, ◌+◌, ◌<◌, ◌≤◌, Bool, true, false, arith}
+use Rattle.std.proofs.Common.{◌≡◌, ℕ, ◌+◌, ◌<◌, Bool, true, false, ◌*◌, ◌≤◌, arith}
 use Rattle.ml_base.specs.Structure.{Structure, IsStructure, is_member}
 use Rattle.ml_graph.specs.declared.node.Node.TheVariants as node
-use Rattle.ml_graph.specs.Graph.{Graph, IsGraph, node_at, priority_at, action_at}
-use Rattle.ml_pdl.specs.Formula.{Formula, Const, Prop, Not, Binary, Modal, Repeat, Program, Act, Seq, Alt, Star, Test, occurrences, program_occurrences}
+use Rattle.ml_graph.specs.Graph.{Graph, IsGraph, node_at, priority_at, action_at, size}
+use Rattle.ml_pdl.specs.Formula.{Formula, Program, Act, Seq, Alt, Star, Test, program_occurrences, occurrences}
 use Rattle.ml_pdl.specs.Meaning.{meaning}
+use Rattle.ml_pdl.proofs.SomeOccurrence.{some_occurrence}
 use Rattle.ml_nodes.specs.Nodes.{positive, negative}
 use Rattle.ml_pdl_graph.specs.PdlGraph.{plain, ProgramStandsAt}
-use Rattle.ml_pdl_graph.proofs.Players.{player_of, node_of, own_by, other_by, go_by, Tells}
+use Rattle.ml_pdl_graph.proofs.Players.{player_of, node_of, own_by, other_by, go_by, Tells, node_range}
 
 abbrev pub star_priority : Bool → ℕ
 star_priority true = 3
@@ -82,18 +82,8 @@ Tests g m g_ok m_ok e i (Alt p q) =
 Tests g m g_ok m_ok e i (Star p) = Tests g m g_ok m_ok e (i + 1) p
 Tests g m g_ok m_ok e i (Test f) = Shown g m g_ok m_ok e (i + 1) f
 
--- a formula has an occurrence, and so does a program
-pub some_occurrence : (f : Formula) → 1 ≤ occurrences f
-some_occurrence (Const b) = omega arith
-some_occurrence (Prop p) = omega arith
-some_occurrence (Not f) = omega arith
-some_occurrence (Binary op f h) = let some = some_occurrence f in omega (arith, some)
-some_occurrence (Modal d p f) = omega arith
-some_occurrence (Repeat p) = omega arith
-
-pub some_program_occurrence : (p : Program) → 1 ≤ program_occurrences p
-some_program_occurrence (Act a) = omega arith
-some_program_occurrence (Seq p q) = omega arith
-some_program_occurrence (Alt p q) = omega arith
-some_program_occurrence (Star p) = omega arith
-some_program_occurrence (Test f) = omega arith
+-- the node of the formula of a test is one of the graph
+pub tested_low : (g : Graph) (e : Bool) (i : ℕ) (f : Formula)
+    → 2 * (i + (1 + occurrences f)) ≤ size g
+    → node_of e (i + 1) < size g
+tested_low g e i f room = omega (arith, room, (node_range e (i + 1)).1, some_occurrence f)

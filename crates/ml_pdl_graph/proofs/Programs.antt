@@ -24,7 +24,8 @@ use Rattle.ml_pdl.proofs.StarRelations.{repeat_goes_on, repeat_has}
 use Rattle.ml_nodes.proofs.EndlessWalks.{Onward, never_for_ever}
 use Rattle.ml_pdl_graph.proofs.NoRuns.{unmet_lost}
 use Rattle.ml_pdl_graph.proofs.Players.{player_of, node_of, node_range, at, WinsAt, Tells, never_both, one_of_both, tells_leads}
-use Rattle.ml_pdl_graph.proofs.ProgramNodes.{NodesAt, Tests, some_program_occurrence}
+use Rattle.ml_pdl.proofs.SomeOccurrence.{some_program_occurrence}
+use Rattle.ml_pdl_graph.proofs.ProgramNodes.{NodesAt, Tests}
 use Rattle.ml_pdl_graph.proofs.Runs.{walked, single_move}
 
 module _ (g : Graph) (m : Structure) (g_ok : IsGraph g) (m_ok : IsStructure m) (e : Bool) where

@@ -4,7 +4,7 @@
 --   walked      == where the opponent wins a program's node, a run of the program is such a walk
 use Rattle.std.proofs.Common.{◌≡◌, ℕ, zero, suc, ◌+◌, ◌*◌, ◌<◌, ◌≤◌, ◌==◌, ◌⊎◌, Bool, true, false, ◌&&◌, min, List, [], ◌∷◌, inl, inr, refl, sym, ap, subst, ◌∙◌, ⊎_elim, arith}
 use Rattle.std.specs.Str.{bytes_eq}
-use Rattle.std.proofs.lemmas.Bool.{false≢true, and_parts, or_cases}
+use Rattle.std.proofs.lemmas.Bool.{false≢true, and_parts, or_cases, eqb-true}
 use Rattle.ml_lists.specs.Iterate.{iterate}
 use Rattle.ml_lists.specs.Member.{IsMember}
 use Rattle.ml_lists.proofs.Member.{list_any-member, member-map, member-filter}
@@ -21,23 +21,19 @@ use Rattle.ml_graph.specs.declared.node.Node.TheVariants as node
 use Rattle.ml_graph.specs.Graph.{Graph, IsGraph, size, node_at, priority_at, action_at}
 use Rattle.ml_graph.specs.CheckingGame.{Vertex, Pair, mover, vertex_number, successors, successors_of, pairs_or_sink, targets, checking_game}
 use Rattle.ml_graph.proofs.CheckingGame.{owner_is, priority_is}
-use Rattle.ml_graph.proofs.OneStep.{vertex_low}
-use Rattle.ml_pdl.specs.Formula.{Formula, Program, Act, Seq, Alt, Star, Test, occurrences, program_occurrences}
+use Rattle.ml_graph.proofs.OneStep.{vertex_low, move_to, move_from, pair_member}
+use Rattle.ml_pdl.specs.Formula.{Program, Act, Seq, Alt, Star, Test, occurrences, program_occurrences}
 use Rattle.ml_pdl.specs.Meaning.{Relation, identity, either, followed_by, has_edge, meaning, relation}
-use Rattle.ml_pdl.proofs.RunsInto.{same_number, run_of}
+use Rattle.ml_pdl.proofs.RunsInto.{run_of}
 use Rattle.ml_pdl_graph.proofs.Players.{player_of, node_of, own_by, other_by, go_by, own_mover, other_mover, go_mover, own_children}
-use Rattle.ml_pdl_graph.proofs.Players.{other_children, node_range, at, WinsAt, move_to, move_from, never_both}
-use Rattle.ml_pdl_graph.proofs.ProgramNodes.{star_priority, NodesAt, Tests, some_occurrence}
+use Rattle.ml_pdl_graph.proofs.Players.{other_children, node_range, at, WinsAt, never_both}
+use Rattle.ml_pdl_graph.proofs.ProgramNodes.{star_priority, NodesAt, Tests, tested_low}
 
 -- to all targets of an edge
 pub go_pairs : (g : Graph) (m : Structure) (s : ℕ) (e : Bool) (a k : ℕ)
     → (p : ℕ) × (successors_of g m s (go_by e a k) ≡ pairs_or_sink k p (targets m s (action_at g a)))
 go_pairs g m s true a k = (1, refl)
 go_pairs g m s false a k = (0, refl)
-
-target_pair : (k p : ℕ) (ts : List ℕ) (t : ℕ) → IsMember t ts → IsMember (Pair t k) (pairs_or_sink k p ts)
-target_pair k p [] t h = absurd h
-target_pair k p (x ∷ xs) t h = member-map (λ u. Pair u k) t (x ∷ xs) h
 
 three : (a b c : Bool) → (a && b && c) ≡ true → (a ≡ true) × (b ≡ true) × (c ≡ true)
 three true true true is = (refl, refl, refl)
@@ -55,7 +51,7 @@ pub edge_target : (m : Structure) (a : List ℕ) (s t : ℕ) → has_edge m a s 
 edge_target m a s t is =
     let some = list_any-member (λ d. (d.source == s) && bytes_eq d.action a && (d.target == t)) m.edges is in
     let parts = three (some.item.source == s) (bytes_eq some.item.action a) (some.item.target == t) some.passes in
-    subst (λ x. IsMember x (targets m s a)) (same_number some.item.target t parts.2)
+    subst (λ x. IsMember x (targets m s a)) (eqb-true some.item.target t parts.2)
     (member-map (λ (d : Edge). d.target) some.item _
     (member-filter (λ d. (d.source == s) && bytes_eq d.action a) some.item m.edges some.member
     (two (some.item.source == s) (bytes_eq some.item.action a) parts.0 parts.1)))
@@ -225,10 +221,10 @@ module _ (g : Graph) (m : Structure) (g_ok : IsGraph g) (m_ok : IsStructure m) (
       → (j s t : ℕ) → s < m.states → t < m.states
       → iterate j (λ r. either identity (followed_by m r (relation m p))) identity s t ≡ true
       → Lost (place s (node_of e i)) → Way (place s (node_of e i)) (place t (node_of e i))
-  rounds p i k w n_low inner zero s t s_low t_low is lost = inl (ap (λ x. place x (node_of e i)) (same_number s t is))
+  rounds p i k w n_low inner zero s t s_low t_low is lost = inl (ap (λ x. place x (node_of e i)) (eqb-true s t is))
   rounds p i k w n_low inner (suc j) s t s_low t_low is lost =
       ⊎_elim
-      (λ (same : (s == t) ≡ true). inl (ap (λ x. place x (node_of e i)) (same_number s t same)))
+      (λ (same : (s == t) ≡ true). inl (ap (λ x. place x (node_of e i)) (eqb-true s t same)))
       (λ (more : followed_by m before (relation m p) s t ≡ true).
       let some = run_of m (before) (λ u. relation m p u t) s more in
       let u : ℕ = some.state in
@@ -250,10 +246,6 @@ module _ (g : Graph) (m : Structure) (g_ok : IsGraph g) (m_ok : IsStructure m) (
   first_low : (i n : ℕ) → 2 * (i + (1 + n)) ≤ size g → node_of e i < size g
   first_low i n room = let range = node_range e i in omega (arith, room, range.1)
 
-  tested_low : (i : ℕ) (f : Formula) → 2 * (i + (1 + occurrences f)) ≤ size g → node_of e (i + 1) < size g
-  tested_low i f room =
-      let range = node_range e (i + 1) in let some = some_occurrence f in omega (arith, room, range.1, some)
-
   pub walked : (p : Program) (i k : ℕ)
       → NodesAt g e i k p
       → Tests g m g_ok m_ok e i p
@@ -263,7 +255,7 @@ module _ (g : Graph) (m : Structure) (g_ok : IsGraph g) (m_ok : IsStructure m) (
       let pairs = go_pairs g m s e w.0 k in
       own_step s (node_of e i) t k s_low (first_low i 0 room) (omega (arith, w.2)) (go_by e w.0 k) w.1
       (go_mover e w.0 k)
-      (subst (IsMember (Pair t k)) (sym pairs.1) (target_pair k pairs.0 (targets m s (action_at g w.0)) t
+      (subst (IsMember (Pair t k)) (sym pairs.1) (pair_member k pairs.0 t (targets m s (action_at g w.0))
       (subst (λ x. IsMember t (targets m s x)) (sym w.3) (edge_target m name s t is))))
   walked (Seq p q) i k w tests room s t s_low t_low is lost =
       let some = run_of m (relation m p) (λ u. relation m q u t) s is in
@@ -310,7 +302,7 @@ module _ (g : Graph) (m : Structure) (g_ok : IsGraph g) (m_ok : IsStructure m) (
   walked (Test f) i k w tests room s t s_low t_low is lost =
       let l : ℕ = i + 1 in
       let parts = and_parts (s == t) (is_member (meaning m f) s) is in
-      subst (λ x. Walked (place s (node_of e i)) (place x k)) (same_number s t parts.0)
+      subst (λ x. Walked (place s (node_of e i)) (place x k)) (eqb-true s t parts.0)
       (test_step s (node_of e i) (node_of e l) k s_low (first_low i (occurrences f) (omega (arith, room)))
-      (omega (arith, w.1)) (tested_low i f room) w.0
+      (omega (arith, w.1)) (tested_low g e i f room) w.0
       ((tests s s_low).1 parts.1) lost)

@@ -5,7 +5,7 @@
 --   seq_unmet, left_unmet, right_unmet, here_unmet, round_unmet, test_unmet == what that means, program by program
 use Rattle.std.proofs.Common.{◌≡◌, ℕ, ◌+◌, ◌<◌, ◌==◌, ◌⊎◌, Bool, true, false, ◌&&◌, List, inl, refl, sym, subst, ◌∙◌}
 use Rattle.std.specs.Str.{bytes_eq}
-use Rattle.std.proofs.lemmas.Bool.{false≢true, and_parts, and_from, or_left, or_right}
+use Rattle.std.proofs.lemmas.Bool.{false≢true, and_parts, and_from, or_left, or_right, eq-eqb}
 use Rattle.ml_lists.specs.Member.{IsMember}
 use Rattle.ml_lists.proofs.Member.{member-map_from, member-filter_from, member-list_any}
 use Rattle.ml_base.specs.declared.structure.Edge.{Edge}
@@ -13,7 +13,7 @@ use Rattle.ml_base.specs.Structure.{Structure, is_member}
 use Rattle.ml_graph.specs.CheckingGame.{targets}
 use Rattle.ml_pdl.specs.Formula.{Formula, Program, Act, Seq, Alt, Star, Test, program_occurrences}
 use Rattle.ml_pdl.specs.Meaning.{has_edge, meaning, relation}
-use Rattle.ml_pdl.proofs.RunsInto.{equal_number, into, of_run, no_run, never_run}
+use Rattle.ml_pdl.proofs.RunsInto.{into, of_run, no_run, never_run}
 use Rattle.ml_pdl.proofs.StarRelations.{star_stays, star_first}
 use Rattle.ml_pdl_graph.proofs.Players.{node_of}
 
@@ -54,7 +54,7 @@ target_edge m a s t h =
     let parts = and_parts (image.from.source == s) (bytes_eq image.from.action a) kept.1 in
     member-list_any (λ d. (d.source == s) && bytes_eq d.action a && (d.target == t)) image.from m.edges kept.0
     (three (image.from.source == s) (bytes_eq image.from.action a) (image.from.target == t) parts.0 parts.1
-    (subst (λ x. (image.from.target == x) ≡ true) (sym image.holds) (equal_number image.from.target)))
+    (subst (λ x. (image.from.target == x) ≡ true) (sym image.holds) (eq-eqb image.from.target image.from.target refl)))
 
 module _ (m : Structure) (K : ℕ → Bool) (s : ℕ) (s_low : s < m.states) where
   pub seq_unmet : (p q : Program)
@@ -100,4 +100,4 @@ module _ (m : Structure) (K : ℕ → Bool) (s : ℕ) (s_low : s < m.states) whe
       → K s ≡ false
   test_unmet f never shown =
       no_run m (relation m (Test f)) K s never s s_low
-      (and_from (s == s) (is_member (meaning m f) s) (equal_number s) shown)
+      (and_from (s == s) (is_member (meaning m f) s) (eq-eqb s s refl) shown)

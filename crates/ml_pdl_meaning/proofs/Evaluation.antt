@@ -5,12 +5,8 @@
 --   square_value             == what no run leads out of
 --   followed_value, either_value, test_value, star_value == runs of programs into a set
 --   related_value            == runs to one state
---   same_flags               == two lists of flags that pass the test for equality are equal
-use Rattle.std.proofs.Common.{◌≡◌, ℕ, ◌<◌, ◌==◌, ◌&&◌, Bool, true, not, length, map, replicate, refl, sym, ap, subst, ◌∙◌}
-use Rattle.std.proofs.Math.Bool.{beq}
-use Rattle.std.specs.Cmp.{booleans_Decides}
-use Rattle.std.specs.Cmp.Lexicographic.{pointwise}
-use Rattle.std.proofs.lemmas.Slice.Eq.{slice_eq-Decides}
+use Rattle.std.proofs.Common.{◌≡◌, ℕ, ◌<◌, ◌==◌, ◌&&◌, Bool, true, not, length, map, replicate, sym, ap, subst, ◌∙◌, refl}
+use Rattle.std.proofs.lemmas.Bool.{eq-eqb, eqb-true}
 use Rattle.ml_lists.specs.Iterate.{iterate}
 use Rattle.ml_lists.proofs.Tables.{table_const}
 use Rattle.ml_lists.proofs.Says.{same_truth}
@@ -19,8 +15,8 @@ use Rattle.ml_base.specs.Structure.{Structure, StateSet, is_member, states_where
 use Rattle.ml_pdl.specs.Formula.{Formula, Const, Binary, Program, Seq, Alt, Star, Test}
 use Rattle.ml_pdl.specs.declared.term.Modality.TheVariants.{Square}
 use Rattle.ml_pdl.specs.Meaning.{Relation, truth_of, some_run, modal, meaning, relation}
-use Rattle.ml_pdl.proofs.RunsInto.{same_number, equal_number, run_of, of_run}
-use Rattle.ml_pdl.proofs.StarRelations.{member_where}
+use Rattle.ml_pdl.proofs.RunsInto.{run_of, of_run}
+use Rattle.ml_base.proofs.StateSets.{member_where}
 use Rattle.ml_pdl_meaning.proofs.RunsIntoSets.{before, union, grown, before_either, before_followed, before_test, before_rounds, all_before}
 
 pub constant_value : (m : Structure) (b : Bool) (set : StateSet) → set ≡ replicate m.states b
@@ -92,7 +88,7 @@ related_value m r from to end states related from_low to_low end_is states_is is
     ∙ member_where m (some_run m r there) from from_low
     ∙ same_truth (some_run m r there from) (r from to) arrives
     (λ runs. of_run m r (is_member there) from to to_low runs
-    (member_where m (λ s. s == to) to to_low ∙ equal_number to))
+    (member_where m (λ s. s == to) to to_low ∙ eq-eqb to to refl))
   where
     there : StateSet
     there = states_where m (λ s. s == to)
@@ -101,7 +97,4 @@ related_value m r from to end states related from_low to_low end_is states_is is
     arrives runs =
         let run = run_of m r (is_member there) from runs in
         subst (λ t. r from t ≡ true)
-        (same_number run.state to (sym (member_where m (λ s. s == to) run.state run.low) ∙ run.inside)) run.run
-
-pub same_flags : (left right : StateSet) → true ≡ pointwise beq left right → left ≡ right
-same_flags left right test = (slice_eq-Decides booleans_Decides left right true test).0 refl
+        (eqb-true run.state to (sym (member_where m (λ s. s == to) run.state run.low) ∙ run.inside)) run.run

@@ -12,7 +12,7 @@
 --   all_before         == all runs lead into a set where none leads out of it
 use Rattle.std.proofs.Common.{◌≡◌, ℕ, zero, suc, ◌<◌, ◌==◌, Bool, true, false, ◌&&◌, ◌||◌, not, List, [], ◌∷◌, length, map, refl, sym, ap, subst, ◌∙◌, ⊎_elim, arith}
 use Rattle.std.specs.List.{list_any, list_all, range_with_len}
-use Rattle.std.proofs.lemmas.Bool.{and_parts, and_from, or_cases, or_left, or_right}
+use Rattle.std.proofs.lemmas.Bool.{and_parts, and_from, or_cases, or_left, or_right, eq-eqb, eqb-true}
 use Rattle.std.proofs.lemmas.List.{same_lists, get_or_default, get_or-map}
 use Rattle.std.proofs.lemmas.List.FromFn.{length-map-range_with_len, get_or-map-range_with_len}
 use Rattle.std.proofs.lemmas.Simd.{map-map}
@@ -20,8 +20,9 @@ use Rattle.ml_lists.specs.Iterate.{iterate}
 use Rattle.ml_base.specs.Structure.{Structure, StateSet, is_member, states_where}
 use Rattle.ml_pdl.specs.declared.term.Modality.TheVariants.{Diamond, Square}
 use Rattle.ml_pdl.specs.Meaning.{Relation, identity, either, followed_by, some_run, every_run, modal}
-use Rattle.ml_pdl.proofs.RunsInto.{same_number, equal_number, into, run_of, of_run}
-use Rattle.ml_pdl.proofs.StarRelations.{member_where, rounds}
+use Rattle.ml_pdl.proofs.RunsInto.{into, run_of, of_run}
+use Rattle.ml_base.proofs.StateSets.{member_where}
+use Rattle.ml_pdl.proofs.StarRelations.{rounds}
 use Rattle.ml_lists.proofs.Says.{same_truth}
 
 abbrev pub before : Structure → Relation → StateSet → StateSet
@@ -162,26 +163,26 @@ module _ (m : Structure) where
           let run = run_of m tested (is_member set) s is in
           let parts = and_parts (s == run.state) (is_member holding s) run.run in
           and_from (is_member holding s) (is_member set s) parts.1
-          (subst (λ t. is_member set t ≡ true) (sym (same_number s run.state parts.0)) run.inside)
+          (subst (λ t. is_member set t ≡ true) (sym (eqb-true s run.state parts.0)) run.inside)
 
       from : (s : ℕ) → s < m.states → (is_member holding s && is_member set s) ≡ true
           → some_run m tested set s ≡ true
       from s low is =
           let parts = and_parts (is_member holding s) (is_member set s) is in
-          of_run m tested (is_member set) s s low (and_from (s == s) (is_member holding s) (equal_number s) parts.0)
+          of_run m tested (is_member set) s s low (and_from (s == s) (is_member holding s) (eq-eqb s s refl) parts.0)
           parts.1
 
   pub before_identity : (set : StateSet) → length set ≡ m.states → before m identity set ≡ set
   before_identity set flags =
       same_states m (some_run m identity set) (is_member set)
       (λ s low. same_truth (some_run m identity set s) (is_member set s) (to s)
-      (λ is. of_run m identity (is_member set) s s low (equal_number s) is))
+      (λ is. of_run m identity (is_member set) s s low (eq-eqb s s refl) is))
       ∙ own_states m set flags
     where
       to : (s : ℕ) → some_run m identity set s ≡ true → is_member set s ≡ true
       to s is =
           let run = run_of m identity (is_member set) s is in
-          subst (λ t. is_member set t ≡ true) (sym (same_number s run.state run.run)) run.inside
+          subst (λ t. is_member set t ≡ true) (sym (eqb-true s run.state run.run)) run.inside
 
   -- ---- rounds
 

@@ -21,7 +21,7 @@ use Rattle.ml_text.specs.NameLists.{with_name, with_names, place_of}
 abbrev pub is_among : List (List ℕ) → List ℕ → Bool
 is_among ps p = list_any (bytes_eq p) ps
 
-same_name : (p : List ℕ) → bytes_eq p p ≡ true
+pub same_name : (p : List ℕ) → bytes_eq p p ≡ true
 same_name p = (bytes_eq-Decides p p).1 refl
 
 among_more : (ps : List (List ℕ)) (p q : List ℕ) → is_among ps p ≡ true → is_among (ps ++ q ∷ []) p ≡ true

@@ -4,13 +4,14 @@
 --   Scans w text ss      == the text is made of blanks and of the tokens ss, each the longest where it stands
 --   scans_tokens         == then these are its tokens
 use Rattle.std.proofs.Common.{◌≡◌, ℕ, zero, suc, ◌+◌, ◌-◌, ◌≤◌, true, false, List, [], ◌∷◌, ◌++◌, length, map, take, drop, refl, sym, ◌∙◌, ap, arith, length-append, drop-drop}
-use Rattle.std.proofs.lemmas.Bool.{cond-true, cond-false}
+use Rattle.std.proofs.lemmas.Bool.{cond-false}
 use Rattle.std.proofs.Math.Seq.{take-append_seam, drop-append_seam}
 use Rattle.ml_text.specs.Bytes.{is_blank}
 use Rattle.ml_text.specs.Tokens.{front_token, tokens_at, tokens_from, tokens}
 use Rattle.ml_text.specs.declared.token.Token.{Token}
 use Rattle.ml_text.specs.declared.token.WordStart.{WordStart}
 use Rattle.ml_text.specs.declared.token.Placed.{Placed}
+use Rattle.ml_text.proofs.Scan.{tokens_at-end, tokens_at-blank}
 
 abbrev pub Spelt : Type 0
 Spelt = Token × List ℕ
@@ -27,12 +28,6 @@ pub data Scans (w : WordStart) : List ℕ → List Spelt → Type 0 where
       → Scans w rest ss
       → Scans w (b ∷ (bs ++ rest)) ((t, b ∷ bs) ∷ ss)
 
-tokens_at-blank : (n : ℕ) (w : WordStart) (i b : ℕ) (rest : List ℕ)
-    → is_blank b ≡ true
-    → tokens_at (suc n) w i (b ∷ rest) ≡ tokens_at n w (i + 1) rest
-unfolding tokens_at
-tokens_at-blank n w i b rest is = cond-true _ _ _ is
-
 -- the token that stands at a place, and the others
 at_piece : (n : ℕ) (w : WordStart) (i b : ℕ) (rest : List ℕ) (t : Token) (size : ℕ) → is_blank b ≡ false
     → front_token w b rest ≡ (t, size) → tokens_at (suc n) w i (b ∷ rest)
@@ -42,11 +37,6 @@ at_piece n w i b rest t size other front =
     cond-false _ _ _ other
     ∙ ap (λ (f : Token × ℕ). (record { token = f.0; start = i; end = i + f.1 }) ∷ tokens_at n w (i + f.1)
     (drop f.1 (b ∷ rest))) front
-
-no_tokens : (n : ℕ) (w : WordStart) (i : ℕ) → tokens_at n w i [] ≡ []
-unfolding tokens_at
-no_tokens zero w i = refl
-no_tokens (suc n) w i = refl
 
 spelt_piece : (text0 : List ℕ) (i : ℕ) (t : Token) (b : ℕ) (bs rest : List ℕ) → drop i text0 ≡ b ∷ (bs ++ rest)
     → spelt_at text0 (record { token = t; start = i; end = i + suc (length bs) }) ≡ (t, b ∷ bs)
@@ -62,7 +52,7 @@ pub scans_at : (w : WordStart) {text : List ℕ} {ss : List Spelt}
     → (text0 : List ℕ)
     → drop i text0 ≡ text
     → map (spelt_at text0) (tokens_at n w i text) ≡ ss
-scans_at w ends n i fits text0 there = ap (map (spelt_at text0)) (no_tokens n w i)
+scans_at w ends n i fits text0 there = ap (map (spelt_at text0)) (tokens_at-end n w i)
 scans_at w (blank b is r) zero i fits text0 there = absurd (omega arith)
 scans_at w (blank {rest = rest} b is r) (suc n) i fits text0 there =
     ap (map (spelt_at text0)) (tokens_at-blank n w i b rest is)

@@ -1,12 +1,12 @@
 -- The longest spelling of a table with which a text begins, for any table.
 --
 --   Found es text best == best is the token and the length of a spelling of the table with which the text begins
-use Rattle.std.proofs.Common.{◌≡◌, ℕ, zero, suc, ◌<◌, ◌≤◌, true, false, ◌&&◌, ◌⊎◌, List, [], ◌∷◌, length, take, get_or, Option, Some, None, nat_eq}
-use Rattle.std.proofs.Common.{Contains, sym, refl, ap, ◌∙◌, subst, inl, inr, ⊎_elim, arith, ltb-true, ltb-false, length-take}
+use Rattle.std.proofs.Common.{◌≡◌, ℕ, ◌<◌, ◌≤◌, true, false, ◌&&◌, List, [], ◌∷◌, length, take, Option, Some, None, nat_eq}
+use Rattle.std.proofs.Common.{Contains, sym, refl, ap, ◌∙◌, subst, ⊎_elim, arith, ltb-true, ltb-false, length-take}
 use Rattle.std.specs.List.{starts_with}
 use Rattle.std.proofs.lemmas.Bool.{cases_Bool, and_from, and_left, and_right, cond-true, cond-false}
-use Rattle.std.proofs.lemmas.List.Elements.{Contains-append_right}
 use Rattle.std.proofs.lemmas.Slice.Eq.{bytes_eq-Decides}
+use Rattle.ml_lists.proofs.Members.{contains_head, contains_cases, contains_later}
 use Rattle.ml_text.specs.Tokens.{is_longer, longest_sign}
 use Rattle.ml_text.specs.declared.token.Token.{Token}
 
@@ -47,23 +47,6 @@ longest_sign-shorter e es text longer =
     cond-false (starts_with nat_eq text e.0 && is_longer e (longest_sign es text)) (Some (e.1, length e.0))
     (longest_sign es text) (and_right _ _ longer)
 
--- an element of a list is its first one or one of the others
-contains_cases_at : {X : Type 0} (x : X) (xs : List X) (y : X) (k : ℕ)
-    → k < length (x ∷ xs)
-    → get_or (x ∷ xs) k y ≡ y
-    → (x ≡ y) ⊎ Contains xs y
-contains_cases_at x xs y zero within is = inl is
-contains_cases_at x xs y (suc k) within is = inr (k, omega arith, is)
-
-pub contains_cases : {X : Type 0} (x : X) (xs : List X) (y : X) → Contains (x ∷ xs) y → (x ≡ y) ⊎ Contains xs y
-contains_cases x xs y h = contains_cases_at x xs y h.0 h.1 h.2
-
-pub contains_first : {X : Type 0} (x : X) (xs : List X) → Contains (x ∷ xs) x
-contains_first x xs = (0, omega arith, refl)
-
-pub contains_later : {X : Type 0} (x : X) (xs : List X) (y : X) → Contains xs y → Contains (x ∷ xs) y
-contains_later x xs y h = Contains-append_right (x ∷ []) xs y h
-
 pub record Found (es : List (List ℕ × Token)) (text : List ℕ) (best : Token × ℕ) : Type 0 where
   pub spelling : List ℕ
   pub listed : Contains es (spelling, best.0)
@@ -85,7 +68,7 @@ found_first : (e : List ℕ × Token) (es : List (List ℕ × Token)) (text : Li
     → Found (e ∷ es) text (e.1, length e.0)
 found_first e es text starts = record {
   spelling = e.0;
-  listed = contains_first e es;
+  listed = contains_head e es;
   starts = starts;
   long = refl;
 }

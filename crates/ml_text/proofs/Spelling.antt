@@ -16,7 +16,7 @@ use Rattle.ml_text.specs.declared.token.Token.{Token}
 use Rattle.ml_text.specs.declared.token.Token.TheVariants as token
 use Rattle.ml_text.specs.declared.token.WordStart.{WordStart}
 use Rattle.ml_text.proofs.ByteKinds.{begins_word-letter, begins_word-no_blank, word_byte-no_blank}
-use Rattle.ml_text.proofs.Signs.{contains_first, contains_later}
+use Rattle.ml_lists.proofs.Members.{contains_head, contains_later}
 
 -- the table of signs has only signs, none has an empty spelling, begins with a letter or has a blank
 is_sign : Token → Bool
@@ -159,7 +159,7 @@ read_sign-none (e ∷ es) bytes none =
     ⊎_elim
     (λ (same : bytes_eq e.0 bytes ≡ true).
     absurd (none e.1 (subst (λ x. Contains (e ∷ es) (x, e.1)) ((bytes_eq-Decides e.0 bytes).0 same)
-    (contains_first e es))))
+    (contains_head e es))))
     (λ (other : bytes_eq e.0 bytes ≡ false). cond-false (bytes_eq e.0 bytes) (Some e.1) (read_sign es bytes) other
     ∙ read_sign-none es bytes (λ t h. none t (contains_later e es (bytes, t) h)))
     (cases_Bool (bytes_eq e.0 bytes))

@@ -2,14 +2,14 @@
 --
 --   one_graph  == a formula has one graph at most, in each sense
 --   some_graph == and it has one
-use Rattle.std.proofs.Common.{ℕ, ◌≡◌, ◌+◌, ◌*◌, ◌<◌, ◌≤◌, ◌⊎◌, inl, inr, Bool, List, [], ◌∷◌, length, arith}
+use Rattle.std.proofs.Common.{◌+◌, ◌*◌, ◌≤◌, ◌⊎◌, inl, inr, arith}
 use Rattle.ml_graph.specs.Graph.{Graph, size}
 use Rattle.ml_nodes.specs.ClosureGraph as closure
 use Rattle.ml_nodes.proofs.OneNumbering as numbering
 use Rattle.ml_nodes.proofs.SomeGraph as graphs
-use Rattle.ml_ctl.specs.Formula.{Formula, occurrences}
+use Rattle.ml_ctl.specs.Formula.{occurrences}
 use Rattle.ml_word_graph.specs.Laws.{OneGraph, SomeGraph}
-use Rattle.ml_word_graph.specs.WordGraph.{IsGraphOf, Place, Root, forms, start_of}
+use Rattle.ml_word_graph.specs.WordGraph.{IsGraphOf, Root, forms, start_of}
 use Rattle.ml_word_graph.proofs.PlaceEquality.{same_place}
 use Rattle.ml_word_graph.proofs.Sizes.{few_reached}
 

@@ -3,7 +3,7 @@
 --   here_says  == the value of the formula at the state tells whether a word from there satisfies it, whichever word
 --   holds_or_fails == a problem holds at a state, or it doesn't
 --   complement == so a problem holds where the negated one doesn't, since from each state goes a word
-use Rattle.std.proofs.Common.{◌≡◌, ℕ, ◌<◌, ◌⊎◌, Bool, true, false, inl, inr, subst, sym, ◌∙◌, ⊎_elim, arith}
+use Rattle.std.proofs.Common.{◌≡◌, ℕ, ◌<◌, Bool, true, false, inl, inr, subst, sym, ◌∙◌, ⊎_elim, arith}
 use Rattle.std.proofs.lemmas.Bool.{cases_Bool, false≢true}
 use Rattle.ml_lists.specs.Lasso.{Lasso}
 use Rattle.ml_lists.proofs.Decided.{Decided}

@@ -14,7 +14,7 @@ use Rattle.std.proofs.Common.{if◌then◌else◌, length, get_or, inl, inr, ref
 use Rattle.std.proofs.lemmas.Bool.{cases_Bool, false≢true}
 use Rattle.ml_lists.specs.Lasso.{Lasso, entry, round}
 use Rattle.ml_lists.specs.Walk.{walk}
-use Rattle.ml_lists.proofs.Lasso.{round-entry, on_loop, loop_length, lowest_on_loop_is, lowest_on_loop_place}
+use Rattle.ml_lists.proofs.Lasso.{round-entry, on_loop, loop_length, lowest_on_loop_is, lowest_on_loop_place, on_loop-entry}
 use Rattle.ml_base.specs.Structure.{Structure}
 use Rattle.ml_parity.specs.declared.players.Player.TheVariants.{Even}
 use Rattle.ml_parity.specs.Game.{priority_of}
@@ -30,7 +30,7 @@ use Rattle.ml_ctl.specs.declared.term.Pairing.TheVariants as pairing
 use Rattle.ml_word_graph.specs.Problem.{IsAdmitted}
 use Rattle.ml_word_graph.specs.WordGraph as word
 use Rattle.ml_word_graph.specs.WordGraph.{Place, Form, Root, Total, HasEdge, LeadsOn, True, Now, Later, Rest, Both, Neither}
-use Rattle.ml_word_graph.specs.WordGraph.{IsNumberOf, IsNumberedBy, all_of, form_of, is_eventual, right_at}
+use Rattle.ml_word_graph.specs.WordGraph.{IsNumberedBy, all_of, form_of, is_eventual, right_at}
 use Rattle.ml_word_graph.proofs.StateValues.{comes_about, exit_of, is_cycle, is_least, next, value}
 use Rattle.ml_word_graph.proofs.NodeValues.{node_value, signed}
 use Rattle.ml_word_graph.proofs.Levels.{IsLinear, Stays, level, some_occurrence}
@@ -345,17 +345,13 @@ module _ (g : Graph) (m : Structure) (ok : IsAdmitted m) (root : Place) (places 
 
     -- ---- the loop
 
-    there : (i : ℕ) → l.start ≤ i → i < length l.entries → on_loop l (i - l.start) ≡ entry l i
-    there i late low =
-        let same : l.start + (i - l.start) ≡ i = omega arith in ap (λ n. get_or (round l) n 0) same ∙ round-entry l i low
-
     pub loop_won : winner (checking_game g m) l ≡ player_of b
     loop_won = by_player b refl
       where
         by_player : (c : Bool) → b ≡ c → winner (checking_game g m) l ≡ player_of c
         by_player true even =
             let p = lowest_on_loop_place (priority_of (checking_game g m)) l play.starts in
-            ap side (sym p.holds ∙ ap (priority_of (checking_game g m)) (sym (there p.place p.later p.below)))
+            ap side (sym p.holds ∙ ap (priority_of (checking_game g m)) (sym (on_loop-entry l p.place p.later p.below)))
             ∙ even_priority even (p.place - l.start) (omega (arith, p.later, p.below))
         by_player false odd =
             let p = odd_lowest odd in
@@ -366,7 +362,7 @@ module _ (g : Graph) (m : Structure) (ok : IsAdmitted m) (root : Place) (places 
             ap side (lowest_on_loop_is (priority_of (checking_game g m)) l i (omega arith) i_low
             (λ j late low.
             let least = odd_least odd (j - l.start) (omega (arith, late, low)) in
-            let same = ap (priority_of (checking_game g m)) (there j late low) in
+            let same = ap (priority_of (checking_game g m)) (on_loop-entry l j late low) in
             omega (arith, is, least, same)) ∙ is)
 
   pub player_wins : (u : Vertex) → Good g m ok root places nb linear b u → Wins (checking_game g m) (player_of b) (vertex_number g m u)

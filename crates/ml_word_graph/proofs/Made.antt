@@ -10,14 +10,13 @@ use Rattle.std.specs.List.{flat_map, range_with_len, slice_get, IsDistinct}
 use Rattle.std.specs.Option.{option_map}
 use Rattle.std.proofs.lemmas.Bool.{cases_lt}
 use Rattle.std.proofs.lemmas.List.{length-map, get_or-map}
-use Rattle.std.proofs.lemmas.List.Concat.{flat_map-cons}
-use Rattle.std.proofs.lemmas.List.Elements.{All-append, All-cons, All-nil}
-use Rattle.std.proofs.lemmas.List.FromFn.{get_or-range_with_len, length-range_with_len}
-use Rattle.std.proofs.lemmas.Option.{slice_get-map, slice_get_within, slice_get-get_or}
+use Rattle.std.proofs.lemmas.List.Elements.{All-append, All-nil}
+use Rattle.std.proofs.lemmas.Option.{slice_get-map, slice_get_within, slice_get-get_or, same_Some}
 use Rattle.ml_lists.specs.BreadthFirst.{IsBreadthFirst}
 use Rattle.ml_lists.specs.Member.{IsMember}
-use Rattle.ml_lists.proofs.InTurn.{in_turn}
 use Rattle.ml_lists.proofs.Member.{Image, member-map, member-map_from, member-place, member_of_get}
+use Rattle.ml_lists.proofs.RowsInTurn.{AreFromEarlier, turns_in_order}
+use Rattle.ml_lists.specs.InTurn.{RunsOn}
 use Rattle.ml_graph.proofs.Places.{one_name}
 use Rattle.ml_graph.specs.Graph.{Graph, IsGraph, Reference, references_of}
 use Rattle.ml_graph.specs.declared.node.Node.{Node}
@@ -26,7 +25,7 @@ use Rattle.ml_text.specs.NameLists.{place_of}
 use Rattle.ml_text.specs.Names.{Proposition, of_kind}
 use Rattle.ml_text.proofs.NameLists.{distinct_names, place_found}
 use Rattle.ml_text.proofs.Names.{kind_among}
-use Rattle.ml_nodes.proofs.InRange.{none_twice}
+use Rattle.ml_nodes.proofs.InRange.{none_twice, IsInRange, one, two, all_in_range}
 use Rattle.ml_ctl.specs.Formula as plain
 use Rattle.ml_ctl.specs.Formula.{Formula, occurrences}
 use Rattle.ml_word_graph.specs.WordGraph.{Place, Form, Root, Total, HasEdge, LeadsOn, True, Constant, Literal, And, Or, Diamond, Square, IsReached, at_root, behind, IsNumberOf, IsNumberedBy, IsGraphOf, HasForm}
@@ -66,28 +65,6 @@ beyond [] k past = refl
 beyond (p ∷ P) zero past = absurd (omega (arith, past))
 beyond (p ∷ P) (suc k) past = beyond P k (omega (arith, past))
 
--- all numbers to which nodes refer are in range
-abbrev IsInRange : Reference → Type 0
-IsInRange r = r.number < r.bound
-
-one : (k bound : ℕ) → k < bound → All IsInRange (record { number = k; bound = bound } ∷ [])
-one k bound low = All-cons IsInRange (record { number = k; bound = bound }) [] low (All-nil IsInRange)
-
-two : (k bound j limit : ℕ) → k < bound → j < limit
-    → All IsInRange (record { number = k; bound = bound } ∷ record { number = j; bound = limit } ∷ [])
-two k bound j limit low under =
-    All-cons IsInRange (record { number = k; bound = bound }) (record { number = j; bound = limit } ∷ []) low
-    (one j limit under)
-
-all_in_range : (refs : Node → List Reference) (us : List Node)
-    → ((n : ℕ) → n < length us → All IsInRange (refs (get_or us n node.True)))
-    → All IsInRange (flat_map refs us)
-all_in_range refs [] each = All-nil IsInRange
-all_in_range refs (u ∷ us) each =
-    subst (All IsInRange) (sym (flat_map-cons refs u us))
-    (All-append IsInRange (refs u) (flat_map refs us) (each 0 (omega arith))
-    (all_in_range refs us (λ n low. each (suc n) (omega (arith, low)))))
-
 -- a child has a number
 child_inside : (g : Graph) (ps : List Place) (v : Node) (f : Form) (p : Place)
     → HasForm g ps v f
@@ -109,9 +86,6 @@ child_inside g ps v (Square q) p has (inr none) = absurd none
 from_map : {X Y : Type 0} → (h : X → Y) (o : Option X) (y : Y) → option_map h o ≡ Some y → (x : X) × (o ≡ Some x) × (h x ≡ y)
 from_map h None y e = absurd (cc)
 from_map h (Some x) y e = (x, refl, (let same : h x ≡ y = cc in same))
-
-same_some : (s t : ℕ) → Some s ≡ Some t → s ≡ t
-same_some s t e = cc
 
 module _ (f : Formula) (negated : Bool) (ps : List (List ℕ)) where
   abbrev root : Place
@@ -234,7 +208,7 @@ module _ (f : Formula) (negated : Bool) (ps : List (List ℕ)) where
     made_of : (n k : ℕ) → n < length vs → slice_get xs n ≡ Some k → Made n (place k)
     made_of n k low at =
         let m = D.made n low in
-        let same : m.old ≡ k = same_some m.old k (sym m.at ∙ at) in
+        let same : m.old ≡ k = same_Some m.old k (sym m.at ∙ at) in
         let here = key_of n m.old m.at in
         subst (λ j. Made n (place j)) same (record {
           has_form =
@@ -273,21 +247,11 @@ module _ (f : Formula) (negated : Bool) (ps : List (List ℕ)) where
     abbrev rows : List (List ℕ)
     rows = map row_of vs
 
-    zero_in_front : (n : ℕ) → 0 + n ≡ n
-    zero_in_front n = omega arith
-
     order : IsBreadthFirst 0 rows (range_with_len 0 (length vs))
-    order = record {
-      a_row_each = length-map vs row_of ∙ sym (length-range_with_len 0 (length vs));
-      in_order = ap (range_with_len 0) whole ∙ sym (in_turn (length xs) (0 ∷ flat_map (λ r. r) rows) D.runs_on);
-      from_earlier = λ k some low.
-          let long = length-range_with_len 0 (length vs) in
-          let within : k < length vs = omega (arith, low, long) in
-          let e = D.from_earlier k some (omega (arith, within, whole)) in
-          let is : get_or (range_with_len 0 (length vs)) k 0 ≡ k =
-          get_or-range_with_len 0 (length vs) k 0 within ∙ zero_in_front k in
-          (e.0, e.1, subst (λ n. IsMember n (get_or rows e.0 [])) (sym is) e.2);
-    }
+    order =
+        turns_in_order rows (length vs) (length-map vs row_of)
+        (subst (RunsOn 0 (0 ∷ flat_map (λ r. r) rows)) (sym whole) D.runs_on)
+        (subst (AreFromEarlier rows) (sym whole) D.from_earlier)
 
     pub numbered : IsNumberedBy graph root numbers
     numbered = record {

@@ -12,13 +12,14 @@
 --   ChildOf f s b w           == the vertex w is that of a child of the form f
 --   pair_step                 == from a good pair one comes to a good child or to a good sink
 --   chosen_left               == the player takes the left child where it is good
-use Rattle.std.proofs.Common.{◌≡◌, ℕ, zero, suc, ◌<◌, ◌⊎◌, ◌==◌, ◌&&◌, ◌||◌, Bool, true, false, List, [], ◌∷◌, Option, None, Some}
-use Rattle.std.proofs.Common.{if◌then◌else◌, length, slice_get, codes, bytes_eq, inl, inr, refl, sym, ap, subst, ◌∙◌, eqb-true, arith}
+use Rattle.std.proofs.Common.{◌≡◌, ℕ, ◌<◌, ◌⊎◌, ◌==◌, ◌&&◌, ◌||◌, Bool, true, false, List, [], ◌∷◌, Option, None, Some}
+use Rattle.std.proofs.Common.{if◌then◌else◌, slice_get, codes, bytes_eq, inl, inr, refl, sym, ap, subst, ◌∙◌, eqb-true, arith}
 use Rattle.std.specs.Bool.{beq}
 use Rattle.std.proofs.lemmas.Bool.{and_parts, and_from, eq-eqb, false≢true}
 use Rattle.std.proofs.lemmas.Option.{slice_get_within}
 use Rattle.ml_lists.specs.Member.{IsMember}
 use Rattle.ml_lists.proofs.Member.{member-map, member-map_from, member-filter, member-filter_from, list_any-member, member-list_any, member_of_get}
+use Rattle.ml_lists.proofs.Entries.{some_entry}
 use Rattle.ml_base.specs.declared.structure.Edge.{Edge}
 use Rattle.ml_base.specs.Structure.{Structure, lists}
 use Rattle.ml_parity.specs.declared.players.Player.{Player}
@@ -28,13 +29,14 @@ use Rattle.ml_graph.specs.CheckingGame.{Vertex, Pair, Sink, mover, owner_at, pai
 use Rattle.ml_graph.specs.declared.node.Node.{Node}
 use Rattle.ml_graph.specs.declared.node.Node.TheVariants as node
 use Rattle.ml_graph.proofs.CheckingGame.{IsVertex}
+use Rattle.ml_graph.proofs.OneStep.{pair_member}
 use Rattle.ml_nodes.specs.Nodes.{constant}
 use Rattle.ml_ctl.specs.Paths.{has_step}
 use Rattle.ml_word_graph.specs.Problem.{IsAdmitted}
 use Rattle.ml_word_graph.specs.WordGraph.{Place, Form, Constant, Literal, And, Or, Diamond, Square, IsNumberOf, IsNumberedBy, HasForm, children, form_of}
 use Rattle.ml_word_graph.proofs.Words.{next_leads, next_low, only_next}
 use Rattle.ml_word_graph.proofs.StateValues.{next}
-use Rattle.ml_word_graph.proofs.NodeValues.{signed, node_value, form_value, consistent}
+use Rattle.ml_word_graph.proofs.NodeValues.{signed, const_value, node_value, form_value, consistent}
 use Rattle.ml_word_graph.proofs.Levels.{IsLinear, reached_linear}
 
 abbrev pub player_of : Bool → Player
@@ -45,11 +47,6 @@ player_of false = Odd
 abbrev pub verdict : Bool → ℕ
 verdict b = if b then 0 else 1
 
-pub some_at : {X : Type 0} (xs : List X) (k : ℕ) → k < length xs → (x : X) × (slice_get xs k ≡ Some x)
-some_at [] k low = absurd (omega arith)
-some_at (x ∷ xs) zero low = (x, refl)
-some_at (x ∷ xs) (suc k) low = some_at xs k (omega arith)
-
 -- a conjunction where Odd is the player, and a disjunction where Even is
 abbrev pub own_form : Bool → Place → Place → Form
 own_form true l r = Or l r
@@ -58,7 +55,7 @@ own_form false l r = And l r
 module _ (g : Graph) (m : Structure) (ok : IsAdmitted m) (root : Place) (places : List Place) (nb : IsNumberedBy g root places)
     (linear : IsLinear root) where
   pub at_number : (n : ℕ) → n < size g → (p : Place) × IsNumberOf places n p
-  at_number n low = some_at places n (omega (arith, low, nb.one_each))
+  at_number n low = some_entry places n (omega (arith, low, nb.one_each))
 
   pub number_low : (n : ℕ) (p : Place) → IsNumberOf places n p → n < size g
   number_low n p is = omega (arith, slice_get_within places n p is, nb.one_each)
@@ -125,10 +122,6 @@ module _ (g : Graph) (m : Structure) (ok : IsAdmitted m) (root : Place) (places 
   picked true s l r = inl refl
   picked false s l r = inr (inl refl)
 
-  pairs_member : (c p t : ℕ) (ts : List ℕ) → IsMember t ts → IsMember (Pair t c) (pairs_or_sink c p ts)
-  pairs_member c p t [] h = absurd h
-  pairs_member c p t (x ∷ xs) h = member-map (λ s. Pair s c) t (x ∷ xs) h
-
   module _ (b : Bool) (s : ℕ) (low : s < m.states) where
     abbrev Chosen : Node → Type 0
     Chosen x = IsMember (choose_node b s x) (successors_of g m s x)
@@ -143,10 +136,10 @@ module _ (g : Graph) (m : Structure) (ok : IsAdmitted m) (root : Place) (places 
     chosen_form x (And l r) (c, d, one, other, is) = subst Chosen (sym is) (picked (beq (value_at c s) b) s c d)
     chosen_form x (Or l r) (c, d, one, other, is) = subst Chosen (sym is) (picked (beq (value_at c s) b) s c d)
     chosen_form x (Diamond p) (a, c, one, is, act) =
-        subst Chosen (sym is) (pairs_member c 1 (behind s) (targets m s (action_at g a))
+        subst Chosen (sym is) (pair_member c 1 (behind s) (targets m s (action_at g a))
         (subst (λ y. IsMember (behind s) (targets m s y)) (sym act) (a_target s low)))
     chosen_form x (Square p) (a, c, one, is, act) =
-        subst Chosen (sym is) (pairs_member c 0 (behind s) (targets m s (action_at g a))
+        subst Chosen (sym is) (pair_member c 0 (behind s) (targets m s (action_at g a))
         (subst (λ y. IsMember (behind s) (targets m s y)) (sym act) (a_target s low)))
 
   pub chosen : (b : Bool) (u : Vertex) → IsVertex g m u → IsMember (choose b u) (successors g m u)
@@ -200,12 +193,6 @@ module _ (g : Graph) (m : Structure) (ok : IsAdmitted m) (root : Place) (places 
     constant_step : (c b : Bool) → c ≡ b → Reached (constant c) → w ≡ Sink (verdict b)
     constant_step true b is h = one_sink 0 b (ap verdict is) h
     constant_step false b is h = one_sink 1 b (ap verdict is) h
-
-    literal_value : (a sign : Bool) → beq a sign ≡ signed sign a
-    literal_value true true = refl
-    literal_value true false = refl
-    literal_value false true = refl
-    literal_value false false = refl
 
     module _ (f : Form) (l r : Place) (c d : ℕ) (b : Bool) (stays : state_behind f s ≡ s) (left : IsMember l (children f))
         (right : IsMember r (children f)) (one : IsNumberOf places c l) (other : IsNumberOf places d r) where
@@ -303,7 +290,7 @@ module _ (g : Graph) (m : Structure) (ok : IsAdmitted m) (root : Place) (places 
     step_form x (Constant c) b is value h own = inr (constant_step c b value (subst Reached is h))
     step_form x (Literal name sign) b (p, is, named) value h own =
         let same : beq (lists m s (prop_at g p)) sign ≡ b =
-        literal_value (lists m s (prop_at g p)) sign ∙ ap (λ y. signed sign (lists m s y)) named ∙ value in
+        const_value (lists m s (prop_at g p)) sign ∙ ap (λ y. signed sign (lists m s y)) named ∙ value in
         inr (one_sink (if beq (lists m s (prop_at g p)) sign then 0 else 1) b (ap verdict same) (subst Reached is h))
     step_form x (And l r) true (c, d, one, other, is) value h own =
         let parts = and_parts (node_value m ok l s) (node_value m ok r s) value in

@@ -9,6 +9,7 @@ use Rattle.std.specs.Bool.{beq}
 use Rattle.ml_base.specs.Structure.{Structure, lists}
 use Rattle.ml_text.specs.declared.token.Operator.TheVariants as operator
 use Rattle.std.proofs.lemmas.Bool.{false≢true}
+use Rattle.ml_lists.proofs.Says.{not-and, not-or}
 use Rattle.ml_ctl.specs.Formula.{Formula, Const, Prop, Not, Binary, Temporal, Paired, Quantified, is_linear}
 use Rattle.ml_ctl.specs.declared.term.Tense.TheVariants as tense
 use Rattle.ml_ctl.specs.declared.term.Pairing.{Pairing}
@@ -22,6 +23,13 @@ use Rattle.ml_word_graph.proofs.StateValues.{next, value, value_prop, value_next
 abbrev pub signed : Bool → Bool → Bool
 signed true b = b
 signed false b = not b
+
+-- the test of a sign
+pub const_value : (b sign : Bool) → beq b sign ≡ signed sign b
+const_value true true = refl
+const_value true false = refl
+const_value false true = refl
+const_value false false = refl
 
 abbrev pub rest_value : Pairing → Bool → Bool → Bool
 rest_value pairing.Until a b = a && b
@@ -59,20 +67,12 @@ module _ (m : Structure) (ok : IsAdmitted m) where
   all_value : (sign : Bool) (l r : Place) (a b : Bool) (s : ℕ) → node_value l s ≡ signed sign a → node_value r s ≡ signed sign b
       → form_value (all_of sign l r) s ≡ signed sign (a && b)
   all_value true l r a b s x y = ap (λ c. c && node_value r s) x ∙ ap (λ c. a && c) y
-  all_value false l r a b s x y = ap (λ c. c || node_value r s) x ∙ ap (λ c. not a || c) y ∙ not_both a b
-    where
-      not_both : (c d : Bool) → (not c || not d) ≡ not (c && d)
-      not_both true d = refl
-      not_both false d = refl
+  all_value false l r a b s x y = ap (λ c. c || node_value r s) x ∙ ap (λ c. not a || c) y ∙ not-and a b
 
   one_value : (sign : Bool) (l r : Place) (a b : Bool) (s : ℕ) → node_value l s ≡ signed sign a → node_value r s ≡ signed sign b
       → form_value (all_of (not sign) l r) s ≡ signed sign (a || b)
   one_value true l r a b s x y = ap (λ c. c || node_value r s) x ∙ ap (λ c. a || c) y
-  one_value false l r a b s x y = ap (λ c. c && node_value r s) x ∙ ap (λ c. not a && c) y ∙ neither a b
-    where
-      neither : (c d : Bool) → (not c && not d) ≡ not (c || d)
-      neither true d = refl
-      neither false d = refl
+  one_value false l r a b s x y = ap (λ c. c && node_value r s) x ∙ ap (λ c. not a && c) y ∙ not-or a b
 
   not_signed : (sign b : Bool) → signed (not sign) b ≡ signed sign (not b)
   not_signed true b = refl
@@ -92,12 +92,6 @@ module _ (m : Structure) (ok : IsAdmitted m) where
   cases_of_iff false true false = refl
   cases_of_iff false false true = refl
   cases_of_iff false false false = refl
-
-  const_value : (b sign : Bool) → beq b sign ≡ signed sign b
-  const_value true true = refl
-  const_value true false = refl
-  const_value false true = refl
-  const_value false false = refl
 
   now_consistent : (i : ℕ) (f : Formula) (sign : Bool) (s : ℕ) → s < m.states → is_linear f ≡ true
       → form_value (form_of (Now i f sign)) s ≡ signed sign (v f s)

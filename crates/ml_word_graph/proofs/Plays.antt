@@ -24,7 +24,7 @@ use Rattle.ml_parity.specs.Game.{ParityGame, HasMove, moves_of, owner_of}
 use Rattle.ml_parity.specs.Winner.{IsPlay, IsStrategyOf, Follows}
 use Rattle.ml_graph.specs.Graph.{Graph, IsGraph}
 use Rattle.ml_graph.specs.CheckingGame.{Vertex, Pair, Sink, checking_game, owner_at, successors, vertex_number, vertices}
-use Rattle.ml_graph.proofs.CheckingGame.{IsVertex, is_vertex, leads_to_vertices, moves_are, owner_is, vertex_at}
+use Rattle.ml_graph.proofs.CheckingGame.{IsVertex, is_vertex, leads_to_vertices, moves_are, owner_is, vertex_at, same_vertex}
 use Rattle.ml_word_graph.specs.Problem.{IsAdmitted}
 use Rattle.ml_word_graph.specs.WordGraph.{Place, IsNumberOf, IsNumberedBy, form_of}
 use Rattle.ml_word_graph.proofs.NodeValues.{node_value}
@@ -70,9 +70,6 @@ module _ (g : Graph) (m : Structure) (ok : IsAdmitted m) (root : Place) (places 
       get_or-map (λ x. map number (successors g m x)) (vertices g m) v (Sink 0) [] in_list in
       subst (λ (ws : List ℕ). Contains ws (strategy v)) (sym moves)
       (contains_of_member (strategy v) (map number (successors g m u)) (member-map number (choice u) (successors g m u) (choice_member u is)))
-
-  same_vertex : (u w : Vertex) → IsVertex g m u → IsVertex g m w → number u ≡ number w → u ≡ w
-  same_vertex u w u_is w_is same = sym (vertex_at g m u u_is) ∙ ap vertex_of same ∙ vertex_at g m w w_is
 
   -- a move that follows the choice
   pub record Went (u w : Vertex) : Type 0 where
@@ -155,7 +152,7 @@ module _ (g : Graph) (m : Structure) (ok : IsAdmitted m) (root : Place) (places 
           vertex = w_is;
           went = record {
             member = image.member;
-            by_choice = λ own. same_vertex image.from (choice u) w_is c_is
+            by_choice = λ own. same_vertex g m image.from (choice u) w_is c_is
                 (sym image.holds ∙ follows k low (ap (owner_of G) is ∙ owner_is g m u u_is ∙ own) ∙ ap strategy is
                 ∙ ap (λ x. number (choice x)) (vertex_at g m u u_is));
           };

@@ -6,20 +6,21 @@
 --   stepped       == one node more
 --   smaller       == fewer are left then
 --   all_inside, few_keys == keys are places of the list, so there are no more of them
-use Rattle.std.proofs.Common.{ℕ, zero, suc, ◌≡◌, ◌+◌, ◌-◌, ◌<◌, ◌≤◌, ◌⊎◌, inl, inr, arith, List, [], ◌∷◌, ◌++◌}
-use Rattle.std.proofs.Common.{All, length, map, get_or, Some, refl, sym, ap, ◌∙◌, subst, ⊎_elim, append-nil, length-append}
+use Rattle.std.proofs.Common.{ℕ, ◌≡◌, ◌+◌, ◌-◌, ◌<◌, ◌≤◌, ◌⊎◌, inl, inr, arith, List, [], ◌∷◌, ◌++◌}
+use Rattle.std.proofs.Common.{All, length, map, get_or, Some, refl, sym, ap, ◌∙◌, subst, ⊎_elim, length-append}
 use Rattle.std.specs.List.{flat_map, slice_get}
 use Rattle.std.proofs.lemmas.Bool.{cases_lt}
-use Rattle.std.proofs.lemmas.Grind.{flat_map-append}
-use Rattle.std.proofs.lemmas.List.{get_or_append_left, get_or_push, length-map, map-append}
+use Rattle.std.proofs.lemmas.List.{get_or_append_left, length-map, map-append}
 use Rattle.std.proofs.lemmas.List.Elements.{All-from_get_or}
 use Rattle.std.proofs.lemmas.Option.{slice_get_within, slice_get-get_or}
+use Rattle.std.proofs.Math.Seq.{get_or-append_seam}
 use Rattle.ml_lists.specs.Added.{IsAdded, HasOnePlace}
 use Rattle.ml_lists.specs.InTurn.{RunsOn}
 use Rattle.ml_lists.specs.Member.{IsMember}
 use Rattle.ml_lists.proofs.Added.{added_all, added_once, added_keeps, added_runs}
 use Rattle.ml_lists.proofs.Pigeons.{TwiceInList, pigeons_list}
-use Rattle.ml_lists.proofs.InTurn.{runs_append, runs_has, runs_up}
+use Rattle.ml_lists.proofs.InTurn.{runs_append, runs_up}
+use Rattle.ml_lists.proofs.RowsInTurn.{AreFromEarlier, earlier_more, turns_more}
 use Rattle.ml_graph.specs.declared.node.Node.{Node}
 use Rattle.ml_graph.specs.declared.node.Node.TheVariants as node
 use Rattle.ml_word_graph.specs.WordGraph.{row_of}
@@ -95,17 +96,6 @@ still xs ys keeps (node.Or l r) w (i, j, at_i, at_j, is) = (i, j, keeps i l at_i
 still xs ys keeps (node.Diamond a k) w (i, at, is) = (i, keeps i k at, is)
 still xs ys keeps (node.Square a k) w (i, at, is) = (i, keeps i k at, is)
 
-longer_by_one : {X : Type 0} (xs : List X) (x : X) → length (xs ++ x ∷ []) ≡ length xs + 1
-longer_by_one xs x = length-append xs (x ∷ [])
-
-at_end : {X : Type 0} (xs : List X) (x d : X) → get_or (xs ++ x ∷ []) (length xs) d ≡ x
-at_end xs x d = get_or_push xs x d (length xs) refl
-
-nothing : (rs : List (List ℕ)) (n k : ℕ) → length rs ≤ n → IsMember k (get_or rs n []) → ⊥
-nothing [] n k out none = none
-nothing (r ∷ rs) zero k out i = omega (arith, out)
-nothing (r ∷ rs) (suc n) k out i = nothing rs n k (omega (arith, out)) i
-
 module _ (all : List Node) (ranks : List ℕ) where
   pub one_key : (xs : List ℕ) (i : ℕ) → IsAdded [] 0 xs i → IsDraft all ranks xs [] []
   one_key xs i a =
@@ -136,7 +126,7 @@ module _ (all : List Node) (ranks : List ℕ) where
         (λ k m. behind S.old k (D.are_reached (length vs) S.old S.at) m) S.numbers
 
     long : length ws ≡ length vs + 1
-    long = ap length S.nodes ∙ longer_by_one vs S.node
+    long = ap length S.nodes ∙ length-append vs (S.node ∷ [])
 
     rows : map row_of ws ≡ map row_of vs ++ row_of S.node ∷ []
     rows = ap (map row_of) S.nodes ∙ map-append row_of vs (S.node ∷ [])
@@ -144,16 +134,10 @@ module _ (all : List Node) (ranks : List ℕ) where
     low_old : length vs < length xs
     low_old = slice_get_within xs (length vs) S.old S.at
 
-    abbrev flat : List (List ℕ) → List ℕ
-    flat = flat_map (λ (r : List ℕ). r)
-
-    runs : RunsOn 0 (0 ∷ flat (map row_of ws)) (length ys)
+    runs : RunsOn 0 (0 ∷ flat_map (λ (r : List ℕ). r) (map row_of ws)) (length ys)
     runs =
-        subst (λ r. RunsOn 0 (0 ∷ flat r) (length ys)) (sym rows)
-        (subst (λ r. RunsOn 0 (0 ∷ r) (length ys))
-        (sym (flat_map-append (λ (r : List ℕ). r) (map row_of vs) (row_of S.node ∷ [])
-        ∙ ap (λ r. flat (map row_of vs) ++ r) (append-nil (row_of S.node))))
-        (runs_append 0 (length xs) (length ys) (0 ∷ flat (map row_of vs)) (row_of S.node) D.runs_on growth.runs))
+        subst (λ r. RunsOn 0 (0 ∷ flat_map (λ (s : List ℕ). s) r) (length ys)) (sym rows)
+        (turns_more (map row_of vs) (row_of S.node) (length xs) (length ys) growth.runs D.runs_on)
 
     up : length xs ≤ length ys
     up = runs_up (length xs) (length ys) (row_of S.node) growth.runs
@@ -182,41 +166,19 @@ module _ (all : List Node) (ranks : List ℕ) where
               subst (IsRenumbered ys (node_in all S.old))
               (sym (ap (λ us. get_or us n node.True) S.nodes
               ∙ ap (λ k. get_or (vs ++ S.node ∷ []) k node.True) is
-              ∙ at_end vs S.node node.True)) growth.is;
+              ∙ get_or-append_seam vs S.node [] node.True)) growth.is;
           priority =
               ap (λ us. get_or us n 0) S.priorities
               ∙ ap (λ k. get_or (ps ++ get_or ranks S.old 0 ∷ []) k 0) (is ∙ sym D.as_many)
-              ∙ at_end ps (get_or ranks S.old 0) 0;
+              ∙ get_or-append_seam ps (get_or ranks S.old 0) [] 0;
         })
         (cases_lt n (length vs))
 
-    earlier : (k : ℕ) → 0 < k → k < length ys → (j : ℕ) × (j < k) × IsMember k (get_or (map row_of ws) j [])
-    earlier k some low =
-        ⊎_elim
-        (λ (old : k < length xs). before (D.from_earlier k some old))
-        (λ (new : length xs ≤ k).
-        let j_low : length vs < k = omega (arith, low_old, new) in
-        let here = runs_has (length xs) (length ys) (row_of S.node) growth.runs k new low in
-        let there : get_or (map row_of ws) (length vs) [] ≡ row_of S.node =
-        ap (λ rs. get_or rs (length vs) []) rows
-        ∙ ap (λ n. get_or (map row_of vs ++ row_of S.node ∷ []) n []) (sym (length-map vs row_of))
-        ∙ at_end (map row_of vs) (row_of S.node) [] in
-        (length vs, j_low, subst (IsMember k) (sym there) here))
-        (cases_lt k (length xs))
-      where
-        before : ((j : ℕ) × (j < k) × IsMember k (get_or (map row_of vs) j []))
-            → (j : ℕ) × (j < k) × IsMember k (get_or (map row_of ws) j [])
-        before (j, j_low, m) =
-            ⊎_elim
-            (λ (inside : j < length vs).
-            let same : get_or (map row_of ws) j [] ≡ get_or (map row_of vs) j [] =
-            ap (λ rs. get_or rs j []) rows
-            ∙ get_or_append_left (map row_of vs) (row_of S.node ∷ []) [] j
-            (let l = length-map vs row_of in omega (arith, l, inside)) in
-            (j, j_low, subst (IsMember k) (sym same) m))
-            (λ (outside : length vs ≤ j).
-            absurd (nothing (map row_of vs) j k (let l = length-map vs row_of in omega (arith, l, outside)) m))
-            (cases_lt j (length vs))
+    earlier : AreFromEarlier (map row_of ws) (length ys)
+    earlier =
+        subst (λ r. AreFromEarlier r (length ys)) (sym rows)
+        (earlier_more (map row_of vs) (row_of S.node) (length xs) (length ys) growth.runs
+        (let l = length-map vs row_of in omega (arith, l, low_old)) D.from_earlier)
 
     pub stepped : IsDraft all ranks ys ws qs
     stepped = record {
@@ -225,7 +187,7 @@ module _ (all : List Node) (ranks : List ℕ) where
       are_reached = growth.all D.are_reached;
       short = omega (arith, long, low_old, up);
       as_many =
-          let q = ap length S.priorities ∙ longer_by_one ps (get_or ranks S.old 0) in
+          let q = ap length S.priorities ∙ length-append ps (get_or ranks S.old 0 ∷ []) in
           let same = D.as_many in
           omega (arith, q, long, same);
       made = made_at;

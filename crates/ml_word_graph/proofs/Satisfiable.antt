@@ -17,8 +17,9 @@ use Rattle.std.proofs.lemmas.Slice.Eq.{bytes_eq-Decides}
 use Rattle.ml_lists.specs.Lasso.{Lasso, entry, next_place, round}
 use Rattle.ml_lists.specs.Member.{IsMember}
 use Rattle.ml_lists.proofs.Lasso.{round-entry}
-use Rattle.ml_lists.proofs.Member.{list_any-member, member-list_any, member-map, member-map_from, member-place, member-All, place-member}
+use Rattle.ml_lists.proofs.Member.{list_any-member, member-list_any, member-map, member-map_from, member-All}
 use Rattle.ml_lists.proofs.Unrolling.{next_place_low, next_place-entry}
+use Rattle.ml_lists.proofs.Ranges.{range-member, member-range}
 use Rattle.ml_base.specs.declared.structure.Edge.{Edge}
 use Rattle.ml_base.specs.Structure.{Structure, lists}
 use Rattle.ml_ctl.specs.Formula.{Formula, Const, Prop, Not, Binary, Temporal, Paired, Quantified, is_linear}
@@ -31,18 +32,6 @@ use Rattle.ml_ltl.specs.Problem as ltl
 use Rattle.ml_word_graph.specs.Laws.{AsSatisfiable}
 use Rattle.ml_word_graph.specs.Problem.{HasOneStep, IsAdmitted, IsSatisfiable, IsWordFrom}
 use Rattle.ml_word_graph.proofs.Values.{truth, says_truth, untils, releases, connective_value}
-
-in_range : (n i : ℕ) → IsMember i (range_with_len 0 n) → i < n
-in_range n i h =
-    let at = member-place i (range_with_len 0 n) h in
-    let low : at.place < n = omega (arith, at.below, length-range_with_len 0 n) in
-    omega (arith, at.holds 0, get_or-range_with_len 0 n at.place 0 low)
-
-range_has : (n i : ℕ) → i < n → IsMember i (range_with_len 0 n)
-range_has n i low =
-    let same : get_or (range_with_len 0 n) i 0 ≡ i = omega (arith, get_or-range_with_len 0 n i 0 low) in
-    subst (λ k. IsMember k (range_with_len 0 n)) same
-    (place-member (range_with_len 0 n) i 0 (omega (arith, low, length-range_with_len 0 n)))
 
 abbrev edge_from : Lasso → ℕ → Edge
 edge_from l i = record { source = i; action = codes "_"; target = next_place l i }
@@ -105,7 +94,7 @@ module _ (m : Structure) (l : Lasso) (starts : l.start < places l) where
       within : (e : Edge) → IsMember e w.edges → (e.source < n) × (e.target < n)
       within e h =
           let image = member-map_from (edge_from l) e (range_with_len 0 n) h in
-          let low = in_range n image.from image.member in
+          let low = range-member n image.from image.member in
           subst (λ (d : Edge). (d.source < n) × (d.target < n)) (sym image.holds) (low, next_place_low l starts image.from low)
 
       blank : bytes_eq (codes "_") (codes "_") ≡ true
@@ -116,7 +105,7 @@ module _ (m : Structure) (l : Lasso) (starts : l.start < places l) where
         target = next_place l s;
         leads =
             member-list_any (goes s (next_place l s)) (edge_from l s) w.edges
-            (member-map (edge_from l) s (range_with_len 0 n) (range_has n s low))
+            (member-map (edge_from l) s (range_with_len 0 n) (member-range n s low))
             (and_from ((s == s) && bytes_eq (codes "_") (codes "_")) (next_place l s == next_place l s)
             (and_from (s == s) (bytes_eq (codes "_") (codes "_")) (eq-eqb s s refl) blank)
             (eq-eqb (next_place l s) (next_place l s) refl));

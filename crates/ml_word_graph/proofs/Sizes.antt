@@ -22,7 +22,7 @@ use Rattle.ml_ctl.specs.declared.term.Pairing.TheVariants as pairing
 use Rattle.ml_word_graph.specs.Laws.{GraphsAreSmall}
 use Rattle.ml_word_graph.specs.WordGraph.{Place, Root, Total, HasEdge, LeadsOn, True, Now, Later, Rest, Both, Neither}
 use Rattle.ml_word_graph.specs.WordGraph.{IsReached, all_of, at_root, behind, children, form_of, right_at, start_of}
-use Rattle.ml_word_graph.proofs.Moves.{some_at}
+use Rattle.ml_lists.proofs.Entries.{some_entry}
 
 -- the nodes of the occurrence itself with this sign
 abbrev pub own : ℕ → Formula → Bool → List Place
@@ -317,7 +317,7 @@ few_places xs ys once within =
     (λ (le : length xs ≤ length ys). le) (cases_lt (length ys) (length xs))
   where
     stands : (k : ℕ) → k < length xs → (p : Place) × (slice_get xs k ≡ Some p)
-    stands k low = some_at xs k low
+    stands k low = some_entry xs k low
 
     place_of : (k : ℕ) → (k < length xs) ⊎ (length xs ≤ k) → ℕ
     place_of k (inl low) =

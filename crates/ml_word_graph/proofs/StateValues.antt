@@ -6,8 +6,8 @@
 --   is_least f         == does f hold where something comes about: F and U, while G, W and R fail where something does
 --   exit_of f          == what that is
 --   comes_about        == it comes about some time
-use Rattle.std.proofs.Common.{◌≡◌, ℕ, ◌<◌, ◌≤◌, ◌⊎◌, Bool, true, false, ◌&&◌, ◌||◌, not, [], ◌∷◌, inl, inr, refl, sym, ap, subst, ◌∙◌, arith}
-use Rattle.std.proofs.lemmas.Bool.{and_parts, cases_lt, false≢true}
+use Rattle.std.proofs.Common.{◌≡◌, ℕ, ◌<◌, ◌≤◌, ◌⊎◌, Bool, true, false, ◌&&◌, ◌||◌, [], ◌∷◌, inl, inr, sym, ap, subst, ◌∙◌, arith}
+use Rattle.std.proofs.lemmas.Bool.{and_parts, cases_lt, false≢true, not-true}
 use Rattle.ml_lists.specs.Lasso.{Lasso, entry, next_place}
 use Rattle.ml_lists.specs.Walk.{walk}
 use Rattle.ml_base.specs.Structure.{Structure, lists}
@@ -177,16 +177,12 @@ module _ (m : Structure) (ok : IsAdmitted m) where
     ahead : (f g : Formula) → ReadsAhead m l f g 0
     ahead f g = read_ahead m l f g 0 start
 
-    not_false : (b : Bool) → not b ≡ true → b ≡ false
-    not_false true e = absurd (false≢true e)
-    not_false false e = refl
-
     -- a formula whose value is false isn't true
     fails : (f : Formula) → is_linear f ≡ true → value f s ≡ false → TruthAt m l f 0 → ⊥
     fails f linear is t = false≢true (sym is ∙ (says_here f linear).0 t)
 
     false_after : (k : ℕ) (f : Formula) → is_linear f ≡ true → TruthAt m l (Not f) (after l 0 k) → value f (walk next s k) ≡ false
-    false_after k f linear t = not_false (value f (walk next s k)) ((says_after k (Not f) linear).0 t)
+    false_after k f linear t = not-true (value f (walk next s k)) ((says_after k (Not f) linear).0 t)
 
     pub comes_about : (f : Formula) → is_linear f ≡ true → is_cycle f ≡ true → value f s ≡ is_least f
         → (k : ℕ) × (value (exit_of f) (walk next s k) ≡ is_least f)

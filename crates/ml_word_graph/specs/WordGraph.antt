@@ -13,7 +13,6 @@
 --   Place                   == the nodes: the root and its part on edges, and those of occurrences, with their formulas
 --   Form                    == what a node is, and to which nodes it leads
 --   form_of p               == what the node p is
---   is_eventual f sign      == does f, or its negation, ask for something that has to come about?
 --   priority_of p           == the priority of the node p
 --   forms                   == both
 --   start_of f negated      == the node that a problem starts with
@@ -24,15 +23,14 @@ use Rattle.std.specs.Prelude.{ℕ, ◌+◌, Bool, true, false, not, if◌then◌
 use Rattle.std.specs.Bool.{beq}
 use Rattle.ml_graph.specs.Graph.{Graph}
 use Rattle.ml_nodes.specs.ClosureGraph as closure
-pub use Rattle.ml_nodes.specs.ClosureGraph.{Constant, Literal, And, Or, Diamond, Square, IsNumberOf, HasForm, at_root, behind, children, row_of}
-use Rattle.ml_text.specs.declared.token.Operator.{Operator}
-use Rattle.ml_text.specs.declared.token.Operator.TheVariants as operator
+pub use Rattle.ml_nodes.specs.ClosureGraph.{Constant, Literal, And, Or, Diamond, Square, all_of, one_of, form_of_connective, IsNumberOf, HasForm, at_root, behind, children, row_of}
 use Rattle.ml_text.specs.Operators.{weight}
 use Rattle.ml_ctl.specs.Formula.{Formula, Const, Prop, Not, Binary, Temporal, Paired, Quantified, occurrences}
 use Rattle.ml_ctl.specs.declared.term.Tense.{Tense}
 use Rattle.ml_ctl.specs.declared.term.Tense.TheVariants as tense
 use Rattle.ml_ctl.specs.declared.term.Pairing.{Pairing}
 use Rattle.ml_ctl.specs.declared.term.Pairing.TheVariants as pairing
+pub use Rattle.ml_ctl.specs.Eventualities.{is_eventual}
 
 pub data Place : Type 0 where
   -- the root, before the node that the problem starts with
@@ -54,25 +52,11 @@ Form = closure.Form Place
 abbrev pub leads_to : Place → Form
 leads_to p = And p p
 
--- a conjunction; for the negation a disjunction
-abbrev pub all_of : Bool → Place → Place → Form
-all_of true l r = And l r
-all_of false l r = Or l r
-
-abbrev pub one_of : Bool → Place → Place → Form
-one_of sign l r = all_of (not sign) l r
-
 -- ---- occurrences
 
 -- the number of the right operand of the connective or operator at i
 abbrev pub right_at : ℕ → Formula → ℕ
 right_at left f = left + occurrences f
-
-abbrev pub form_of_connective : Operator → Bool → (l r both neither : Bool → Place) → Form
-form_of_connective operator.And sign l r both neither = all_of sign (l sign) (r sign)
-form_of_connective operator.Or sign l r both neither = one_of sign (l sign) (r sign)
-form_of_connective operator.Implies sign l r both neither = one_of sign (l (not sign)) (r sign)
-form_of_connective operator.Iff sign l r both neither = Or (both sign) (neither sign)
 
 -- F says f now or F later, and G says f now and G later
 abbrev pub form_of_tense : Tense → ℕ → Formula → Bool → Form
@@ -117,15 +101,6 @@ form_of (Rest i p f g sign) = form_of_rest p sign (Now (i + 1) f sign) (Later i 
 -- f and g, or f and not g; not f and not g, or not f and g
 form_of (Both i f g sign) = And (Now (i + 3) f true) (Now (right_at (i + 3) f) g sign)
 form_of (Neither i f g sign) = And (Now (i + 3) f false) (Now (right_at (i + 3) f) g (not sign))
-
--- F and U do, and so do the negations of G, R and W
-abbrev pub is_eventual : Formula → Bool → Bool
-is_eventual (Temporal tense.Finally f) sign = sign
-is_eventual (Temporal tense.Globally f) sign = not sign
-is_eventual (Paired pairing.Until f g) sign = sign
-is_eventual (Paired pairing.Release f g) sign = not sign
-is_eventual (Paired pairing.Weak f g) sign = not sign
-is_eventual f sign = false
 
 abbrev pub priority_of : Place → ℕ
 priority_of (Now i f sign) = if is_eventual f sign then 1 else 2

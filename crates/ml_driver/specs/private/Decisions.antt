@@ -8,7 +8,8 @@
 --   status_in n d       == the status that goes with the decision d, where n tells whether the negation was asked for
 use Rattle.std.specs.Prelude.{ℕ, ◌≡◌, ◌<◌, ◌^◌, ⊤, Bool, true, false, List}
 use Rattle.ml_extract.specs.Extraction.{Extracted}
-use Rattle.ml_front.specs.Graphs.{HasLargeClosure, HoldsWhere, IsGraphOf}
+use Rattle.ml_front.specs.Graphs.{HasLargeClosure, IsGraphOf}
+use Rattle.ml_front.specs.Laws.{HoldsWhere}
 use Rattle.ml_front.specs.declared.problem.Problem.{Problem}
 use Rattle.ml_front.specs.declared.problem.TheConstants.{MOST_NODES}
 use Rattle.ml_graph.specs.Graph.{Graph}

@@ -4,7 +4,8 @@
 --   IsSolvedFor p n x   == x is such a graph with its game, of at most n positions, and a solution
 --   IsStageOf p n x     == so far the decision of p comes, where the game may have n positions
 use Rattle.std.specs.Prelude.{ℕ, ◌≤◌, length}
-use Rattle.ml_front.specs.Graphs.{HasLargeClosure, HoldsWhere, IsGraphOf}
+use Rattle.ml_front.specs.Graphs.{HasLargeClosure, IsGraphOf}
+use Rattle.ml_front.specs.Laws.{HoldsWhere}
 use Rattle.ml_front.specs.declared.problem.Problem.{Problem}
 use Rattle.ml_front.specs.declared.problem.TheConstants.{MOST_NODES}
 use Rattle.ml_graph.specs.Graph.{Graph, IsGraph, size}

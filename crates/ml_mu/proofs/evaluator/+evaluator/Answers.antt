@@ -4,7 +4,8 @@ use Rattle.ml_mu.specs.private.Environment.{given_of}
 use Rattle.ml_mu.specs.Meaning.{meaning}
 use Rattle.ml_mu.specs.Term.{formula_of}
 use Rattle.ml_mu.specs.declared.term.Term.{Term}
-use Rattle.ml_mu.proofs.Evaluation.{constant_value, binary_value, binary_flags, body_step, stops_early, same_flags}
+use Rattle.ml_base.proofs.StateSets.{same_flags}
+use Rattle.ml_mu.proofs.Evaluation.{constant_value, binary_value, binary_flags, body_step, stops_early}
 use Rattle.ml_mu.proofs.evaluator.+evaluator.Goals as goal
 
 pub evaluate_term-returns-in_ok-right-in-Binary-clause-value : goal.evaluate_term-returns-in_ok-right-in-Binary-clause-value

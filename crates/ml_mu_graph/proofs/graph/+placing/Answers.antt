@@ -5,8 +5,9 @@ use Rattle.ml_mu.specs.Formula.{occurrences}
 use Rattle.ml_mu.specs.Term.{formula_of}
 use Rattle.ml_mu_graph.specs.private.Views.{around}
 use Rattle.ml_mu_graph.proofs.Bindings.{low_inside, low_same, left_again}
-use Rattle.ml_nodes.proofs.Connectives.{one_weight}
-use Rattle.ml_mu_graph.proofs.NodeLists.{left_placed, closed, second_number, one_symbol}
+use Rattle.ml_text.proofs.AcceptedTexts.{weight_some}
+use Rattle.ml_mu.proofs.SomeOccurrence.{some_occurrence}
+use Rattle.ml_mu_graph.proofs.NodeLists.{left_placed, closed, second_number}
 use Rattle.ml_mu_graph.proofs.graph.+placing.Goals as goal
 
 pub place_both-placed-second-requires : goal.place_both-placed-second-requires
@@ -43,8 +44,8 @@ place_both-close-requires-clause-small t c =
     let right = formula_of c.args.right.now in
     let few : c.args.at + (weight c.args.operator + occurrences left + occurrences right) ≤ 1000 = c.requires.few in
     let number = second_number c.args.operator _ _ _ _ _ placed.size c.as_slice.ensures.value c.placed-second.ensures in
-    let some = one_symbol left in (
-      omega (arith, few, some, one_symbol right, one_weight c.args.operator),
+    let some = some_occurrence left in (
+      omega (arith, few, some, some_occurrence right, weight_some c.args.operator),
       omega (arith, few, c.weight.ensures),
       omega (arith, number, few),
     )

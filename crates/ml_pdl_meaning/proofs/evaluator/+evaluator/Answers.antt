@@ -4,7 +4,8 @@ use Rattle.ml_lists.specs.Iterate.{iterate}
 use Rattle.ml_pdl.specs.Meaning.{meaning, relation}
 use Rattle.ml_pdl.specs.Term.{formula_of, program_of}
 use Rattle.ml_pdl_meaning.proofs.RunsIntoSets.{before, grown}
-use Rattle.ml_pdl_meaning.proofs.Evaluation.{constant_value, binary_value, square_value, followed_value, either_value, test_value, grown_value, star_value, same_flags}
+use Rattle.ml_base.proofs.StateSets.{same_flags}
+use Rattle.ml_pdl_meaning.proofs.Evaluation.{constant_value, binary_value, square_value, followed_value, either_value, test_value, grown_value, star_value}
 use Rattle.ml_pdl_meaning.proofs.evaluator.+evaluator.Goals as goal
 use Rattle.ml_lists.proofs.Iterates.{iterates_once_more, stops_early}
 

@@ -1,12 +1,13 @@
 use Rattle.std.proofs.Common.{false, replicate, sym, subst, All, ◌<◌, ap, ◌∙◌, arith}
-use Rattle.ml_pdl_meaning.proofs.EdgeSets.{none_yet, one_more, one_kept, in_range, all_edges}
+use Rattle.ml_base.proofs.EdgeSets.{no_edges, edge_more, edge_kept, in_range}
+use Rattle.ml_pdl_meaning.proofs.EdgeSets.{all_edges}
 use Rattle.ml_pdl_meaning.proofs.sets.edges_into.Goals as goal
 use Rattle.ml_pdl_meaning.proofs.sets.edges_into.Goals.{then-leads_into, else-leads_into}
 
 pub loop-edge-init : goal.loop-edge-init
 loop-edge-init c =
     c.in_ok-states.ensures.value ∙ ap (λ n. replicate n false) c.states.ensures.value
-    ∙ none_yet c.args.action.now c.args.set.now c.args.structure.now.states
+    ∙ no_edges c.args.action.now c.args.set.now c.args.structure.now.states
 
 pub loop-edge-preserved : goal.loop-edge-preserved
 loop-edge-preserved c =
@@ -20,12 +21,12 @@ loop-edge-preserved c =
     elim c.if-leads_into.branch [
       | then-leads_into w ↦
           ap (λ states. states.items) w.states-is
-          ∙ one_more edges c.args.action.now c.args.set.now n c.loop-edge.edge-index c.edge-item.result
+          ∙ edge_more edges c.args.action.now c.args.set.now n c.loop-edge.edge-index c.edge-item.result
           c.loop-edge.states.items c.loop-edge-test.true c.edge-item.is ends.0
           (sym c.leads_into.ensures ∙ w.if-leads_into.true) c.loop-edge.invariant
       | else-leads_into w ↦
           ap (λ states. states.items) w.states-is
-          ∙ one_kept edges c.args.action.now c.args.set.now n c.loop-edge.edge-index c.edge-item.result
+          ∙ edge_kept edges c.args.action.now c.args.set.now n c.loop-edge.edge-index c.edge-item.result
           c.loop-edge.states.items c.loop-edge-test.true c.edge-item.is
           (sym c.leads_into.ensures ∙ w.if-leads_into.false) c.loop-edge.invariant
     ]

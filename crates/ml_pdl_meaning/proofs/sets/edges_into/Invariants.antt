@@ -1,6 +1,6 @@
 -- The flags so far are those by the edges so far.
 use Rattle.std.proofs.Common.{◌≡◌, take}
-use Rattle.ml_pdl_meaning.proofs.EdgeSets.{some_states}
+use Rattle.ml_base.proofs.EdgeSets.{some_states}
 use Rattle.ml_pdl_meaning.proofs.sets.edges_into.Given as goal
 
 abbrev pub invariant-loop-edge : goal.invariant-loop-edge
