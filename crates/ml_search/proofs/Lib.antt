@@ -1,2 +1,10 @@
--- models have few edges
+-- what tests of a refutation's parts come to
+pub mod Tested
+-- how many numbers pass a test
+pub mod Passing
+-- models of Even's moves have few edges
 pub mod FewEdges
+-- what few edges tell
+pub mod Edges
+-- states that are reached
+pub mod Reached

@@ -1,4 +1,4 @@
-// The search.
+// The search, and the whole game behind it.
 ghost use Rattle.std.specs.Prelude.{◌≡◌, ◌≤◌, IfOk, IfSome, IsErrOf};
 ghost use Rattle.ml_graph.specs.Graph.{size};
 ghost use Rattle.ml_product.specs.DecisionGame.{HasMoreThan};
@@ -6,13 +6,71 @@ ghost use Rattle.ml_product.specs.Position.{automaton_states};
 ghost use Rattle.ml_search.specs.Found.{IsFound};
 ghost use Rattle.ml_search.specs.declared.refusals.SearchRefusal.TheVariants as refusal;
 
+use crate::candidate::Candidate;
+use crate::checking_models::is_model;
+use crate::checking_refutations::accepted;
+use crate::engine::candidate;
 use crate::found::Found;
 use crate::refusals::SearchRefusal;
 use crate::whole_game::decided;
+use ml_base::NoMemory;
 use ml_graph::ModalGraph;
 use std::alloc::Global;
 
-/// stub
+/// A candidate that passes its check; `None` where it doesn't.
+fn checked(
+    alloc: Global,
+    graph: &ModalGraph,
+    candidate: Candidate,
+) -> Result<Option<Found>, NoMemory>
+    ensures { IfOk result (λ found. IfSome found (IsFound graph.now)) }
+{
+    match candidate {
+        Candidate::Model(model) => {
+            if is_model(alloc, graph, &model)? {
+                return Ok(Some(Found::Model(model)));
+            }
+            Ok(None)
+        }
+        Candidate::Refutation { names, entries } => {
+            match accepted(alloc, graph, names, entries)? {
+                Some(refutation) => Ok(Some(Found::Refutation(refutation))),
+                None => Ok(None),
+            }
+        }
+    }
+}
+
+/// What the search alone finds, with the work that goes with the limit; `None` where it gives up.
+///
+/// The graph has at most 4,096 nodes, its trace automaton at most 2^30 states, and the limit is 1 or more. What is found is
+/// a model or a refutation of the graph; nothing is said of where something is found.
+///
+/// # Errors
+/// `NoMemory` alone.
+///
+/// Cost: the search stops once it has made a fixed multiple of the limit; then the check of what it found.
+pub fn seek(alloc: Global, graph: &ModalGraph, limit: u32) -> Result<Option<Found>, NoMemory>
+    requires nodes { size graph.now ≤ 4096 }
+    requires fits { automaton_states graph.now ≤ 1073741824 }
+    requires some { 1 ≤ limit }
+    ensures { IfOk result (λ found. IfSome found (IsFound graph.now)) }
+{
+    match candidate(alloc, graph, limit)? {
+        Some(candidate) => checked(alloc, graph, candidate),
+        None => Ok(None),
+    }
+}
+
+/// A model of a graph, or a refutation of it.
+///
+/// The graph has at most 4,096 nodes, its trace automaton at most 2^30 states, and the limit is 1 or more. What `seek`
+/// doesn't find, the whole decision game decides.
+///
+/// # Errors
+/// `Passed` only where the decision game of the graph has more than `limit` positions; `NoMemory`.
+///
+/// Cost: that of `seek`, and then at most that of the decision game up to the limit.
 pub fn search(alloc: Global, graph: &ModalGraph, limit: u32) -> Result<Found, SearchRefusal>
     requires nodes { size graph.now ≤ 4096 }
     requires fits { automaton_states graph.now ≤ 1073741824 }
@@ -20,5 +78,8 @@ pub fn search(alloc: Global, graph: &ModalGraph, limit: u32) -> Result<Found, Se
     ensures found { IfOk result (IsFound graph.now) }
     ensures passed { IsErrOf result refusal.Passed → HasMoreThan graph.now limit }
 {
-    decided(alloc, graph, limit)
+    match seek(alloc, graph, limit)? {
+        Some(found) => Ok(found),
+        None => decided(alloc, graph, limit),
+    }
 }

@@ -22,11 +22,7 @@ use std::alloc::Global;
 ///
 /// # Errors
 /// `Passed` only where it has more; `NoMemory`.
-pub(crate) fn decided(
-    alloc: Global,
-    graph: &ModalGraph,
-    limit: u32,
-) -> Result<Found, SearchRefusal>
+pub(crate) fn decided(alloc: Global, graph: &ModalGraph, limit: u32) -> Result<Found, SearchRefusal>
     requires nodes { size graph.now ≤ 4096 }
     requires fits { automaton_states graph.now ≤ 1073741824 }
     requires some { 1 ≤ limit }

@@ -1,0 +1,134 @@
+-- What few edges tell.
+--
+--   few_from       == where the actions of all edges have as many diamonds as their sources have edges, edges are few
+--   has_some       == each edge has the action of a diamond
+--   only_one       == where the graph has one diamond at most, edges from one state lead to one state
+use Rattle.std.proofs.Common.{ℕ, ◌≡◌, ◌<◌, ◌≤◌, ◌==◌, ◌&&◌, ◌⊎◌, inl, inr, true, false, List, [], ◌∷◌, length, map, refl, sym, ap, subst, ◌∙◌, arith}
+use Rattle.std.specs.List.{filter}
+use Rattle.std.specs.Str.{bytes_eq}
+use Rattle.std.proofs.lemmas.Bool.{cases_Bool, and_parts}
+use Rattle.std.proofs.lemmas.Bool.Decides.{Decides-eqb}
+use Rattle.std.proofs.lemmas.Slice.Eq.{bytes_eq-Decides}
+use Rattle.ml_base.specs.declared.structure.Edge.{Edge}
+use Rattle.ml_base.specs.Structure.{Structure}
+use Rattle.ml_lists.specs.Counting.{count}
+use Rattle.ml_lists.specs.Member.{IsMember}
+use Rattle.ml_lists.specs.Search.{Found}
+use Rattle.ml_lists.proofs.Counting.{count_none}
+use Rattle.ml_lists.proofs.Member.{member-filter, member-filter_from, member-map}
+use Rattle.ml_lists.proofs.Search.{search}
+use Rattle.ml_graph.specs.CheckingGame.{targets}
+use Rattle.ml_graph.specs.Diamonds.{HasOneDiamond}
+use Rattle.ml_graph.specs.declared.node.Node.{Node}
+use Rattle.ml_graph.specs.declared.node.Node.TheVariants as node
+use Rattle.ml_graph.specs.Graph.{Graph, action_at, node_at, size}
+use Rattle.ml_extract.specs.Extraction.{HasDiamond}
+use Rattle.ml_search.specs.Found.{HasFewEdges, diamonds_with, has_diamond, is_diamond_with}
+use Rattle.ml_search.proofs.Passing.{count_one}
+
+-- ---- from the edges to all states and actions
+
+pub few_from : (g : Graph) (m : Structure)
+    → ((e : Edge) → IsMember e m.edges → length (targets m e.source e.action) ≤ diamonds_with g e.action)
+    → HasFewEdges g m
+few_from g m each s a = by_list (filter (λ (e : Edge). (e.source == s) && bytes_eq e.action a) m.edges) refl
+  where
+    by_list : (es : List Edge)
+        → filter (λ (e : Edge). (e.source == s) && bytes_eq e.action a) m.edges ≡ es
+        → length (targets m s a) ≤ diamonds_with g a
+    by_list [] is = omega (arith, ap (λ (xs : List Edge). length (map (λ (e : Edge). e.target) xs)) is)
+    by_list (e ∷ es) is =
+        let kept =
+        member-filter_from (λ (e : Edge). (e.source == s) && bytes_eq e.action a) e m.edges
+        (subst (IsMember e) (sym is) (inl refl)) in
+        let both = and_parts (e.source == s) (bytes_eq e.action a) kept.1 in
+        let source : e.source ≡ s = (Decides-eqb e.source s).0 both.0 in
+        let action : e.action ≡ a = (bytes_eq-Decides e.action a).0 both.1 in
+        subst (λ (b : List ℕ). length (targets m s b) ≤ diamonds_with g b) action
+        (subst (λ (t : ℕ). length (targets m t e.action) ≤ diamonds_with g e.action) source (each e kept.0))
+
+-- ---- what they tell
+
+-- an edge is one of those of its source and its action
+stands : (m : Structure) (e : Edge) → IsMember e m.edges → IsMember e.target (targets m e.source e.action)
+stands m e inside =
+    let source : (e.source == e.source) ≡ true = (Decides-eqb e.source e.source).1 refl in
+    let action : bytes_eq e.action e.action ≡ true = (bytes_eq-Decides e.action e.action).1 refl in
+    member-map (λ (x : Edge). x.target) e (filter (λ (x : Edge). (x.source == e.source) && bytes_eq x.action e.action) m.edges)
+    (member-filter (λ (x : Edge). (x.source == e.source) && bytes_eq x.action e.action) e m.edges inside
+    (subst (λ b. (b && bytes_eq e.action e.action) ≡ true) (sym source) action))
+
+not_empty : {X : Type 0} (x : X) (xs : List X) → IsMember x xs → 0 < length xs
+not_empty x [] m = absurd m
+not_empty x (y ∷ ys) m = omega arith
+
+record IsDiamondWith (g : Graph) (name : List ℕ) (x : Node) : Type 0 where
+  action : ℕ
+  child : ℕ
+  is : x ≡ node.Diamond action child
+  named : action_at g action ≡ name
+
+diamond_with : (g : Graph) (name : List ℕ) (x : Node) → is_diamond_with g name x ≡ true → IsDiamondWith g name x
+diamond_with g name node.True passes = cc
+diamond_with g name node.False passes = cc
+diamond_with g name (node.Lit p positive) passes = cc
+diamond_with g name (node.And l r) passes = cc
+diamond_with g name (node.Or l r) passes = cc
+diamond_with g name (node.Square k to) passes = cc
+diamond_with g name (node.Diamond k to) passes =
+    record { action = k; child = to; is = refl; named = (bytes_eq-Decides (action_at g k) name).0 passes }
+
+pub has_some : (g : Graph) (m : Structure) → HasFewEdges g m → (e : Edge) → IsMember e m.edges → HasDiamond g e
+has_some g m few e inside =
+    by_search
+    (search (λ k. has_diamond g e.action k ≡ true) (λ k. has_diamond g e.action k ≡ false)
+    (λ k. cases_Bool (has_diamond g e.action k)) (size g))
+  where
+    by_search : Found (λ k. has_diamond g e.action k ≡ true) (size g)
+        ⊎ ((k : ℕ) → k < size g → has_diamond g e.action k ≡ false)
+        → HasDiamond g e
+    by_search (inl found) =
+        let d = diamond_with g e.action (node_at g found.place) found.holds in
+        record {
+          diamond = found.place;
+          is_node = found.below;
+          action = d.action;
+          child = d.child;
+          is_diamond = d.is;
+          action_is = sym d.named;
+        }
+    by_search (inr none) =
+        absurd
+        (omega (arith, few e.source e.action, count_none (has_diamond g e.action) (size g) none, not_empty e.target (targets m e.source e.action) (stands m e inside)))
+
+same_member : {X : Type 0} (x y : X) (xs : List X) → length xs ≤ 1 → IsMember x xs → IsMember y xs → x ≡ y
+same_member x y [] short m n = absurd m
+same_member x y (z ∷ []) short (inl e) (inl f) = e ∙ sym f
+same_member x y (z ∷ []) short (inl e) (inr n) = absurd n
+same_member x y (z ∷ []) short (inr m) n = absurd m
+same_member x y (z ∷ (w ∷ zs)) short m n = absurd (omega (arith, short))
+
+pub only_one : (g : Graph) (m : Structure) → HasFewEdges g m → HasOneDiamond g → (e f : Edge)
+    → IsMember e m.edges
+    → IsMember f m.edges
+    → e.source ≡ f.source
+    → e.target ≡ f.target
+only_one g m few one e f inside also source =
+    let d = has_some g m few e inside in
+    let k = has_some g m few f also in
+    let same : d.diamond ≡ k.diamond =
+    one d.diamond k.diamond d.action k.action d.child k.child d.is_node k.is_node d.is_diamond k.is_diamond in
+    let nodes : node.Diamond d.action d.child ≡ node.Diamond k.action k.child =
+    sym d.is_diamond ∙ ap (node_at g) same ∙ k.is_diamond in
+    let places : d.action ≡ k.action = cc in
+    let action : e.action ≡ f.action = d.action_is ∙ ap (action_at g) places ∙ sym k.action_is in
+    let low : count (has_diamond g e.action) (size g) ≤ 1 =
+    count_one (has_diamond g e.action) (size g) (λ i j here there passes also_passes.
+    let x = diamond_with g e.action (node_at g i) passes in
+    let y = diamond_with g e.action (node_at g j) also_passes in
+    one i j x.action y.action x.child y.child here there x.is y.is) in
+    let short : length (targets m e.source e.action) ≤ 1 = omega (arith, low, few e.source e.action) in
+    let other : IsMember f.target (targets m e.source e.action) =
+    subst (λ (b : List ℕ). IsMember f.target (targets m e.source b)) (sym action)
+    (subst (λ (t : ℕ). IsMember f.target (targets m t f.action)) (sym source) (stands m f also)) in
+    same_member e.target f.target (targets m e.source e.action) short (stands m e inside) other

@@ -1,0 +1,2 @@
+-- what checks have come to
+pub mod Checked

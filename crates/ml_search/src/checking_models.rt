@@ -1,0 +1,153 @@
+// Whether a structure with a state is a model of a graph, as a search may hand it out.
+ghost use Rattle.std.specs.Prelude.{◌≡◌, ◌<◌, ◌≤◌, ◌==◌, ◌&&◌, ℕ, true, false, length, filter, slice_index_or, IfOk, IsTrue};
+ghost use Rattle.std.specs.Str.{bytes_eq};
+ghost use Rattle.ml_lists.specs.Member.{IsMember};
+ghost use Rattle.ml_extract.specs.Extraction.{IsReachedFrom};
+ghost use Rattle.ml_graph.specs.CheckingGame.{Holds};
+ghost use Rattle.ml_graph.specs.Graph.{size};
+ghost use Rattle.ml_search.specs.Found.{IsModelFound, HasFewEdges, diamonds_with, has_diamond};
+ghost use Rattle.ml_search.specs.private.Checked.{AreReached};
+
+use ml_base::{Action, Edge, NoMemory};
+use ml_graph::{ModalGraph, Node, checking_game};
+use ml_kripke::{Model, Structure};
+use ml_parity::{Player, solve};
+use std::alloc::Global;
+
+/// Is the node a Diamond of the action?
+fn has_diamond(graph: &ModalGraph, action: &Action, n: u32) -> bool
+    requires { n < size graph.now }
+    ensures { IsTrue result → has_diamond graph.now action.now n ≡ true }
+{
+    match *graph.node(n) {
+        Node::Diamond { action: place, .. } => match graph.actions().get(place as usize) {
+            Some(other) => *other == *action,
+            None => false,
+        },
+        _ => false,
+    }
+}
+
+/// How many Diamonds of the action the graph has, or fewer.
+fn diamonds_with(graph: &ModalGraph, action: &Action) -> usize
+    ensures { result ≤ diamonds_with graph.now action.now }
+{
+    let mut many: usize = 0;
+    for n in 0..graph.size() {
+        if has_diamond(graph, action, n) {
+            many += 1;
+        }
+    }
+    many
+}
+
+/// How many of the edges leave the state with the action.
+fn edges_with(edges: &[Edge], source: u32, action: &Action) -> usize
+    ensures { result ≡ length (filter (λ e. (e.source == source) && bytes_eq e.action action.now) edges.now) }
+{
+    edges
+        .iter()
+        .filter(|edge| edge.source == source && edge.action == *action)
+        .count()
+}
+
+/// Has each state at most as many edges of each action as the graph has Diamonds of it?
+fn has_few_edges(graph: &ModalGraph, structure: &Structure) -> bool
+    ensures { IsTrue result → HasFewEdges graph.now structure.now }
+{
+    for edge in structure.edges() {
+        let many = edges_with(structure.edges(), edge.source, &edge.action);
+        if many > diamonds_with(graph, &edge.action) {
+            return false;
+        }
+    }
+    true
+}
+
+/// So many flags, of which the one at this place alone is set.
+fn one_flag(alloc: Global, count: u32, place: u32) -> Result<Vec<bool>, NoMemory>
+    ensures size { IfOk result (λ flags. length flags.items ≡ count) }
+    ensures one { IfOk result (λ flags. (t : ℕ) → slice_index_or flags.items t false ≡ true → t ≡ place) }
+{
+    let mut flags = Vec::with_capacity(alloc, count as usize)?;
+    for i in 0..count {
+        flags.push(i == place)?;
+    }
+    Ok(flags)
+}
+
+/// Is each state reached from this one, by edges in their order?
+fn all_reached(alloc: Global, structure: &Structure, start: u32) -> Result<bool, NoMemory>
+    requires { start < structure.now.states }
+    ensures { IfOk result (λ b. IsTrue b → (t : ℕ) → t < structure.now.states → IsReachedFrom structure.now start t) }
+{
+    let mut flags = one_flag(alloc, structure.states(), start)?;
+    reach(structure, start, &mut flags);
+    Ok(flags.iter().all(|flag| *flag))
+}
+
+/// Flags the target of an edge whose source is flagged.
+fn pass(_structure: &Structure, _start: u32, edge: &Edge, flags: &mut [bool])
+    requires size { length flags.old ≡ _structure.now.states }
+    requires source { edge.now.source < _structure.now.states }
+    requires target { edge.now.target < _structure.now.states }
+    requires member { IsMember edge.now _structure.now.edges }
+    requires reached { AreReached _structure.now _start flags.old }
+    ensures size { length flags.new ≡ length flags.old }
+    ensures reached { AreReached _structure.now _start flags.new }
+{
+    if flags[edge.source as usize] {
+        flags[edge.target as usize] = true;
+    }
+}
+
+/// Flags the targets of edges whose sources are flagged, in one pass.
+fn reach(structure: &Structure, _start: u32, flags: &mut [bool])
+    requires size { length flags.old ≡ structure.now.states }
+    requires reached { AreReached structure.now _start flags.old }
+    ensures size { length flags.new ≡ length flags.old }
+    ensures reached { AreReached structure.now _start flags.new }
+{
+    let _states = structure.states();
+    for edge in structure.edges() {
+        pass(structure, _start, edge, flags);
+    }
+}
+
+/// Does the graph hold at the state?
+fn holds(
+    alloc: Global,
+    graph: &ModalGraph,
+    structure: &Structure,
+    state: u32,
+) -> Result<bool, NoMemory>
+    requires { state < structure.now.states }
+    ensures { IfOk result (λ b. IsTrue b → Holds graph.now structure.now state) }
+{
+    let _size = graph.size();
+    let _states = structure.states();
+    let (game, vertex) = checking_game(alloc, graph, structure, state)?;
+    let solution = solve(alloc, &game)?;
+    match solution.winner.get(vertex as usize) {
+        Some(Player::Even) => Ok(true),
+        _ => Ok(false),
+    }
+}
+
+/// Is this a model of the graph, with no state, no action and no edge too many?
+///
+/// Cost: that of the checking game and its solution; for each edge linear in the edges and the nodes.
+pub(crate) fn is_model(alloc: Global, graph: &ModalGraph, model: &Model) -> Result<bool, NoMemory>
+    ensures { IfOk result (λ b. IsTrue b → IsModelFound graph.now model.now.structure model.now.start) }
+{
+    let _size = graph.size();
+    let _states = model.structure.states();
+    if has_few_edges(graph, &model.structure) {
+        let reached = all_reached(alloc, &model.structure, model.start)?;
+        if reached {
+            let is_met = holds(alloc, graph, &model.structure, model.start)?;
+            return Ok(is_met);
+        }
+    }
+    Ok(false)
+}
