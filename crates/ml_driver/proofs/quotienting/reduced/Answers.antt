@@ -11,5 +11,9 @@ new-model-requires c =
     let start = c.args.shown.now.model.start in
     let low : start < length class = omega (arith, made.classes.each_state, c.requires.is_written.is_state) in
     let same = get_or_default_zero class start c.index-start.result.now low in
-    omega (arith, c.index-start.ensures, same,
-    runs_low 0 c.in_ok-quotient.quotient.structure.states class made.classes.in_turn start low)
+    omega (
+      arith,
+      c.index-start.ensures,
+      same,
+      runs_low 0 c.in_ok-quotient.quotient.structure.states class made.classes.in_turn start low,
+    )
