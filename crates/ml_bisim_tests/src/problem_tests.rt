@@ -8,6 +8,9 @@ use ml_tests::Numbers;
 use std::alloc::Global;
 use std::test::Fail;
 
+/// How many structures are drawn for each formula.
+const ROUNDS: u32 = 5;
+
 // does the problem hold at the class of the state where it holds at the state?
 fn is_kept_at(
     alloc: Global,
@@ -47,7 +50,7 @@ fn are_kept(
 ) -> Result<bool, Fail> {
     let plain = read(alloc, logic, text)?;
     let other = negated(read(alloc, logic, text)?);
-    for _ in 0..40 {
+    for _ in 0..ROUNDS {
         let structure = random_structure(alloc, numbers, shape)?;
         if !is_kept(alloc, &plain, &structure)? || !is_kept(alloc, &other, &structure)? {
             return Ok(false);
@@ -84,9 +87,9 @@ const OF_MU: [&'static [u8]; 6] = [
 const OF_PDL: [&'static [u8]; 5] = [
     b"<a*>p",
     b"[(a;b)*]<b>q",
-    b"<(p?;a | !p?;b)*>q",
+    b"<(p?;a + !p?;b)*>q",
     b"repeat(b;a)",
-    b"repeat((p?;b) | (q?;a))",
+    b"repeat(p?;b + q?;a)",
 ];
 
 const OF_CTL: [&'static [u8]; 5] = [

@@ -1,0 +1,409 @@
+// The spread along a branch of choices, which grows and is taken back.
+use crate::engine::arrays::{NONE, flag, number, row, set_flag, set_number, small};
+use crate::engine::terms::{Terms, sides};
+use ml_base::NoMemory;
+use ml_graph::Node;
+use ml_refutation::Cause;
+use ml_sequent::Side;
+use std::alloc::Global;
+
+/// What is taken back.
+#[derive(Clone, Copy)]
+enum Change {
+    /// The node stands in the spread.
+    Stands(usize),
+    /// The node can't hold.
+    Dead(usize),
+    /// The node holds, whatever is chosen.
+    Met(usize),
+    /// A side of the node was chosen.
+    Chosen(usize),
+}
+
+/// The spread of a sequent under some choices, with what is known of all nodes then.
+#[derive(Drop)]
+pub(crate) struct Branch {
+    stands: Vec<bool>,
+    dead: Vec<bool>,
+    met: Vec<bool>,
+    side: Vec<Option<Side>>,
+    /// The node because of which a node stands.
+    why: Vec<usize>,
+    /// The or-nodes that stand.
+    ors: Vec<usize>,
+    /// The Diamonds and Squares that stand.
+    modals: Vec<usize>,
+    /// The positive literals that stand.
+    literals: Vec<usize>,
+    trail: Vec<Change>,
+    work: Vec<(usize, usize)>,
+    cause: Option<Cause>,
+}
+
+impl Branch {
+    /// The empty spread.
+    pub(crate) fn new(terms: &Terms) -> Result<Branch, NoMemory> {
+        let alloc = terms.alloc;
+        let mut branch = Branch {
+            stands: vec![in alloc; false; terms.size]?,
+            dead: vec![in alloc; false; terms.size]?,
+            met: vec![in alloc; false; terms.size]?,
+            side: vec![in alloc; None; terms.size]?,
+            why: vec![in alloc; NONE; terms.size]?,
+            ors: Vec::new(alloc),
+            modals: Vec::new(alloc),
+            literals: Vec::new(alloc),
+            trail: Vec::new(alloc),
+            work: Vec::new(alloc),
+            cause: None,
+        };
+        for (n, node) in terms.graph.nodes().iter().enumerate() {
+            match node {
+                Node::True => branch.meet(terms, n)?,
+                Node::False => branch.kill(terms, n)?,
+                _ => {}
+            }
+        }
+        branch.trail.clear();
+        Ok(branch)
+    }
+
+    /// How much there is to take back.
+    pub(crate) fn mark(&self) -> usize {
+        self.trail.len()
+    }
+
+    /// Takes back all but so many changes.
+    pub(crate) fn undo(&mut self, terms: &Terms, mark: usize) {
+        self.work.clear();
+        self.cause = None;
+        for _ in 0..u64::MAX {
+            if self.trail.len() <= mark {
+                break;
+            }
+            let Some(change) = self.trail.pop() else {
+                break;
+            };
+            match change {
+                Change::Stands(n) => self.fall(terms, n),
+                Change::Dead(n) => set_flag(&mut self.dead, n, false),
+                Change::Met(n) => set_flag(&mut self.met, n, false),
+                Change::Chosen(n) => self.set_side(n, None),
+            }
+        }
+    }
+
+    fn set_side(&mut self, n: usize, side: Option<Side>) {
+        if let Some(place) = self.side.get_mut(n) {
+            *place = side;
+        }
+    }
+
+    /// A node stands no longer.
+    fn fall(&mut self, terms: &Terms, n: usize) {
+        set_flag(&mut self.stands, n, false);
+        set_number(&mut self.why, n, NONE);
+        match terms.node(n) {
+            Node::Or { .. } => {
+                let _ = self.ors.pop();
+            }
+            Node::Diamond { .. } | Node::Square { .. } => {
+                let _ = self.modals.pop();
+            }
+            Node::Lit { positive: true, .. } => {
+                let _ = self.literals.pop();
+            }
+            _ => {}
+        }
+    }
+
+    /// Starts with a sequent.
+    pub(crate) fn start(&mut self, terms: &Terms, nodes: &[u32]) -> Result<(), NoMemory> {
+        self.undo(terms, 0);
+        for n in nodes {
+            self.work.push((*n as usize, NONE))?;
+        }
+        self.spread(terms)
+    }
+
+    /// Chooses a side of an or-node that stands.
+    pub(crate) fn choose(&mut self, terms: &Terms, n: usize, side: Side) -> Result<(), NoMemory> {
+        if let Node::Or { left, right } = terms.node(n) {
+            self.set_side(n, Some(side));
+            self.trail.push(Change::Chosen(n))?;
+            let child = match side {
+                Side::Left => left as usize,
+                Side::Right => right as usize,
+            };
+            self.work.push((child, n))?;
+        }
+        self.spread(terms)
+    }
+
+    /// Adds what is to be added.
+    fn spread(&mut self, terms: &Terms) -> Result<(), NoMemory> {
+        for _ in 0..u64::MAX {
+            let Some((n, why)) = self.work.pop() else {
+                break;
+            };
+            if flag(&self.stands, n) {
+                continue;
+            }
+            set_flag(&mut self.stands, n, true);
+            set_number(&mut self.why, n, why);
+            self.trail.push(Change::Stands(n))?;
+            self.stand(terms, n)?;
+            if self.cause.is_some() {
+                self.work.clear();
+                break;
+            }
+        }
+        Ok(())
+    }
+
+    /// What follows where a node stands.
+    fn stand(&mut self, terms: &Terms, n: usize) -> Result<(), NoMemory> {
+        match terms.node(n) {
+            Node::True => {}
+            Node::False => self.cause = Some(Cause::False(small(n))),
+            Node::Lit { prop, positive } => {
+                if positive {
+                    self.literals.push(n)?;
+                }
+                self.take_literal(terms, n, prop as usize, positive)?;
+            }
+            Node::And { left, right } => {
+                self.work.push((right as usize, n))?;
+                self.work.push((left as usize, n))?;
+            }
+            Node::Or { .. } => self.ors.push(n)?,
+            Node::Diamond { .. } | Node::Square { .. } => self.modals.push(n)?,
+        }
+        Ok(())
+    }
+
+    /// What follows where a literal stands.
+    fn take_literal(
+        &mut self,
+        terms: &Terms,
+        n: usize,
+        prop: usize,
+        positive: bool,
+    ) -> Result<(), NoMemory> {
+        let (same, other) = if positive {
+            (row(&terms.positive, prop), row(&terms.negative, prop))
+        } else {
+            (row(&terms.negative, prop), row(&terms.positive, prop))
+        };
+        for m in other {
+            if flag(&self.stands, *m) {
+                self.cause = Some(if positive {
+                    Cause::Pair(small(n), small(*m))
+                } else {
+                    Cause::Pair(small(*m), small(n))
+                });
+                return Ok(());
+            }
+        }
+        for m in same {
+            self.meet(terms, *m)?;
+        }
+        for m in other {
+            self.kill(terms, *m)?;
+        }
+        Ok(())
+    }
+
+    /// A node holds whatever is chosen, and so do others because of it.
+    fn meet(&mut self, terms: &Terms, first: usize) -> Result<(), NoMemory> {
+        let mut work = vec![in terms.alloc; first]?;
+        for _ in 0..u64::MAX {
+            let Some(n) = work.pop() else {
+                break;
+            };
+            if flag(&self.met, n) {
+                continue;
+            }
+            set_flag(&mut self.met, n, true);
+            self.trail.push(Change::Met(n))?;
+            for p in row(&terms.parents, n) {
+                match terms.node(*p) {
+                    Node::Or { .. } => work.push(*p)?,
+                    Node::And { left, right } => {
+                        if flag(&self.met, left as usize) && flag(&self.met, right as usize) {
+                            work.push(*p)?;
+                        }
+                    }
+                    _ => {}
+                }
+            }
+        }
+        Ok(())
+    }
+
+    /// A node can't hold, and so can't others because of it.
+    fn kill(&mut self, terms: &Terms, first: usize) -> Result<(), NoMemory> {
+        let mut work = vec![in terms.alloc; first]?;
+        for _ in 0..u64::MAX {
+            let Some(n) = work.pop() else {
+                break;
+            };
+            if flag(&self.dead, n) {
+                continue;
+            }
+            set_flag(&mut self.dead, n, true);
+            self.trail.push(Change::Dead(n))?;
+            for p in row(&terms.parents, n) {
+                match terms.node(*p) {
+                    Node::And { .. } => work.push(*p)?,
+                    Node::Or { left, right } => {
+                        if flag(&self.dead, left as usize) && flag(&self.dead, right as usize) {
+                            work.push(*p)?;
+                        }
+                    }
+                    _ => {}
+                }
+            }
+        }
+        Ok(())
+    }
+
+    /// Why the spread clashes, if it does.
+    pub(crate) fn cause(&self) -> Option<Cause> {
+        self.cause
+    }
+
+    /// The Diamonds and Squares that stand.
+    pub(crate) fn modals(&self) -> &[usize] {
+        &self.modals
+    }
+
+    /// The positive literals that stand.
+    pub(crate) fn literals(&self) -> &[usize] {
+        &self.literals
+    }
+
+    /// The side that was chosen at an or-node.
+    pub(crate) fn side(&self, n: usize) -> Option<Side> {
+        match self.side.get(n) {
+            Some(side) => *side,
+            None => None,
+        }
+    }
+
+    /// Does the node stand?
+    pub(crate) fn stands(&self, n: usize) -> bool {
+        flag(&self.stands, n)
+    }
+
+    /// The or-node at which a side is chosen next, with the side that is looked at first; `None` where all are decided or
+    /// met.
+    pub(crate) fn next_or(&self, terms: &Terms) -> Option<usize> {
+        let mut best = NONE;
+        let mut least = NONE;
+        for n in &self.ors {
+            if self.side(*n).is_some() || flag(&self.met, *n) {
+                continue;
+            }
+            if let Some((left, right)) = sides(terms.node(*n)) {
+                if flag(&self.dead, left) || flag(&self.dead, right) {
+                    return Some(*n);
+                }
+            }
+            let rank = number(&terms.rank, *n);
+            if rank < least || best == NONE {
+                least = rank;
+                best = *n;
+            }
+        }
+        if best == NONE { None } else { Some(best) }
+    }
+
+    /// Can the node not hold?
+    pub(crate) fn is_dead(&self, n: usize) -> bool {
+        flag(&self.dead, n)
+    }
+
+    /// Adds the or-nodes by whose choices a node stands.
+    pub(crate) fn reasons(
+        &self,
+        terms: &Terms,
+        n: usize,
+        reasons: &mut Vec<usize>,
+    ) -> Result<(), NoMemory> {
+        let mut at = number(&self.why, n);
+        for _ in 0..u64::MAX {
+            if at == NONE {
+                break;
+            }
+            if let Node::Or { .. } = terms.node(at) {
+                reasons.push(at)?;
+            }
+            at = number(&self.why, at);
+        }
+        Ok(())
+    }
+
+    /// All or-nodes at which a side was chosen.
+    pub(crate) fn all_chosen(&self, reasons: &mut Vec<usize>) -> Result<(), NoMemory> {
+        for n in &self.ors {
+            if self.side(*n).is_some() {
+                reasons.push(*n)?;
+            }
+        }
+        Ok(())
+    }
+
+    /// The nodes to which a node leads under the choices.
+    pub(crate) fn children(&self, terms: &Terms, n: usize) -> (usize, usize) {
+        match terms.node(n) {
+            Node::And { left, right } => (left as usize, right as usize),
+            Node::Or { left, right } => match self.side(n) {
+                Some(Side::Left) => (left as usize, NONE),
+                Some(Side::Right) => (right as usize, NONE),
+                None => (NONE, NONE),
+            },
+            _ => (NONE, NONE),
+        }
+    }
+
+    /// Does a closed walk lead from the node through nodes of no lower priority?
+    fn returns(&self, terms: &Terms, n: usize) -> Result<bool, NoMemory> {
+        let least = terms.priority(n);
+        let mut seen = vec![in terms.alloc; false; terms.size]?;
+        let mut work = Vec::new(terms.alloc);
+        let (left, right) = self.children(terms, n);
+        work.push(left)?;
+        work.push(right)?;
+        for _ in 0..u64::MAX {
+            let Some(m) = work.pop() else {
+                break;
+            };
+            if m == NONE || terms.priority(m) < least || flag(&seen, m) {
+                continue;
+            }
+            if m == n {
+                return Ok(true);
+            }
+            set_flag(&mut seen, m, true);
+            let (left, right) = self.children(terms, m);
+            work.push(left)?;
+            work.push(right)?;
+        }
+        Ok(false)
+    }
+
+    /// A node of an odd priority on a closed walk through nodes of no lower priority, noted as the cause of a clash.
+    pub(crate) fn look_for_cycles(&mut self, terms: &Terms) -> Result<(), NoMemory> {
+        if self.cause.is_some() {
+            return Ok(());
+        }
+        for n in &terms.cyclic {
+            if flag(&self.stands, *n) && terms.priority(*n) % 2 == 1 && self.returns(terms, *n)? {
+                self.cause = Some(Cause::Cycle(small(*n)));
+                return Ok(());
+            }
+        }
+        Ok(())
+    }
+}

@@ -1,0 +1,235 @@
+// Rounds: both games are solved, and what waits on Even's way is made.
+use crate::candidate::Candidate;
+use crate::engine::arrays::{NONE, flag, set_flag, small};
+use crate::engine::games::{Mood, Solved, Vertex, play, waits};
+use crate::engine::models::model;
+use crate::engine::positions::Positions;
+use crate::engine::refutations::refutation;
+use crate::engine::terms::Terms;
+use crate::engine::trees::Trees;
+use ml_base::NoMemory;
+use ml_graph::ModalGraph;
+use ml_history::History;
+use ml_sequent::Sequent;
+use std::alloc::Global;
+
+/// How much is made for each position of the limit.
+const WORK: usize = 8;
+
+/// What was made of a graph, and how much may be made.
+#[derive(Drop)]
+pub(crate) struct Engine<'a> {
+    terms: Terms<'a>,
+    trees: Trees,
+    positions: Positions,
+    most: usize,
+}
+
+/// What is on Even's way.
+#[derive(Drop)]
+struct Way {
+    /// The positions at which something waits.
+    waiting: Vec<usize>,
+    /// The weak leaves that are taken.
+    weak: Vec<usize>,
+}
+
+impl<'a> Engine<'a> {
+    /// The start alone.
+    pub(crate) fn new(
+        alloc: Global,
+        graph: &'a ModalGraph,
+        limit: u32,
+    ) -> Result<Engine<'a>, NoMemory> {
+        let terms = Terms::new(alloc, graph)?;
+        let mut trees = Trees::new(&terms)?;
+        let mut positions = Positions::new(&terms);
+        let root = graph.root();
+        let state = small(terms.state(root as usize, 0));
+        if state < 1 << 30 {
+            let sequent = trees.sequent(&terms, Sequent::of(alloc, &[root])?)?;
+            let history = History::start(alloc, state)?;
+            positions.number(&terms, sequent, history)?;
+        }
+        Ok(Engine {
+            terms,
+            trees,
+            positions,
+            most: (limit as usize).saturating_mul(WORK),
+        })
+    }
+
+    /// How much was made.
+    fn spent(&self) -> usize {
+        self.trees.spent.saturating_add(self.positions.all.len())
+    }
+
+    /// Rounds until something is found or enough is made.
+    pub(crate) fn run(&mut self) -> Result<Option<Candidate>, NoMemory> {
+        if self.positions.all.is_empty() {
+            return Ok(None);
+        }
+        self.advance(vec![in self.terms.alloc; 0]?)?;
+        for _ in 0..u64::MAX {
+            let Some(careful) = play(&self.terms, &self.trees, &self.positions, Mood::Careful)?
+            else {
+                return Ok(None);
+            };
+            if careful.is_won(0) {
+                return model(&self.terms, &self.trees, &self.positions, &careful);
+            }
+            let Some(hopeful) = self.hopeful()? else {
+                return Ok(None);
+            };
+            if !hopeful.is_won(0) {
+                return refutation(&self.terms, &self.trees, &self.positions, &hopeful);
+            }
+            if self.spent() >= self.most {
+                break;
+            }
+            let way = self.way(&hopeful)?;
+            if way.waiting.is_empty() {
+                for leaf in way.weak {
+                    self.trees.strengthen(leaf);
+                }
+                continue;
+            }
+            self.advance(way.waiting)?;
+        }
+        Ok(None)
+    }
+
+    /// The hopeful game, where Even may hope at more positions until it is won, or there are none.
+    fn hopeful(&mut self) -> Result<Option<Solved>, NoMemory> {
+        for _ in 0..u64::MAX {
+            let Some(game) = play(&self.terms, &self.trees, &self.positions, Mood::Hopeful)? else {
+                return Ok(None);
+            };
+            if game.is_won(0) || !self.hope(&game) {
+                return Ok(Some(game));
+            }
+        }
+        Ok(None)
+    }
+
+    /// Even may hope at all positions that are lost; false if there are none at which something is to be hoped for.
+    fn hope(&mut self, game: &Solved) -> bool {
+        let mut some = false;
+        for p in 0..self.positions.all.len() {
+            if game.is_reached(p) && !game.is_won(p) {
+                let more = self.has_more(p);
+                if let Some(position) = self.positions.all.get_mut(p) {
+                    if more && !position.hopes {
+                        position.hopes = true;
+                        some = true;
+                    }
+                }
+            }
+        }
+        some
+    }
+
+    /// Does something wait at a position, or has it weak leaves?
+    fn has_more(&self, p: usize) -> bool {
+        if waits(&self.trees, &self.positions, p) {
+            return true;
+        }
+        for link in self.positions.links(p) {
+            if let Some(leaf) = self.trees.leaves.get(link.leaf) {
+                if leaf.weak && !leaf.gone {
+                    return true;
+                }
+            }
+        }
+        false
+    }
+
+    /// What is on Even's way from the start.
+    fn way(&self, game: &Solved) -> Result<Way, NoMemory> {
+        let alloc = self.terms.alloc;
+        let mut way = Way {
+            waiting: Vec::new(alloc),
+            weak: Vec::new(alloc),
+        };
+        let mut seen = vec![in alloc; false; self.positions.all.len()]?;
+        let mut work: Vec<usize> = vec![in alloc; 0]?;
+        for _ in 0..u64::MAX {
+            let Some(p) = work.pop() else {
+                break;
+            };
+            if flag(&seen, p) {
+                continue;
+            }
+            set_flag(&mut seen, p, true);
+            match game.taken(p) {
+                Vertex::Link { link, .. } => {
+                    if let Some(found) = self.positions.links(p).get(link) {
+                        if let Some(leaf) = self.trees.leaves.get(found.leaf) {
+                            if leaf.weak {
+                                way.weak.push(found.leaf)?;
+                            }
+                        }
+                        for next in &found.nexts {
+                            work.push(next.to)?;
+                        }
+                    }
+                }
+                _ => way.waiting.push(p)?,
+            }
+        }
+        Ok(way)
+    }
+
+    /// Makes leaves at positions, and goes on depth first from what is new.
+    fn advance(&mut self, mut work: Vec<usize>) -> Result<(), NoMemory> {
+        let half = self.trees.leaves.len() / 2;
+        let most = half.max(8);
+        let mut made: usize = 0;
+        for _ in 0..u64::MAX {
+            if made >= most || self.spent() >= self.most {
+                break;
+            }
+            let Some(p) = work.pop() else {
+                break;
+            };
+            let known = self.positions.all.len();
+            self.grow(p)?;
+            made = made.saturating_add(1);
+            for next in known..self.positions.all.len() {
+                work.push(next)?;
+            }
+        }
+        Ok(())
+    }
+
+    /// Links a position to one more leaf, or more where it has several; makes them if there are none.
+    fn grow(&mut self, p: usize) -> Result<(), NoMemory> {
+        let sequent = self.positions.sequent(p);
+        if sequent == NONE {
+            return Ok(());
+        }
+        let looked = match self.positions.all.get(p) {
+            Some(position) => position.looked,
+            None => 0,
+        };
+        if looked >= self.trees.leaves_of(sequent).len() {
+            let most = self.most;
+            self.trees.grow(&self.terms, sequent, looked.max(1), most)?;
+        }
+        let count = self.trees.leaves_of(sequent).len();
+        for k in looked..count {
+            let Some(leaf) = self.trees.leaves_of(sequent).get(k) else {
+                break;
+            };
+            let leaf = *leaf;
+            if !self.trees.is_gone(leaf) {
+                self.positions.link(&self.terms, &self.trees, p, leaf)?;
+            }
+        }
+        if let Some(position) = self.positions.all.get_mut(p) {
+            position.looked = count;
+            position.hopes = false;
+        }
+        Ok(())
+    }
+}

@@ -1,0 +1,568 @@
+// Trees of choices, one for each sequent, which grow on demand.
+use crate::engine::arrays::NONE;
+use crate::engine::branches::Branch;
+use crate::engine::exits::{Walks, letter, targets};
+use crate::engine::terms::{Terms, sides};
+use indexmap::IndexSet;
+use ml_base::NoMemory;
+use ml_graph::Node;
+use ml_refutation::Cause;
+use ml_sequent::{Sequent, Side};
+use ml_trace::Letter;
+
+/// What stands at a node of a tree.
+#[derive(Clone, Copy)]
+pub(crate) enum Kind {
+    /// Nothing was made here yet.
+    Waits,
+    /// A side is chosen at an or-node.
+    Split {
+        node: usize,
+        left: usize,
+        right: usize,
+    },
+    /// The spread clashes.
+    Clash(Cause),
+    /// Diamonds lead on.
+    Leaf(usize),
+}
+
+/// A node of a tree.
+#[derive(Drop)]
+pub(crate) struct Knot {
+    pub kind: Kind,
+    parent: usize,
+    /// Something waits here or below.
+    open: bool,
+    /// Nothing less is tried here or below.
+    plain: bool,
+    /// Where all below clashes: the or-nodes whose sides that needs.
+    needs: Option<Vec<usize>>,
+}
+
+/// A way on from a leaf.
+#[derive(Drop)]
+pub(crate) struct Way {
+    pub diamond: usize,
+    pub action: u32,
+    /// The next sequent.
+    pub next: usize,
+    pub letter: Letter,
+}
+
+/// A leaf from which diamonds lead on.
+#[derive(Drop)]
+pub(crate) struct Leaf {
+    pub knot: usize,
+    /// The positive literals.
+    pub literals: Vec<usize>,
+    pub ways: Vec<Way>,
+    /// The ways ask for less than the leaf does: it counts for Odd alone.
+    pub weak: bool,
+    /// It was taken back.
+    pub gone: bool,
+}
+
+/// The tree of a sequent.
+#[derive(Drop)]
+pub(crate) struct Tree {
+    pub root: usize,
+    pub leaves: Vec<usize>,
+}
+
+/// A step from a node of a tree to one of its sides.
+#[derive(Clone, Copy)]
+struct Descent {
+    knot: usize,
+    mark: usize,
+    modals: usize,
+}
+
+/// The sequents with their trees.
+#[derive(Drop)]
+pub(crate) struct Trees {
+    pub sequents: IndexSet<Sequent>,
+    pub trees: Vec<Tree>,
+    pub knots: Vec<Knot>,
+    pub leaves: Vec<Leaf>,
+    branch: Branch,
+    walks: Walks,
+    /// How much was made.
+    pub spent: usize,
+}
+
+/// Is the number one of these?
+fn has(numbers: &[usize], number: usize) -> bool {
+    numbers.contains(&number)
+}
+
+impl Trees {
+    pub(crate) fn new(terms: &Terms) -> Result<Trees, NoMemory> {
+        Ok(Trees {
+            sequents: IndexSet::new(terms.alloc),
+            trees: Vec::new(terms.alloc),
+            knots: Vec::new(terms.alloc),
+            leaves: Vec::new(terms.alloc),
+            branch: Branch::new(terms)?,
+            walks: Walks::new(terms)?,
+            spent: 0,
+        })
+    }
+
+    /// The number of a sequent, which gets a tree.
+    pub(crate) fn sequent(&mut self, terms: &Terms, sequent: Sequent) -> Result<usize, NoMemory> {
+        let (number, _) = self.sequents.insert_full(sequent)?;
+        if number >= self.trees.len() {
+            let root = self.knot(NONE, false)?;
+            self.trees.push(Tree {
+                root,
+                leaves: Vec::new(terms.alloc),
+            })?;
+        }
+        Ok(number)
+    }
+
+    /// The number of a new node of a tree.
+    fn knot(&mut self, parent: usize, plain: bool) -> Result<usize, NoMemory> {
+        self.spent = self.spent.saturating_add(1);
+        self.knots.push(Knot {
+            kind: Kind::Waits,
+            parent,
+            open: true,
+            plain,
+            needs: None,
+        })?;
+        Ok(self.knots.len().saturating_sub(1))
+    }
+
+    /// What stands at a node.
+    pub(crate) fn kind(&self, knot: usize) -> Kind {
+        match self.knots.get(knot) {
+            Some(knot) => knot.kind,
+            None => Kind::Clash(Cause::False(0)),
+        }
+    }
+
+    fn is_open(&self, knot: usize) -> bool {
+        match self.knots.get(knot) {
+            Some(knot) => knot.open,
+            None => false,
+        }
+    }
+
+    fn is_plain(&self, knot: usize) -> bool {
+        match self.knots.get(knot) {
+            Some(knot) => knot.plain,
+            None => false,
+        }
+    }
+
+    fn needs(&self, knot: usize) -> Option<&[usize]> {
+        match self.knots.get(knot) {
+            Some(knot) => match &knot.needs {
+                Some(needs) => Some(needs.as_slice()),
+                None => None,
+            },
+            None => None,
+        }
+    }
+
+    fn set(&mut self, knot: usize, kind: Kind, open: bool, needs: Option<Vec<usize>>) {
+        if let Some(place) = self.knots.get_mut(knot) {
+            place.kind = kind;
+            place.open = open;
+            place.needs = needs;
+        }
+    }
+
+    /// The root of the tree of a sequent.
+    pub(crate) fn root(&self, sequent: usize) -> usize {
+        match self.trees.get(sequent) {
+            Some(tree) => tree.root,
+            None => NONE,
+        }
+    }
+
+    /// Does something wait in the tree of a sequent?
+    pub(crate) fn waits(&self, sequent: usize) -> bool {
+        self.is_open(self.root(sequent))
+    }
+
+    /// The leaves of a sequent.
+    pub(crate) fn leaves_of(&self, sequent: usize) -> &[usize] {
+        match self.trees.get(sequent) {
+            Some(tree) => tree.leaves.as_slice(),
+            None => &[],
+        }
+    }
+
+    /// Was the leaf taken back?
+    pub(crate) fn is_gone(&self, leaf: usize) -> bool {
+        match self.leaves.get(leaf) {
+            Some(leaf) => leaf.gone,
+            None => true,
+        }
+    }
+
+    /// A weak leaf is taken back: what it asks for itself is made.
+    pub(crate) fn strengthen(&mut self, leaf: usize) {
+        let Some(place) = self.leaves.get_mut(leaf) else {
+            return;
+        };
+        place.gone = true;
+        let mut at = place.knot;
+        if let Some(knot) = self.knots.get_mut(at) {
+            knot.kind = Kind::Waits;
+            knot.plain = true;
+        }
+        for _ in 0..u64::MAX {
+            let Some(knot) = self.knots.get_mut(at) else {
+                break;
+            };
+            knot.open = true;
+            at = knot.parent;
+        }
+    }
+
+    /// Makes up to so many new leaves of a sequent, left sides first.
+    pub(crate) fn grow(
+        &mut self,
+        terms: &Terms,
+        sequent: usize,
+        count: usize,
+        most: usize,
+    ) -> Result<(), NoMemory> {
+        let mut nodes = Vec::new(terms.alloc);
+        if let Some(nodes_of) = self.sequents.as_slice().get(sequent) {
+            nodes.extend_from_slice(nodes_of.values())?;
+        }
+        self.branch.start(terms, &nodes)?;
+        let mut path: Vec<Descent> = Vec::new(terms.alloc);
+        let mut at = self.root(sequent);
+        let mut modals = NONE;
+        let mut made: usize = 0;
+        for _ in 0..u64::MAX {
+            if made >= count || self.spent >= most {
+                break;
+            }
+            if let Kind::Waits = self.kind(at) {
+                if self.expand(terms, sequent, at, &nodes, modals)? {
+                    made = made.saturating_add(1);
+                }
+            }
+            match self.kind(at) {
+                Kind::Split { node, left, right } if self.is_open(at) => {
+                    let side = self.first_side(terms, node, left, right);
+                    path.push(Descent {
+                        knot: at,
+                        mark: self.branch.mark(),
+                        modals,
+                    })?;
+                    modals = self.branch.modals().len();
+                    self.branch.choose(terms, node, side)?;
+                    at = match side {
+                        Side::Left => left,
+                        Side::Right => right,
+                    };
+                }
+                _ => {
+                    let Some(descent) = path.pop() else {
+                        break;
+                    };
+                    self.branch.undo(terms, descent.mark);
+                    modals = descent.modals;
+                    at = descent.knot;
+                    self.settle(terms, at)?;
+                }
+            }
+        }
+        for _ in 0..u64::MAX {
+            let Some(descent) = path.pop() else {
+                break;
+            };
+            self.branch.undo(terms, descent.mark);
+            self.settle(terms, descent.knot)?;
+        }
+        Ok(())
+    }
+
+    /// The side of a split that is looked at next: one that can't hold before the other, and left before right.
+    fn first_side(&self, terms: &Terms, node: usize, left: usize, right: usize) -> Side {
+        if !self.is_open(left) {
+            return Side::Right;
+        }
+        match sides(terms.node(node)) {
+            Some((_, child)) if self.is_open(right) && self.branch.is_dead(child) => Side::Right,
+            _ => Side::Left,
+        }
+    }
+
+    /// What stands at a split, once a side of it is closed.
+    fn settle(&mut self, terms: &Terms, at: usize) -> Result<(), NoMemory> {
+        let Kind::Split { node, left, right } = self.kind(at) else {
+            return Ok(());
+        };
+        if self.takes_over(terms, at, node, left)? || self.takes_over(terms, at, node, right)? {
+            return Ok(());
+        }
+        if self.is_open(left) || self.is_open(right) {
+            return Ok(());
+        }
+        let needs = self.joined(terms, node, left, right)?;
+        self.set(at, Kind::Split { node, left, right }, false, needs);
+        Ok(())
+    }
+
+    /// Where a side clashes whatever is chosen at the split, it stands for the whole.
+    fn takes_over(
+        &mut self,
+        terms: &Terms,
+        at: usize,
+        node: usize,
+        side: usize,
+    ) -> Result<bool, NoMemory> {
+        if self.is_open(side) {
+            return Ok(false);
+        }
+        let copy = match self.needs(side) {
+            Some(needs) if !has(needs, node) => Vec::from_slice(terms.alloc, needs)?,
+            _ => return Ok(false),
+        };
+        let kind = self.kind(side);
+        self.set(at, kind, false, Some(copy));
+        Ok(true)
+    }
+
+    /// The or-nodes that the clashes of both sides need, if both clash.
+    fn joined(
+        &self,
+        terms: &Terms,
+        node: usize,
+        left: usize,
+        right: usize,
+    ) -> Result<Option<Vec<usize>>, NoMemory> {
+        let (Some(one), Some(other)) = (self.needs(left), self.needs(right)) else {
+            return Ok(None);
+        };
+        let mut needs = Vec::from_slice(terms.alloc, one)?;
+        needs.extend_from_slice(other)?;
+        self.branch.reasons(terms, node, &mut needs)?;
+        needs.sort_unstable();
+        needs.dedup();
+        needs.retain(|n| *n != node);
+        Ok(Some(needs))
+    }
+
+    /// The or-nodes that a clash needs.
+    fn needs_of(&self, terms: &Terms, cause: Cause) -> Result<Vec<usize>, NoMemory> {
+        let mut needs = Vec::new(terms.alloc);
+        match cause {
+            Cause::False(n) => self.branch.reasons(terms, n as usize, &mut needs)?,
+            Cause::Pair(p, q) => {
+                self.branch.reasons(terms, p as usize, &mut needs)?;
+                self.branch.reasons(terms, q as usize, &mut needs)?;
+            }
+            Cause::Cycle(_) => self.branch.all_chosen(&mut needs)?,
+        }
+        needs.sort_unstable();
+        needs.dedup();
+        Ok(needs)
+    }
+
+    /// Makes what stands at a node that waits; true if it is a leaf.
+    fn expand(
+        &mut self,
+        terms: &Terms,
+        sequent: usize,
+        at: usize,
+        nodes: &[u32],
+        modals: usize,
+    ) -> Result<bool, NoMemory> {
+        self.spent = self.spent.saturating_add(1);
+        if !terms.cyclic.is_empty() {
+            self.branch.look_for_cycles(terms)?;
+        }
+        if let Some(cause) = self.branch.cause() {
+            let needs = self.needs_of(terms, cause)?;
+            self.set(at, Kind::Clash(cause), false, Some(needs));
+            return Ok(false);
+        }
+        let next = self.branch.next_or(terms);
+        if !self.is_plain(at) && (next.is_none() || self.branch.modals().len() != modals) {
+            if let Some(less) = self.less(terms, sequent)? {
+                self.weak_leaf(terms, sequent, at, nodes, less)?;
+                return Ok(true);
+            }
+        }
+        match next {
+            Some(node) => {
+                self.split(terms, at, node)?;
+                Ok(false)
+            }
+            None => {
+                self.leaf(terms, sequent, at, nodes)?;
+                Ok(true)
+            }
+        }
+    }
+
+    /// Splits at an or-node.
+    fn split(&mut self, terms: &Terms, at: usize, node: usize) -> Result<(), NoMemory> {
+        let plain = self.is_plain(at);
+        let _ = terms;
+        let left = self.knot(at, plain)?;
+        let right = self.knot(at, plain)?;
+        self.set(at, Kind::Split { node, left, right }, true, None);
+        Ok(())
+    }
+
+    /// Adds a leaf.
+    fn push_leaf(
+        &mut self,
+        terms: &Terms,
+        sequent: usize,
+        at: usize,
+        ways: Vec<Way>,
+        weak: bool,
+    ) -> Result<(), NoMemory> {
+        let number = self.leaves.len();
+        self.leaves.push(Leaf {
+            knot: at,
+            literals: Vec::from_slice(terms.alloc, self.branch.literals())?,
+            ways,
+            weak,
+            gone: false,
+        })?;
+        if let Some(tree) = self.trees.get_mut(sequent) {
+            tree.leaves.push(number)?;
+        }
+        self.set(at, Kind::Leaf(number), false, None);
+        Ok(())
+    }
+
+    /// A leaf where all or-nodes are decided or met.
+    fn leaf(
+        &mut self,
+        terms: &Terms,
+        sequent: usize,
+        at: usize,
+        nodes: &[u32],
+    ) -> Result<(), NoMemory> {
+        let exits = self.walks.exits(terms, &self.branch, nodes)?;
+        let mut diamonds = Vec::new(terms.alloc);
+        for n in self.branch.modals() {
+            if let Node::Diamond { action, .. } = terms.node(*n) {
+                diamonds.push((*n, action))?;
+            }
+        }
+        diamonds.sort_unstable();
+        let mut ways = Vec::new(terms.alloc);
+        for (diamond, action) in diamonds {
+            let into = targets(terms, &self.branch, diamond, action)?;
+            if let Some(letter) = letter(terms, &exits, diamond, action, &into)? {
+                let next = self.sequent(terms, Sequent::of(terms.alloc, &into)?)?;
+                ways.push(Way {
+                    diamond,
+                    action,
+                    next,
+                    letter,
+                })?;
+            }
+        }
+        self.push_leaf(terms, sequent, at, ways, false)
+    }
+
+    /// The nodes of a sequent.
+    pub(crate) fn nodes_of(&self, sequent: usize) -> &[u32] {
+        match self.sequents.as_slice().get(sequent) {
+            Some(sequent) => sequent.values(),
+            None => &[],
+        }
+    }
+
+    /// A leaf that asks for less than the branch: for each of its ways, the Diamond within whose targets the next sequent
+    /// lies.
+    fn less(&self, terms: &Terms, sequent: usize) -> Result<Option<Vec<(usize, usize)>>, NoMemory> {
+        if self.leaves_of(sequent).is_empty() {
+            return Ok(None);
+        }
+        let mut rows = Vec::new(terms.alloc);
+        for n in self.branch.modals() {
+            if let Node::Diamond { action, .. } = terms.node(*n) {
+                rows.push((*n, targets(terms, &self.branch, *n, action)?))?;
+            }
+        }
+        for leaf in self.leaves_of(sequent) {
+            if let Some(found) = self.less_than(terms, *leaf, &rows)? {
+                return Ok(Some(found));
+            }
+        }
+        Ok(None)
+    }
+
+    /// For each way of a leaf, the Diamond within whose targets its next sequent lies.
+    fn less_than(
+        &self,
+        terms: &Terms,
+        leaf: usize,
+        rows: &[(usize, Vec<u32>)],
+    ) -> Result<Option<Vec<(usize, usize)>>, NoMemory> {
+        let Some(leaf) = self.leaves.get(leaf) else {
+            return Ok(None);
+        };
+        if leaf.weak || leaf.gone {
+            return Ok(None);
+        }
+        let mut found = Vec::new(terms.alloc);
+        for way in &leaf.ways {
+            let nodes = self.nodes_of(way.next);
+            let mut diamond = NONE;
+            for row in rows {
+                if lies_within(nodes, &row.1) {
+                    diamond = row.0;
+                    break;
+                }
+            }
+            if diamond == NONE {
+                return Ok(None);
+            }
+            found.push((diamond, way.next))?;
+        }
+        Ok(Some(found))
+    }
+
+    /// A leaf that goes on to what an earlier one asks for.
+    fn weak_leaf(
+        &mut self,
+        terms: &Terms,
+        sequent: usize,
+        at: usize,
+        nodes: &[u32],
+        less: Vec<(usize, usize)>,
+    ) -> Result<(), NoMemory> {
+        let exits = self.walks.exits(terms, &self.branch, nodes)?;
+        let mut ways = Vec::new(terms.alloc);
+        for (diamond, next) in less {
+            if let Node::Diamond { action, .. } = terms.node(diamond) {
+                let found = letter(terms, &exits, diamond, action, self.nodes_of(next))?;
+                if let Some(letter) = found {
+                    ways.push(Way {
+                        diamond,
+                        action,
+                        next,
+                        letter,
+                    })?;
+                }
+            }
+        }
+        self.push_leaf(terms, sequent, at, ways, true)
+    }
+}
+
+/// Are all numbers among the others? Both ascend.
+fn lies_within(numbers: &[u32], others: &[u32]) -> bool {
+    if numbers.len() > others.len() {
+        return false;
+    }
+    numbers.iter().all(|n| others.binary_search(n).is_ok())
+}
