@@ -1,4 +1,6 @@
 // Structures that look random.
+ghost use Rattle.std.specs.Prelude.{◌<◌};
+
 use ml_base::{Action, Edge, Name};
 use ml_kripke::Structure;
 use ml_tests::Numbers;
@@ -54,7 +56,9 @@ fn push_edges(
     states: u32,
     edges: &mut Vec<Edge>,
     source: u32,
-) -> Result<(), Fail> {
+) -> Result<(), Fail>
+    requires { 0 < states }
+{
     if shape != Shape::Any {
         let target = numbers.below(u64::from(states)) as u32;
         push_edge(alloc, edges, source, b"_", target)?;
