@@ -1,0 +1,12 @@
+-- words as structures
+pub mod WordPlaces
+-- the game on them, and what is read
+pub mod WordBoards
+-- what is accepted isn't lost
+pub mod AcceptedRuns
+-- what is won is accepted
+pub mod SatisfiedRuns
+-- the automaton accepts what satisfies
+pub mod Acceptance
+-- letters are sets
+pub mod SameLetters
