@@ -2,7 +2,7 @@
 --
 --   states_are_told        == Even wins a state node exactly if it holds
 --   accepts_what_satisfies == the law
-use Rattle.std.proofs.Common.{ℕ, suc, ◌≡◌, ◌+◌, ◌<◌, ◌≤◌, ◌⊎◌, ◌↔◌, inl, inr, arith, true, Bool, not, [], ◌∷◌, slice_get, Some, subst, ⊎_elim}
+use Rattle.std.proofs.Common.{suc, ◌≡◌, ◌⊎◌, ◌↔◌, inl, inr, arith, true, Bool, not, [], ◌∷◌, slice_get, Some, subst}
 use Rattle.std.specs.Bool.{beq}
 use Rattle.ml_parity.specs.declared.players.Player.TheVariants.{Even, Odd}
 use Rattle.ml_parity.specs.Winner.{Wins}

@@ -9,25 +9,23 @@
 --   turned         == a transition, as such moves; one that accepts passes the priority 0
 --   ran, ran_well  == a run, and one that accepts
 --   never_accepted == the law
-use Rattle.std.proofs.Common.{ℕ, ◌≡◌, ◌+◌, ◌<◌, ◌⊎◌, min, inl, inr, arith, true, false, Bool, List, [], ◌∷◌, ◌++◌, length, slice_get, codes, refl, sym, ap, subst, ◌∙◌, ⊎_elim, eqb-true}
+use Rattle.std.proofs.Common.{ℕ, ◌≡◌, ◌<◌, ◌⊎◌, min, inl, inr, arith, true, false, Bool, List, [], ◌∷◌, ◌++◌, length, codes, refl, sym, ap, subst, ◌∙◌, eqb-true}
 use Rattle.ml_lists.specs.Member.{IsMember}
 use Rattle.ml_lists.specs.Repeated.{repeated}
 use Rattle.ml_lists.proofs.Entries.{some_entry}
 use Rattle.ml_base.specs.Structure.{Structure}
-use Rattle.ml_parity.specs.declared.players.Player.TheVariants.{Even, Odd}
-use Rattle.ml_parity.specs.Player.{side}
+use Rattle.ml_parity.specs.declared.players.Player.TheVariants.{Odd}
 use Rattle.ml_parity.specs.Game.{ParityGame}
 use Rattle.ml_parity.specs.Game as parity
-use Rattle.ml_parity.specs.Winner.{IsStrategyOf, WinsFrom, Wins}
+use Rattle.ml_parity.specs.Winner.{IsStrategyOf, WinsFrom}
 use Rattle.ml_parity.proofs.FollowedWalks.{FollowedMove, FollowedWalk, last, walks_joined, won_behind, closed_walk_good}
 use Rattle.ml_graph.specs.CheckingGame.{Vertex, Pair, mover, pairs_or_sink, successors, successors_of, targets, vertex_number}
 use Rattle.ml_graph.specs.declared.node.Node.{Node}
 use Rattle.ml_graph.specs.declared.node.Node.TheVariants as node
 use Rattle.ml_graph.specs.Graph.{Graph, node_at, size, priority_at, action_at}
-use Rattle.ml_graph.proofs.CheckingGame.{IsVertex, priority_is}
+use Rattle.ml_graph.proofs.CheckingGame.{priority_is}
 use Rattle.ml_graph.proofs.OneStep.{pair_member}
 use Rattle.ml_graph.proofs.References.{and_left, and_right, or_left, or_right, diamond_target}
-use Rattle.ml_nodes.specs.Nodes.{constant}
 use Rattle.ml_trace.specs.Run.{Run, AcceptingRun}
 use Rattle.ml_trace.specs.WordAutomata.{WordLasso, IsWordLasso, IsAcceptedFrom, stem, turn}
 use Rattle.ml_ctl.specs.Formula.{Formula}
@@ -36,10 +34,10 @@ use Rattle.ml_blocks.specs.Places.{Place, Form, Constant, Literal, And, Or, Diam
 use Rattle.ml_blocks.proofs.BlocksTold.{never_both}
 use Rattle.ml_blocks.proofs.PlaceVertices as vertices
 use Rattle.ml_blocks.proofs.PlaceVertices.{Board, at, own_move, other_move, step_target}
-use Rattle.ml_word_automaton.specs.WordAutomaton.{IsBlockGraph, IsTrueIn, IsTrueNode, Walks, itself, past_same, past_true, to_left, to_right, Leads, LeadsOn, LeadsToTrue}
+use Rattle.ml_word_automaton.specs.WordAutomaton.{IsBlockGraph, IsTrueIn, IsTrueNode, Walks, itself, past_same, past_true, to_left, to_right, Leads}
 use Rattle.ml_word_automaton.specs.Words.{Letter, next_letter, word_structure}
-use Rattle.ml_word_automaton.proofs.WordBoards.{letter_at, Reads, board, reads_joined, reads_stem, reads_turn, reads_repeated, true_won}
-use Rattle.ml_word_automaton.proofs.WordPlaces.{has_next, next_low}
+use Rattle.ml_word_automaton.proofs.WordBoards.{letter_at, Reads, board, reads_joined, reads_stem, reads_repeated, true_won}
+use Rattle.ml_word_automaton.proofs.WordPlaces.{has_next}
 
 -- all edges have the action `_`
 diamond_action : (g : Graph) (places : List Place) (v : Node) (form : Form) (a q : ℕ)

@@ -1,5 +1,5 @@
 -- Letters with the same propositions lead alike.
-use Rattle.std.proofs.Common.{ℕ, ◌≡◌, ◌⊎◌, ◌↔◌, inl, inr, Bool, List, sym, ◌∙◌}
+use Rattle.std.proofs.Common.{ℕ, inl, inr, Bool, sym, ◌∙◌}
 use Rattle.ml_graph.specs.Graph.{Graph, node_at, prop_at}
 use Rattle.ml_graph.specs.declared.node.Node.{Node}
 use Rattle.ml_graph.specs.declared.node.Node.TheVariants as node

@@ -10,7 +10,7 @@
 --   advance         == from an entry to one at the next place, by a transition
 --   Legs u x y      == one after the other, along the letters u
 --   accepted        == the law
-use Rattle.std.proofs.Common.{ℕ, zero, suc, ◌≡◌, ◌+◌, ◌<◌, ◌≤◌, ◌⊎◌, ◌==◌, ◌%◌, min, inl, inr, arith, true, false, not, Bool, List, [], ◌∷◌, ◌++◌, length, slice_get, Some, None, codes, refl, sym, ap, subst, ◌∙◌, ⊎_elim, eq-eqb, length-append}
+use Rattle.std.proofs.Common.{ℕ, zero, suc, ◌≡◌, ◌+◌, ◌<◌, ◌≤◌, ◌⊎◌, ◌==◌, ◌%◌, min, inl, inr, arith, true, false, not, Bool, List, [], ◌∷◌, ◌++◌, length, Some, None, refl, sym, ap, subst, ◌∙◌, ⊎_elim, eq-eqb, length-append}
 use Rattle.std.specs.Bool.{beq}
 use Rattle.std.proofs.lemmas.Bool.{and_parts, cases_eq, false≢true}
 use Rattle.ml_lists.specs.Member.{IsMember}
@@ -25,8 +25,7 @@ use Rattle.ml_parity.specs.Player.{side}
 use Rattle.ml_parity.specs.Game.{ParityGame}
 use Rattle.ml_parity.specs.Winner.{IsStrategyOf, WinsFrom, Wins}
 use Rattle.ml_parity.proofs.FollowedWalks.{FollowedWalk, walks_joined, won_behind, closed_walk_good, odd_is_not_even}
-use Rattle.ml_graph.specs.CheckingGame.{Pair, mover, pairs_or_sink, successors_of, targets}
-use Rattle.ml_graph.specs.declared.node.Node.{Node}
+use Rattle.ml_graph.specs.CheckingGame.{mover, pairs_or_sink, successors_of, targets}
 use Rattle.ml_graph.specs.declared.node.Node.TheVariants as node
 use Rattle.ml_graph.specs.Graph.{Graph, node_at, size, priority_at}
 use Rattle.ml_text.specs.declared.token.Operator.TheVariants as operator
@@ -39,7 +38,7 @@ use Rattle.ml_ctl.specs.declared.term.Pairing.TheVariants as pairing
 use Rattle.ml_ctl.specs.Paths.{has_step}
 use Rattle.ml_blocks.specs.Items.{Item, Row, OfState, Waits, Becomes, Either, now, row}
 use Rattle.ml_blocks.specs.ItemSets.{put_all, without, next_items, eventualities}
-use Rattle.ml_blocks.specs.Places.{Place, Form, Holding, Constant, Literal, And, Or, Diamond, first_open, form_of, form_of_item, is_open, is_wait, focus_behind, edge_priority, path_of}
+use Rattle.ml_blocks.specs.Places.{Place, Holding, Constant, Literal, And, Or, Diamond, first_open, form_of, form_of_item, is_open, is_wait, focus_behind, edge_priority, path_of}
 use Rattle.ml_blocks.proofs.BlockSteps as block
 use Rattle.ml_blocks.proofs.BlockSteps.{path, path_is, block_form, edge_form_of, edge_priority_of, Stepped, Settled, Steps, settle}
 use Rattle.ml_blocks.proofs.ItemSetMembers.{load, next_items-all_of}
@@ -50,7 +49,7 @@ use Rattle.ml_blocks.proofs.PathsWin.{best_low, edge_low}
 use Rattle.ml_blocks.proofs.PlaceVertices as vertices
 use Rattle.ml_blocks.proofs.PlaceVertices.{Board, Known, Branches, Edges, at, form_as, number_low, same_number, vertex_is, own_branch, other_left, other_right, own_edge, priority_at_place, move_walk, way_walk}
 use Rattle.ml_blocks.proofs.RowsOfItems.{item}
-use Rattle.ml_word_automaton.specs.WordAutomaton.{IsBlockGraph, IsTrueIn, Walks, itself, past_same, past_true, to_left, to_right, Leads, LeadsOn, LeadsToTrue}
+use Rattle.ml_word_automaton.specs.WordAutomaton.{IsBlockGraph, IsTrueIn, Walks, itself, past_same, past_true, to_left, to_right, Leads}
 use Rattle.ml_word_automaton.specs.Words.{Letter, next_letter, word_structure}
 use Rattle.ml_word_automaton.proofs.WordBoards.{letter_at, Reads, board, reads_stem, reads_turn, turn_long, won_constant, won_literal}
 use Rattle.ml_word_automaton.proofs.WordPlaces.{has_next, next_low, step_is}

@@ -7,9 +7,8 @@
 --   turn_long                   == some letter is on the loop
 --   true_won                    == a node that is true in the letter is won by Even
 --   won_constant, won_literal   == and a constant or a literal that Even wins is true in it
-use Rattle.std.proofs.Common.{ℕ, zero, suc, ◌≡◌, ◌+◌, ◌-◌, ◌<◌, ◌≤◌, ◌⊎◌, inl, inr, arith, true, false, Bool, List, [], ◌∷◌, ◌++◌, length, get_or, slice_index_or, take, drop, refl, sym, ap, subst, ◌∙◌, get_or-take, get_or-drop, length-take-le, length-drop}
+use Rattle.std.proofs.Common.{ℕ, zero, suc, ◌≡◌, ◌+◌, ◌-◌, ◌<◌, arith, true, false, Bool, List, [], ◌∷◌, ◌++◌, length, get_or, slice_index_or, refl, sym, ap, subst, ◌∙◌, get_or-take, get_or-drop, length-take-le, length-drop}
 use Rattle.ml_lists.specs.Repeated.{repeated}
-use Rattle.ml_parity.specs.Game.{ParityGame}
 use Rattle.ml_graph.specs.CheckingGame as game
 use Rattle.ml_graph.specs.declared.node.Node.{Node}
 use Rattle.ml_graph.specs.declared.node.Node.TheVariants as node

@@ -5,11 +5,11 @@
 --   word_is_structure, word_is_total == so it is a structure of LTL
 --   path_is           == the word's path is one, from the first place
 --   some_as_satisfied == some path from there satisfies a formula exactly if the word does
-use Rattle.std.proofs.Common.{ℕ, zero, suc, ◌≡◌, ◌+◌, ◌<◌, ◌≤◌, ◌⊎◌, ◌↔◌, ◌==◌, ◌&&◌, inl, inr, ltb, arith, true, false, Bool, not, List, length, get_or, map, cond, codes, bytes_eq, refl, sym, ap, subst, subst₂, ◌∙◌, lt-ltb, le-ltb, eqb-true, eq-eqb}
-use Rattle.std.specs.List.{list_any, range_with_len}
+use Rattle.std.proofs.Common.{ℕ, zero, suc, ◌≡◌, ◌<◌, ◌≤◌, ◌⊎◌, ◌↔◌, ◌==◌, ◌&&◌, inl, inr, ltb, arith, true, false, Bool, not, length, cond, codes, bytes_eq, refl, sym, ap, subst, subst₂, ◌∙◌, lt-ltb, le-ltb, eqb-true, eq-eqb}
+use Rattle.std.specs.List.{range_with_len}
 use Rattle.std.proofs.lemmas.Bool.{and_parts, and_from, cases_lt, cond-true, cond-false}
 use Rattle.std.proofs.lemmas.List.FromFn.{length-range_with_len, get_or-range_with_len}
-use Rattle.ml_lists.specs.Lasso.{Lasso, entry, round, next_place}
+use Rattle.ml_lists.specs.Lasso.{Lasso, entry, next_place}
 use Rattle.ml_lists.specs.Member.{IsMember}
 use Rattle.ml_lists.specs.Walk.{walk}
 use Rattle.ml_lists.proofs.Lasso.{round-entry}
@@ -21,7 +21,7 @@ use Rattle.ml_base.specs.Structure.{Structure, IsStructure}
 use Rattle.ml_trace.specs.WordAutomata.{WordLasso, IsWordLasso}
 use Rattle.ml_ctl.specs.Formula.{Formula}
 use Rattle.ml_ctl.specs.Meaning.{TruthAt}
-use Rattle.ml_ctl.specs.Paths.{IsPath, IsPathFrom, IsPlace, IsTotal, after, has_step}
+use Rattle.ml_ctl.specs.Paths.{IsPathFrom, IsPlace, IsTotal, after, has_step}
 use Rattle.ml_ctl.proofs.SamePaths.{follows_the_path}
 use Rattle.ml_ltl.specs.Problem.{in_sense}
 use Rattle.ml_blocks.specs.Laws.{signed}
