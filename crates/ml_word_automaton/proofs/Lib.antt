@@ -10,3 +10,5 @@ pub mod SatisfiedRuns
 pub mod Acceptance
 -- letters are sets
 pub mod SameLetters
+-- one automaton, and some automaton
+pub mod BlockGraphs
