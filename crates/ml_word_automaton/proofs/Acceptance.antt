@@ -61,7 +61,8 @@ module _ (g : Graph) (f : Formula) (negated : Bool) (w : WordLasso Letter) (is :
       by_winner : Decided → SatisfiedBy w (in_sense negated f)
       by_winner (inl (some, even)) = (some_as_satisfied w ok f negated).0 some
       by_winner (inr (none, odd)) =
-          absurd (never_accepted g f negated w is ok odd.strategy odd.is_strategy 0 (number_low B at_start) odd.wins accepts)
+          let low = number_low B at_start in
+          absurd (never_accepted g f negated w is ok odd.strategy odd.is_strategy 0 low odd.wins accepts)
 
   accepts_it : SatisfiedBy w (in_sense negated f) → IsAcceptedFrom (Leads g) 0 w
   accepts_it sat = by_winner decided

@@ -1,8 +1,8 @@
 -- What the automaton accepts Odd doesn't win.
 --
--- Where Odd's strategy wins a block at the first place, an accepting run is followed against it: at an And of a state node that is
--- true the strategy goes on to the block, since Even wins the state node; at an Or Even goes where the run does, and a
--- Diamond has one place to lead to. So the loop of the run is a closed walk that follows the strategy, and has the
+-- Where Odd's strategy wins a block at the first place, an accepting run is followed against it: at an And of a state node
+-- that is true the strategy goes on to the block, since Even wins the state node; at an Or Even goes where the run does, and
+-- a Diamond has one place to lead to. So the loop of the run is a closed walk that follows the strategy, and has the
 -- priority 0 on it.
 --
 --   came           == a walk under a letter, as moves that follow the strategy
@@ -83,11 +83,23 @@ module _ (g : Graph) (f : Formula) (negated : Bool) (w : WordLasso Letter) (is :
     abbrev Way : ℕ → ℕ → Type 0
     Way v x = (v ≡ x) ⊎ Some v x
 
-    then_goes : (v x y : ℕ) → Way v x → Goes x y → Some v y
+    -- a way, and one more move: the priority 0 of the vertex before it is the lowest
+    record Ending (v x y : ℕ) : Type 0 where
+      pub lowest : ℕ
+      pub walk : Walk v lowest y
+      pub good : parity.priority_of G x ≡ 0 → lowest ≡ 0
+
+    then_goes : (v x y : ℕ) → Way v x → Goes x y → Ending v x y
     then_goes v x y (inl e) goes =
-        (parity.priority_of G x, subst (λ u. Walk u (parity.priority_of G x) y) (sym e) (last x y goes))
+        let p : ℕ = parity.priority_of G x in
+        record { lowest = p; walk = subst (λ u. Walk u p y) (sym e) (last x y goes); good = λ zero_is. zero_is }
     then_goes v x y (inr (k, walk)) goes =
-        (min k (parity.priority_of G x), walks_joined G Odd choice v k x (parity.priority_of G x) y walk (last x y goes))
+        let p : ℕ = parity.priority_of G x in
+        record {
+          lowest = min k p;
+          walk = walks_joined G Odd choice v k x p y walk (last x y goes);
+          good = λ zero_is. omega (arith, zero_is);
+        }
 
     then_way : (v j x y : ℕ) → Walk v j x → Way x y → Some v y
     then_way v j x y walk (inl e) = (j, subst (Walk v j) e walk)
@@ -111,7 +123,7 @@ module _ (g : Graph) (f : Formula) (negated : Bool) (w : WordLasso Letter) (is :
       further p n r c r_low goes = record {
         n_low = r_low;
         from = won_behind G Odd choice (at B s n) (at B s r) goes c.from;
-        way = inr (then_goes (at B s p) (at B s n) (at B s r) c.way goes);
+        way = let e = then_goes (at B s p) (at B s n) (at B s r) c.way goes in inr (e.lowest, e.walk);
       }
 
       odd_moves : (n l r : ℕ) → n < size g → node_at g n ≡ node.And l r
@@ -192,9 +204,6 @@ module _ (g : Graph) (f : Formula) (negated : Bool) (w : WordLasso Letter) (is :
           (subst (IsMember (Pair t q)) (sym (ap (successors_of g m s) e))
           (subst (λ action. IsMember (Pair t q) (pairs_or_sink q 1 (targets m s action))) (sym name) member))
 
-      lowest_good : (k d : ℕ) → d < size g → priority_at g d ≡ 0 → min k (parity.priority_of G (at B s d)) ≡ 0
-      lowest_good k d d_low e = let is_low = priority_is g m (Pair s d) (low, d_low) ∙ e in omega (arith, is_low)
-
       turned : (p q : ℕ) (accepting : Bool) → p < size g → From (at B s p) → Leads g (letter_at w s) p q accepting
           → Turned p q accepting
       turned p q accepting p_low from (inr leads) =
@@ -203,40 +212,20 @@ module _ (g : Graph) (f : Formula) (negated : Bool) (w : WordLasso Letter) (is :
         where
           true_node : Letter → Node → Type 0
           true_node letter x = IsTrueNode g letter x
-      turned p q accepting p_low from (inl leads) = by_way c.way
-        where
-          d : ℕ
-          d = leads.diamond
-
-          c : Came p d
-          c = came p d p_low from leads.walks
-
-          goes : Goes (at B s d) (at B (next_letter w s) q)
-          goes = edge_moves d leads.action q c.n_low leads.is_diamond
-
-          zero_if : accepting ≡ true → priority_at g d ≡ 0
-          zero_if e = eqb-true (priority_at g d) 0 (sym leads.accepts ∙ e)
-
-          q_low : q < size g
-          q_low = diamond_target g is.is_graph d c.n_low leads.action q leads.is_diamond
-
-          behind : From (at B (next_letter w s) q)
-          behind = won_behind G Odd choice (at B s d) (at B (next_letter w s) q) goes c.from
-
-          by_way : Way (at B s p) (at B s d) → Turned p q accepting
-          by_way (inl e) = record {
-            q_low = q_low;
-            from = behind;
-            lowest = parity.priority_of G (at B s d);
-            walk = subst (λ v. Walk v (parity.priority_of G (at B s d)) (at B (next_letter w s) q)) (sym e) (last (at B s d) (at B (next_letter w s) q) goes);
-            good = λ a. priority_is g m (Pair s d) (low, c.n_low) ∙ zero_if a;
-          }
-          by_way (inr (k, walk)) = record {
-            q_low = q_low;
-            from = behind;
-            lowest = min k (parity.priority_of G (at B s d));
-            walk = walks_joined G Odd choice (at B s p) k (at B s d) (parity.priority_of G (at B s d)) (at B (next_letter w s) q) walk (last (at B s d) (at B (next_letter w s) q) goes);
-            good = λ a. lowest_good k d c.n_low (zero_if a);
+      turned p q accepting p_low from (inl leads) =
+          let d : ℕ = leads.diamond in
+          let t : ℕ = next_letter w s in
+          let c = came p d p_low from leads.walks in
+          let goes = edge_moves d leads.action q c.n_low leads.is_diamond in
+          let e = then_goes (at B s p) (at B s d) (at B t q) c.way goes in
+          record {
+            q_low = diamond_target g is.is_graph d c.n_low leads.action q leads.is_diamond;
+            from = won_behind G Odd choice (at B s d) (at B t q) goes c.from;
+            lowest = e.lowest;
+            walk = e.walk;
+            good = λ a.
+                let zero_is = eqb-true (priority_at g d) 0 (sym leads.accepts ∙ a) in
+                e.good (priority_is g m (Pair s d) (low, c.n_low) ∙ zero_is);
           }
 
     -- ---- words
@@ -298,8 +287,9 @@ module _ (g : Graph) (f : Formula) (negated : Bool) (w : WordLasso Letter) (is :
     pub never_accepted : (p : ℕ) → p < size g → From (at B 0 p) → IsAcceptedFrom (Leads g) p w → ⊥
     never_accepted p p_low from a =
         let k : ℕ = w.loop_start in
-        let comes = reads_joined w ok (stem w) (repeated a.turns (turn w)) 0 k k (reads_stem w ok) (reads_repeated w ok a.turns) in
+        let turns = reads_repeated w ok a.turns in
+        let rounds = reads_repeated w ok a.rounds in
+        let comes = reads_joined w ok (stem w) (repeated a.turns (turn w)) 0 k k (reads_stem w ok) turns in
         let b = ran (stem w ++ repeated a.turns (turn w)) 0 k p a.state p_low from comes a.comes in
-        let closed =
-        ran_well (repeated a.rounds (turn w)) k k a.state a.state b.q_low b.from (reads_repeated w ok a.rounds) a.returns in
+        let closed = ran_well (repeated a.rounds (turn w)) k k a.state a.state b.q_low b.from rounds a.returns in
         let wrong = closed_walk_good G Odd choice (at B k a.state) 0 closed b.from in absurd (cc)

@@ -4,6 +4,10 @@ pub mod WordPlaces
 pub mod WordBoards
 -- what is accepted isn't lost
 pub mod AcceptedRuns
+-- what is asked of states without quantifiers
+pub mod AtomItems
+-- a strategy's turns from place to place
+pub mod BlockTurns
 -- what is won is accepted
 pub mod SatisfiedRuns
 -- the automaton accepts what satisfies
@@ -12,3 +16,5 @@ pub mod Acceptance
 pub mod SameLetters
 -- one automaton, and some automaton
 pub mod BlockGraphs
+-- the automaton of F p, by hand
+pub mod WorkedAutomaton

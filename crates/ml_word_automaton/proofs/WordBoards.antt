@@ -44,7 +44,8 @@ module _ (w : WordLasso Letter) (ok : IsWordLasso w) where
   head_stands l u i at = let same : i + 0 ≡ i = omega arith in at 0 (omega arith) ∙ ap (letter_at w) same
 
   tail_stands : (l : Letter) (u : List Letter) (i : ℕ) → StandsFrom (l ∷ u) i → StandsFrom u (suc i)
-  tail_stands l u i at n low = let same : i + suc n ≡ suc i + n = omega arith in at (suc n) (omega (arith, low)) ∙ ap (letter_at w) same
+  tail_stands l u i at n low =
+      let same : i + suc n ≡ suc i + n = omega arith in at (suc n) (omega (arith, low)) ∙ ap (letter_at w) same
 
   reads_along : (u : List Letter) (i j : ℕ) → StandsFrom u i → i + length u ≡ j → j < length w.word → Reads w u i j
   reads_along [] i j at end low = omega (arith, end)
@@ -103,7 +104,9 @@ module _ (w : WordLasso Letter) (ok : IsWordLasso w) where
 
 -- ---- the board
 
-abbrev pub board : (g : Graph) (f : Formula) (negated : Bool) (w : WordLasso Letter) → IsBlockGraph g f negated → IsWordLasso w
+abbrev pub board : (g : Graph) (f : Formula) (negated : Bool) (w : WordLasso Letter)
+    → IsBlockGraph g f negated
+    → IsWordLasso w
     → Board
 board g f negated w is ok = record {
   g = g;

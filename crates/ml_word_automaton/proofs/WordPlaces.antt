@@ -125,7 +125,8 @@ module _ (w : WordLasso Letter) (ok : IsWordLasso w) where
     pub is : entry l (after l 0 k) ≡ walk (next_letter w) 0 k
 
   goes : (l : Lasso) → IsPathFrom m 0 l → (k : ℕ) → Goes l k
-  goes l from zero = let starts = from.is_path.starts in record { place = (starts, omega (arith, starts)); is = from.starts_at }
+  goes l from zero =
+      let starts = from.is_path.starts in record { place = (starts, omega (arith, starts)); is = from.starts_at }
   goes l from (suc k) =
       let so_far = goes l from k in
       let p : ℕ = after l 0 k in
