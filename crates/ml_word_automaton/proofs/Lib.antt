@@ -1,0 +1,20 @@
+-- words as structures
+pub mod WordPlaces
+-- the game on them, and what is read
+pub mod WordBoards
+-- what is accepted isn't lost
+pub mod AcceptedRuns
+-- what is asked of states without quantifiers
+pub mod AtomItems
+-- a strategy's turns from place to place
+pub mod BlockTurns
+-- what is won is accepted
+pub mod SatisfiedRuns
+-- the automaton accepts what satisfies
+pub mod Acceptance
+-- letters are sets
+pub mod SameLetters
+-- one automaton, and some automaton
+pub mod BlockGraphs
+-- the automaton of F p, by hand
+pub mod WorkedAutomaton
