@@ -17,7 +17,7 @@ use Rattle.ml_base.specs.declared.structure.Edge.{Edge}
 use Rattle.ml_base.specs.declared.version.Version.TheVariants.{Two}
 use Rattle.ml_lists.proofs.Member.{member-All}
 use Rattle.ml_lists.proofs.Members.{contains_of_member}
-use Rattle.ml_kripke.specs.Laws.{IsWritten}
+use Rattle.ml_kripke.specs.ModelText.{IsWritten}
 use Rattle.ml_kripke.specs.Ordered.{HasNames}
 use Rattle.ml_bisim.specs.Quotient.{IsQuotientOf, SomeEdge, class_of}
 use Rattle.ml_bisim.proofs.Classes.{class_low, some_state}
