@@ -23,7 +23,7 @@ use std::fs;
 use std::io::Print;
 use std::rt::Files;
 
-const FILES: [&str; 18] = [
+const FILES: [&str; 19] = [
     "examples",
     "patterns",
     "words",
@@ -36,6 +36,7 @@ const FILES: [&str; 18] = [
     "ctl",
     "ltl",
     "word",
+    "search",
     "families",
     "models",
     "refutations",
