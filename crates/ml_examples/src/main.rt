@@ -23,7 +23,7 @@ use std::fs;
 use std::io::Print;
 use std::rt::Files;
 
-const FILES: [&str; 19] = [
+const FILES: [&str; 20] = [
     "examples",
     "patterns",
     "words",
@@ -37,6 +37,7 @@ const FILES: [&str; 19] = [
     "ltl",
     "word",
     "search",
+    "literature",
     "families",
     "models",
     "refutations",
