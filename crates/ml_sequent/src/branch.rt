@@ -109,7 +109,8 @@ impl<'a> Branch<'a> {
     /// # Errors
     /// `NoMemory` alone. The branch is to begin anew then.
     ///
-    /// Cost: linear in the nodes that are new, and in the sides that were chosen at greater nodes, which move up.
+    /// Cost: linear in the nodes that are new and in the sides that were chosen, among which the place of this one is looked
+    /// for, and those at greater nodes move up.
     pub fn choose(&mut self, node: u32, side: Side) -> Result<(), NoMemory>
         requires spread { IsSpread self.old.graph self.old.spread }
         requires node { IsOpenOr self.old.graph self.old.spread node }
