@@ -166,26 +166,26 @@ module _ (K : Kept) (start : Place) where
   child_inside g ps v (places.Square q) p has (inl e) = subst (λ q. IsMember q ps) (sym e) (member_of_get ps has.1 q has.2)
   child_inside g ps v (places.Square q) p has (inr none) = absurd none
 
-  module _ (first : Spot) (is_start : place first ≡ start) (first_fits : Fits K first) where
+  module _ (first root : Spot) (is_start : place first ≡ start) (first_fits : Fits K first) (root_fits : Fits K root) where
     abbrev Reached : Spot → Type 0
-    Reached = ReachedIn K.occurrences K.eventualities first
+    Reached = ReachedIn K.occurrences K.eventualities first root
 
     abbrev form_at : Spot → Form
     form_at = form_in K.occurrences K.eventualities first
 
     pub reached_fits : (s : Spot) → Reached s → Fits K s
-    reached_fits s at_root = tt
+    reached_fits _ at_root = root_fits
     reached_fits s (behind r _ reached m) =
         child_fits (form_at r) s (form_fits K first first_fits r (reached_fits r reached)) m
 
-    pub reached_place : (s : Spot) → Reached s → IsReached (places.Root start) (place s)
-    reached_place s at_root = closure.at_root
+    pub reached_place : (s : Spot) → Reached s → IsReached (place root) (place s)
+    reached_place _ at_root = closure.at_root
     reached_place s (behind r _ reached m) =
         closure.behind (place r) (place s) (reached_place r reached)
         (subst (λ f. IsMember (place s) (children f)) (form_is K start first is_start r (reached_fits r reached))
         (child_view (form_at r) s m))
 
-    pub too_large : (max : ℕ) → IsTooLarge K.occurrences K.eventualities first max → HasMoreThan (places.Root start) max
+    pub too_large : (max : ℕ) → IsTooLarge K.occurrences K.eventualities first root max → HasMoreThan (place root) max
     too_large max large = record {
       places = map place large.spots;
       once = places_once large.spots large.once;
@@ -199,12 +199,12 @@ module _ (K : Kept) (start : Place) where
             large.are_reached seat.place s
             (slice_get-get_or large.spots seat.place s seat.below ∙ ap Some (seat.holds s))
 
-        of_image : (p : Place) → Image place p large.spots → IsReached (places.Root start) p
+        of_image : (p : Place) → Image place p large.spots → IsReached (place root) p
         of_image p i =
-            subst (IsReached (places.Root start)) (sym i.holds) (reached_place i.from (reached_member i.from i.member))
+            subst (IsReached (place root)) (sym i.holds) (reached_place i.from (reached_member i.from i.member))
 
     module _ (max : ℕ) (xs : List Spot) (vs : List Node) (ps : List ℕ)
-        (D : IsDraft K.occurrences K.eventualities first max xs vs ps)
+        (D : IsDraft K.occurrences K.eventualities first root max xs vs ps)
         (all : length vs ≡ length xs) where
       abbrev graph : Graph
       graph = record { nodes = vs; priorities = ps; root = 0; props = K.names; actions = codes "_" ∷ [] }
@@ -251,8 +251,8 @@ module _ (K : Kept) (start : Place) where
           let low : n < length vs = omega (arith, all, slice_get_within xs n s.0 s.1) in
           subst (Made n) s.2 (made_of n low s.0 s.1)
 
-      inside : (p : Place) → IsReached (places.Root start) p → IsMember p numbers
-      inside p closure.at_root = member-map place (spot.Fixed fixed.Root) xs (member_of_get xs 0 (spot.Fixed fixed.Root) D.root)
+      inside : (p : Place) → IsReached (place root) p → IsMember p numbers
+      inside _ closure.at_root = member-map place root xs (member_of_get xs 0 root D.begins)
       inside p (closure.behind q _ reached m) = from (member-place q numbers (inside q reached))
         where
           from : (seat : Rattle.ml_lists.proofs.Member.Place q numbers) → IsMember p numbers
@@ -262,7 +262,7 @@ module _ (K : Kept) (start : Place) where
               child_inside graph numbers (get_or vs seat.place node.True) (form_of q) p
               (made_at seat.place q at).has_form m
 
-      outside : (p : Place) → IsMember p numbers → IsReached (places.Root start) p
+      outside : (p : Place) → IsMember p numbers → IsReached (place root) p
       outside p m = of_image (member-map_from place p xs m)
         where
           reached_member : (s : Spot) → IsMember s xs → Reached s
@@ -270,9 +270,9 @@ module _ (K : Kept) (start : Place) where
               let seat = member-place s xs i in
               D.are_reached seat.place s (slice_get-get_or xs seat.place s seat.below ∙ ap Some (seat.holds s))
 
-          of_image : Image place p xs → IsReached (places.Root start) p
+          of_image : Image place p xs → IsReached (place root) p
           of_image i =
-              subst (IsReached (places.Root start)) (sym i.holds) (reached_place i.from (reached_member i.from i.member))
+              subst (IsReached (place root)) (sym i.holds) (reached_place i.from (reached_member i.from i.member))
 
       abbrev rows : List (List ℕ)
       rows = map row_of vs
@@ -283,7 +283,7 @@ module _ (K : Kept) (start : Place) where
           (subst (RunsOn 0 (0 ∷ flat_map (λ r. r) rows)) (sym all) D.runs_on)
           (subst (AreFromEarlier rows) (sym all) D.from_earlier)
 
-      pub numbered : IsNumberedBy graph (places.Root start) numbers
+      pub numbered : IsNumberedBy graph (place root) numbers
       numbered = record {
         is_closure = record {
           once = places_once xs D.once;
@@ -292,7 +292,7 @@ module _ (K : Kept) (start : Place) where
         one_each = all ∙ sym (length-map xs place);
         has_forms = λ n p at. (made_at n p at).has_form;
         has_priorities = λ n p at. (made_at n p at).has_priority;
-        root_is = place_at xs 0 (spot.Fixed fixed.Root) D.root;
+        root_is = place_at xs 0 root D.begins;
         is_first = refl;
         breadth_first = order;
       }
@@ -338,7 +338,7 @@ module _ (K : Kept) (start : Place) where
             let m = D.made n low in
             form_in_range (get_or vs n node.True) (form_at m.spot)
             (form_fits K first first_fits m.spot (fits_at n m.spot m.at)) m.form))
-            (one 0 (length vs) (within 0 (spot.Fixed fixed.Root) D.root));
+            (one 0 (length vs) (within 0 root D.begins));
         props_differ = distinct;
         actions_differ = one_name (codes "_");
       }

@@ -1,6 +1,6 @@
 -- A draft with one node more is a draft.
 --
---   one_spot      == the root alone is a draft
+--   one_spot      == the first node alone is a draft
 --   stepped       == one node more
 --   no_room       == where the next node leads to one too many, more nodes are reached
 use Rattle.std.proofs.Common.{ℕ, ◌≡◌, ◌+◌, ◌<◌, ◌≤◌, ◌⊎◌, inl, inr, arith, Bool, true, false, List, [], ◌∷◌, ◌++◌}
@@ -20,11 +20,9 @@ use Rattle.ml_blocks.specs.private.Numbering.{ReachedIn, at_root, behind, IsMade
 use Rattle.ml_lists.specs.InTurn.{RunsOn}
 use Rattle.ml_lists.specs.Added.{IsAdded, HasOnePlace}
 use Rattle.ml_blocks.specs.declared.table.Occurrence.{Occurrence}
-use Rattle.ml_blocks.specs.declared.spots.Fixed.TheVariants as fixed
 use Rattle.ml_blocks.specs.declared.spots.Form.{Form}
 use Rattle.ml_blocks.specs.declared.spots.Form.TheVariants as form
 use Rattle.ml_blocks.specs.declared.spots.Spot.{Spot}
-use Rattle.ml_blocks.specs.declared.spots.Spot.TheVariants as spot
 use Rattle.ml_lists.proofs.Added.{added_all, added_once, added_keeps, added_runs, last_or}
 use Rattle.ml_lists.proofs.Member.{member_of_get}
 use Rattle.ml_lists.proofs.InTurn.{runs_append, runs_up}
@@ -144,35 +142,35 @@ still xs ys keeps v (form.Two b l r) h = (h.0, h.1, keeps h.0 l h.2, keeps h.1 r
 still xs ys keeps v (form.Twice b s) h = (h.0, keeps h.0 s h.1, h.2)
 still xs ys keeps v (form.Edge b s) h = (h.0, keeps h.0 s h.1, h.2)
 
-module _ (os : List Occurrence) (lists : List (List ℕ)) (first : Spot) (max : ℕ) where
+module _ (os : List Occurrence) (lists : List (List ℕ)) (first root : Spot) (max : ℕ) where
   abbrev Reached : Spot → Type 0
-  Reached = ReachedIn os lists first
+  Reached = ReachedIn os lists first root
 
-  pub one_spot : (xs : List Spot) (i : ℕ) → IsAdded [] (spot.Fixed fixed.Root) xs i → length xs ≤ max
-      → IsDraft os lists first max xs [] []
+  pub one_spot : (xs : List Spot) (i : ℕ) → IsAdded [] root xs i → length xs ≤ max
+      → IsDraft os lists first root max xs [] []
   one_spot xs i a few =
-      let root : xs ≡ spot.Fixed fixed.Root ∷ [] = alone a.grown in record {
-        once = added_once [] xs (spot.Fixed fixed.Root) i a (λ j k x at_j at_k. absurd (cc));
-        root = ap (λ zs. slice_get zs 0) root;
-        are_reached = added_all [] xs (spot.Fixed fixed.Root) i a Reached (λ k s at. absurd (cc)) at_root;
+      let is : xs ≡ root ∷ [] = alone a.grown in record {
+        once = added_once [] xs root i a (λ j k x at_j at_k. absurd (cc));
+        begins = ap (λ zs. slice_get zs 0) is;
+        are_reached = added_all [] xs root i a Reached (λ k s at. absurd (cc)) at_root;
         few = few;
         short = omega arith;
         as_many = refl;
         made = λ n low. absurd (omega (arith, low));
-        runs_on = inr (refl, sym (ap length root));
-        from_earlier = λ k some low. let one = ap length root in absurd (omega (arith, some, low, one));
+        runs_on = inr (refl, sym (ap length is));
+        from_earlier = λ k some low. let one = ap length is in absurd (omega (arith, some, low, one));
       }
     where
-      alone : (xs ≡ []) ⊎ ((xs ≡ [] ++ spot.Fixed fixed.Root ∷ []) × ¬ (IsMember (spot.Fixed fixed.Root) []))
-          → xs ≡ spot.Fixed fixed.Root ∷ []
+      alone : (xs ≡ []) ⊎ ((xs ≡ [] ++ root ∷ []) × ¬ (IsMember root []))
+          → xs ≡ root ∷ []
       alone (inl none) =
-          let wrong : 1 ≤ length xs = omega (arith, slice_get_within xs i (spot.Fixed fixed.Root) a.stands) in
+          let wrong : 1 ≤ length xs = omega (arith, slice_get_within xs i root a.stands) in
           let zero_long = ap length none in
           absurd (omega (arith, wrong, zero_long))
       alone (inr new) = new.0
 
   module _ (xs ys : List Spot) (vs ws : List Node) (ps qs : List ℕ)
-      (D : IsDraft os lists first max xs vs ps)
+      (D : IsDraft os lists first root max xs vs ps)
       (S : IsStep os lists first max xs ys vs ws ps qs) where
     abbrev f : Form
     f = form_in os lists first S.spot
@@ -238,10 +236,10 @@ module _ (os : List Occurrence) (lists : List (List ℕ)) (first : Spot) (max : 
         (earlier_more (map row_of vs) (row_of S.node) (length xs) (length ys) growth.runs
         (let l = length-map vs row_of in omega (arith, l, low_spot)) D.from_earlier)
 
-    pub stepped : IsDraft os lists first max ys ws qs
+    pub stepped : IsDraft os lists first root max ys ws qs
     stepped = record {
       once = growth.once D.once;
-      root = growth.keeps 0 (spot.Fixed fixed.Root) D.root;
+      begins = growth.keeps 0 root D.begins;
       are_reached = growth.all D.are_reached;
       few = S.few;
       short = omega (arith, long, low_spot, up);
@@ -260,7 +258,7 @@ module _ (os : List Occurrence) (lists : List (List ℕ)) (first : Spot) (max : 
       → ((k : ℕ) (s : Spot) → slice_get zs k ≡ Some s → Reached s)
       → IsFull max zs x
       → Reached x
-      → IsTooLarge os lists first max
+      → IsTooLarge os lists first root max
   one_too_many zs x once all full here = record {
     spots = zs ++ x ∷ [];
     once = once_more zs x once full.is_new;
@@ -275,15 +273,15 @@ module _ (os : List Occurrence) (lists : List (List ℕ)) (first : Spot) (max : 
           by_place (inl there) = all n s there
           by_place (inr end) = subst Reached (sym end.1) here
 
-  pub root_too_many : IsFull max [] (spot.Fixed fixed.Root) → IsTooLarge os lists first max
+  pub root_too_many : IsFull max [] root → IsTooLarge os lists first root max
   root_too_many full =
-      one_too_many [] (spot.Fixed fixed.Root) (λ j k x at_j at_k. absurd (cc)) (λ k s at. absurd (cc)) full at_root
+      one_too_many [] root (λ j k x at_j at_k. absurd (cc)) (λ k s at. absurd (cc)) full at_root
 
-  module _ (xs : List Spot) (vs : List Node) (ps : List ℕ) (D : IsDraft os lists first max xs vs ps) where
+  module _ (xs : List Spot) (vs : List Node) (ps : List ℕ) (D : IsDraft os lists first root max xs vs ps) where
     overflowed : (s : Spot) (f : Form)
         → ((t : Spot) → IsMember t (children_in f) → Reached t)
         → Overflows max xs f
-        → IsTooLarge os lists first max
+        → IsTooLarge os lists first root max
     overflowed s (form.Constant b) children none = absurd none
     overflowed s (form.Literal p b) children none = absurd none
     overflowed s (form.Two b l r) children (inl full) = one_too_many xs l D.once D.are_reached full (children l (inl refl))
@@ -294,7 +292,7 @@ module _ (os : List Occurrence) (lists : List (List ℕ)) (first : Spot) (max : 
     overflowed s (form.Twice b t) children full = one_too_many xs t D.once D.are_reached full (children t (inl refl))
     overflowed s (form.Edge b t) children full = one_too_many xs t D.once D.are_reached full (children t (inl refl))
 
-    pub no_room : HasNoRoom os lists first max xs (length vs) → IsTooLarge os lists first max
+    pub no_room : HasNoRoom os lists first max xs (length vs) → IsTooLarge os lists first root max
     no_room h =
         overflowed h.spot (form_in os lists first h.spot)
         (λ t m. behind h.spot t (D.are_reached (length vs) h.spot h.at) m) h.full

@@ -2,6 +2,7 @@
 --
 --   kept_whole    == all that is kept of a formula stands
 --   starts        == the problem starts with the node that is meant
+--   root_is       == the graph begins with the node that is meant
 --   graph_made    == a draft of all nodes is the graph
 --   closure_large == a draft that overflows tells of a large closure
 use Rattle.std.proofs.Common.{ℕ, ◌≡◌, Bool, List, [], ◌∷◌, ◌++◌, length, Option, None, Some, codes, bytes_eq, refl, sym, ap, ◌∙◌, subst, append-nil}
@@ -14,17 +15,19 @@ use Rattle.ml_ctl.specs.Formula.{Formula}
 use Rattle.ml_graph.specs.Graph.{Graph}
 use Rattle.ml_graph.specs.declared.node.Node.{Node}
 use Rattle.ml_nodes.proofs.InRange.{none_twice}
-use Rattle.ml_blocks.specs.BlockGraph.{IsGraphAt}
+use Rattle.ml_nodes.specs.ClosureGraph.{IsGraphFrom}
 use Rattle.ml_blocks.specs.Closures.{HasMoreThan}
 use Rattle.ml_blocks.specs.Items.{now}
 use Rattle.ml_blocks.specs.Places as places
-use Rattle.ml_blocks.specs.Places.{Place}
-use Rattle.ml_blocks.specs.private.Forms.{start_in}
+use Rattle.ml_blocks.specs.Places.{Place, forms}
+use Rattle.ml_blocks.specs.private.Forms.{begin_in, start_in}
 use Rattle.ml_blocks.specs.private.Names.{props_onto}
 use Rattle.ml_blocks.specs.private.Numbering.{IsDraft, IsTooLarge}
 use Rattle.ml_blocks.specs.private.Occurrences.{spread, formula_here, occurrence_here, eventualities_here}
-use Rattle.ml_blocks.specs.private.Views.{Kept, Stands, Fits, place_of, start_place}
+use Rattle.ml_blocks.specs.private.Views.{Kept, Stands, Fits, begin_place, place_of, start_place}
 use Rattle.ml_blocks.specs.declared.table.Occurrence.{Occurrence}
+use Rattle.ml_blocks.specs.declared.spots.Beginning.{Beginning}
+use Rattle.ml_blocks.specs.declared.spots.Beginning.TheVariants as beginning
 use Rattle.ml_blocks.specs.declared.spots.Spot.{Spot}
 use Rattle.ml_blocks.proofs.ClosedDrafts.{numbered, made_graph, too_large}
 use Rattle.ml_blocks.proofs.KeptFormulas.{formula_is, kept_at}
@@ -39,7 +42,7 @@ whole_list : {X : Type 0} (here : ℕ → Formula → Option Bool → X) (f : Fo
     → spread here 0 f o ≡ [] ++ (spread here 0 f o ++ [])
 whole_list here f o = sym (append-nil (spread here 0 f o))
 
-module _ (f : Formula) (first : Option Bool) (sign : Bool) (max : ℕ) (names : List (List ℕ))
+module _ (f : Formula) (first : Option Bool) (sign : Bool) (from : Beginning) (max : ℕ) (names : List (List ℕ))
     (os : List Occurrence) (lists : List (List ℕ))
     (names_are : names ≡ props_onto f [])
     (os_are : os ≡ spread (occurrence_here names) 0 f first)
@@ -86,20 +89,41 @@ module _ (f : Formula) (first : Option Bool) (sign : Bool) (max : ℕ) (names : 
   begin_fits : Fits K begin
   begin_fits = fits_by first kept_whole
 
-  pub closure_large : IsTooLarge os lists begin max → HasMoreThan (places.Root start) max
-  closure_large large = too_large K start begin starts begin_fits max large
+  abbrev root : Spot
+  root = begin_in from first sign
+
+  root_by : (b : Beginning) → place_of K.formulas start (begin_in b first sign) ≡ begin_place b start
+  root_by beginning.Root = refl
+  root_by beginning.Start = starts
+
+  root_is : place_of K.formulas start root ≡ begin_place from start
+  root_is = root_by from
+
+  root_fits_by : (b : Beginning) → Fits K (begin_in b first sign)
+  root_fits_by beginning.Root = tt
+  root_fits_by beginning.Start = begin_fits
+
+  root_fits : Fits K root
+  root_fits = root_fits_by from
+
+  pub closure_large : IsTooLarge os lists begin root max → HasMoreThan (begin_place from start) max
+  closure_large large =
+      subst (λ p. HasMoreThan p max) root_is (too_large K start begin root starts begin_fits root_fits max large)
 
   module _ (xs : List Spot) (vs : List Node) (ps : List ℕ)
-      (D : IsDraft os lists begin max xs vs ps)
+      (D : IsDraft os lists begin root max xs vs ps)
       (all : length vs ≡ length xs) where
     abbrev graph : Graph
     graph = record { nodes = vs; priorities = ps; root = 0; props = names; actions = codes "_" ∷ [] }
 
-    is_made : IsGraphAt graph start
-    is_made = record {
-      is_graph = made_graph K start begin starts begin_fits max xs vs ps D all (names_differ names f names_are);
-      is_numbered = (_, numbered K start begin starts begin_fits max xs vs ps D all);
-    }
+    is_made : IsGraphFrom forms graph (begin_place from start)
+    is_made =
+        subst (IsGraphFrom forms graph) root_is (record {
+          is_graph =
+              made_graph K start begin root starts begin_fits root_fits max xs vs ps D all
+              (names_differ names f names_are);
+          is_numbered = (_, numbered K start begin root starts begin_fits root_fits max xs vs ps D all);
+        })
 
     -- the same of the lists that a program holds
     pub graph_made : (g : Graph)
@@ -108,8 +132,8 @@ module _ (f : Formula) (first : Option Bool) (sign : Bool) (max : ℕ) (names : 
         → g.root ≡ 0
         → g.props ≡ names
         → g.actions ≡ codes "_" ∷ []
-        → IsGraphAt g start
+        → IsGraphFrom forms g (begin_place from start)
     graph_made g nodes priorities root props actions =
         let same : graph ≡ g =
         sym (λ i. record { nodes = nodes i; priorities = priorities i; root = root i; props = props i; actions = actions i }) in
-        subst (λ h. IsGraphAt h start) same is_made
+        subst (λ h. IsGraphFrom forms h (begin_place from start)) same is_made

@@ -8,6 +8,8 @@
 --   IsClosure root places       == these are the nodes that are reached, each once
 --   IsNumberedBy g root places  == the nodes of g are those of the closure, numbered by their places
 --   IsGraphAt g start           == g is the graph of the closure whose root starts with this node
+--   IsBlockGraph g f negated    == g is the graph of the nodes that are reached from the block of a problem of LTL, without
+--                                  the root and its part on edges
 use Rattle.std.specs.Prelude.{Bool, true, not, List}
 use Rattle.ml_graph.specs.Graph.{Graph}
 use Rattle.ml_nodes.specs.ClosureGraph as closure
@@ -34,3 +36,7 @@ IsNumberedBy g root places = closure.IsNumberedBy forms g root places
 
 abbrev pub IsGraphAt : Graph → Place → Type 0
 IsGraphAt g start = closure.IsGraphFrom forms g (Root start)
+
+-- the graph of the nodes that are reached from the block
+abbrev pub IsBlockGraph : Graph → Formula → Bool → Type 0
+IsBlockGraph g f negated = closure.IsGraphFrom forms g (linear_start_of f negated)

@@ -6,13 +6,15 @@ ghost use Rattle.ml_ctl.specs.Problem.{HoldsAt};
 ghost use Rattle.ml_ctl.specs.Term.{formula_of};
 ghost use Rattle.ml_ltl.specs.Problem as ltl;
 ghost use Rattle.ml_blocks.specs.Agreement.{HoldsWhere};
-ghost use Rattle.ml_blocks.specs.BlockGraph.{IsGraphAt, linear_start_of, start_of};
+ghost use Rattle.ml_nodes.specs.ClosureGraph.{IsGraphFrom};
+ghost use Rattle.ml_blocks.specs.BlockGraph.{IsBlockGraph, IsGraphAt, linear_start_of, start_of};
 ghost use Rattle.ml_blocks.specs.Closures.{HasMoreThan};
-ghost use Rattle.ml_blocks.specs.Places.{Root};
-ghost use Rattle.ml_blocks.specs.private.Views.{start_place};
+ghost use Rattle.ml_blocks.specs.Places.{Root, forms};
+ghost use Rattle.ml_blocks.specs.private.Views.{begin_place, start_place};
 
 use crate::names::Names;
 use crate::numbering::{Draft, numbered};
+use crate::spots::Beginning;
 use crate::table::Table;
 use ml_base::{Action, Name, NoMemory};
 use ml_ctl::Term;
@@ -41,17 +43,19 @@ fn made(
     term: &Term,
     first: Option<bool>,
     positive: bool,
+    beginning: Beginning,
     max: u32,
 ) -> Result<ModalGraph, BlockRefusal>
     requires few { occurrences (formula_of term.now) ≤ 1000 }
-    ensures graph { IfOk result (λ g. IsGraphAt g (start_place first (formula_of term.now) positive)) }
+    ensures graph { IfOk result (λ g. IsGraphFrom forms g
+        (begin_place beginning (start_place first (formula_of term.now) positive))) }
     ensures fits { IfOk result (λ g. size g ≤ max) }
     ensures too_large { IsErrOf result BlockRefusal.ClosureTooLarge
-        → HasMoreThan (Root (start_place first (formula_of term.now) positive)) max }
+        → HasMoreThan (begin_place beginning (start_place first (formula_of term.now) positive)) max }
 {
     let names = Names::of(alloc, term)?;
     let table = Table::of(alloc, &names, first, term)?;
-    let draft = numbered(alloc, &table, first, positive, max)?;
+    let draft = numbered(alloc, &table, first, positive, beginning, max)?;
     let props = props_of(alloc, names)?;
     let actions = actions_of(alloc)?;
     let Draft {
@@ -85,7 +89,7 @@ pub fn graph_of(
     ensures fits { IfOk result (λ g. size g ≤ max) }
     ensures too_large { IsErrOf result BlockRefusal.ClosureTooLarge → HasMoreThan (Root (start_of formula.now negated)) max }
 {
-    made(alloc, formula.root(), None, !negated, max)
+    made(alloc, formula.root(), None, !negated, Beginning::Root, max)
 }
 
 /// The modal graph of a problem of LTL, if its closure has at most so many nodes: on every structure in which each state has
@@ -108,5 +112,39 @@ pub fn ltl_graph_of(
     ensures fits { IfOk result (λ g. size g ≤ max) }
     ensures too_large { IsErrOf result BlockRefusal.ClosureTooLarge → HasMoreThan (Root (linear_start_of formula.now negated)) max }
 {
-    made(alloc, formula.root(), Some(!negated), true, max)
+    made(
+        alloc,
+        formula.root(),
+        Some(!negated),
+        true,
+        Beginning::Root,
+        max,
+    )
+}
+
+/// The modal graph of the nodes that are reached from the block of a problem of LTL, which is node 0, if these are at most so
+/// many: without the root of `ltl_graph_of`, and without its part that asks each state for an edge.
+///
+/// # Errors
+/// `ClosureTooLarge` exactly where more than `max` nodes are reached from the block. `NoMemory`.
+///
+/// Cost: as that of `ltl_graph_of`.
+pub fn ltl_block_graph_of(
+    alloc: Global,
+    formula: &ml_ltl::Formula,
+    negated: bool,
+    max: u32,
+) -> Result<ModalGraph, BlockRefusal>
+    ensures graph { IfOk result (λ g. IsBlockGraph g formula.now negated) }
+    ensures fits { IfOk result (λ g. size g ≤ max) }
+    ensures too_large { IsErrOf result BlockRefusal.ClosureTooLarge → HasMoreThan (linear_start_of formula.now negated) max }
+{
+    made(
+        alloc,
+        formula.root(),
+        Some(!negated),
+        true,
+        Beginning::Start,
+        max,
+    )
 }

@@ -15,4 +15,4 @@ mod rows;
 mod spots;
 mod table;
 
-pub use graph::{graph_of, ltl_graph_of};
+pub use graph::{graph_of, ltl_block_graph_of, ltl_graph_of};

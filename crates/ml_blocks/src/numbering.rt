@@ -8,7 +8,7 @@ ghost use Rattle.ml_blocks.specs.private.Numbering as numbering;
 ghost use Rattle.ml_blocks.specs.private.Numbering.{HasNoRoom, IsDraft, IsFull, IsStep, IsTooLarge, Numbers, Overflows};
 ghost use Rattle.ml_lists.specs.Added.{IsAdded};
 
-use crate::spots::{Fixed, Form, Spot, form_of};
+use crate::spots::{Beginning, Form, Spot, begin_of, form_of};
 use crate::table::Table;
 use indexmap::IndexSet;
 use ml_base::NoMemory;
@@ -106,15 +106,15 @@ fn node_of(spots: &mut IndexSet<Spot>, form: Form, max: u32) -> Result<Node, Blo
     }
 }
 
-// the root alone
-fn started(alloc: Global, max: u32) -> Result<Draft, BlockRefusal>
+// the first node alone
+fn started(alloc: Global, root: Spot, max: u32) -> Result<Draft, BlockRefusal>
     ensures draft { IfOk result (λ d. (os : List Occurrence) (lists : List (List ℕ)) (first : Spot)
-        → IsDraft os lists first max d.spots.keys d.nodes.items d.priorities.items) }
+        → IsDraft os lists first root max d.spots.keys d.nodes.items d.priorities.items) }
     ensures too_large { IsErrOf result BlockRefusal.ClosureTooLarge
-        → (os : List Occurrence) (lists : List (List ℕ)) (first : Spot) → IsTooLarge os lists first max }
+        → (os : List Occurrence) (lists : List (List ℕ)) (first : Spot) → IsTooLarge os lists first root max }
 {
     let mut spots = IndexSet::new(alloc);
-    number(&mut spots, Spot::Fixed(Fixed::Root), max)?;
+    number(&mut spots, root, max)?;
     Ok(Draft {
         spots,
         nodes: Vec::new(alloc),
@@ -168,15 +168,19 @@ pub(crate) fn numbered(
     table: &Table,
     first: Option<bool>,
     positive: bool,
+    beginning: Beginning,
     max: u32,
 ) -> Result<Draft, BlockRefusal>
     ensures draft { IfOk result (λ d. IsDraft table.now.occurrences.items (listed.lists_of table.now.eventualities.items)
-        (forms.start_in first positive) max d.spots.keys d.nodes.items d.priorities.items) }
+        (forms.start_in first positive) (forms.begin_in beginning first positive) max d.spots.keys d.nodes.items
+        d.priorities.items) }
     ensures whole { IfOk result (λ d. length d.nodes.items ≡ length d.spots.keys) }
     ensures too_large { IsErrOf result BlockRefusal.ClosureTooLarge → IsTooLarge table.now.occurrences.items
-        (listed.lists_of table.now.eventualities.items) (forms.start_in first positive) max }
+        (listed.lists_of table.now.eventualities.items) (forms.start_in first positive)
+        (forms.begin_in beginning first positive) max }
 {
-    let mut draft = started(alloc, max)?;
+    let root = begin_of(alloc, beginning, first, positive)?;
+    let mut draft = started(alloc, root, max)?;
     while draft.nodes.len() < draft.spots.len() {
         step(alloc, table, first, positive, max, &mut draft)?;
     }

@@ -40,6 +40,13 @@ pub(crate) struct Block {
     pub focus: usize,
 }
 
+// which node a graph begins with: the root, or the one that the problem starts with
+#[derive(Clone, Copy, Debug)]
+pub(crate) enum Beginning {
+    Root,
+    Start,
+}
+
 // a node
 #[derive(Debug, Drop, PartialEq, Eq, Hash)]
 pub(crate) enum Spot {
@@ -308,6 +315,21 @@ fn start(alloc: Global, first: Option<bool>, positive: bool) -> Result<Spot, All
     match first {
         None => Ok(whole(0, positive)),
         Some(sign) => begin(alloc, Asked::now(0, sign), positive),
+    }
+}
+
+// the node that the graph begins with
+pub(crate) fn begin_of(
+    alloc: Global,
+    beginning: Beginning,
+    first: Option<bool>,
+    positive: bool,
+) -> Result<Spot, NoMemory>
+    ensures { IfOk result (λ spot. spot ≡ forms.begin_in beginning first positive) }
+{
+    match beginning {
+        Beginning::Root => Ok(Spot::Fixed(Fixed::Root)),
+        Beginning::Start => Ok(start(alloc, first, positive)?),
     }
 }
 

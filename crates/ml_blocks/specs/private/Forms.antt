@@ -6,6 +6,7 @@
 --   next_in os x, next_all os xs == what x, and all of xs, ask of the next place
 --   is_pending ms k xs   == the eventuality in focus is put off
 --   path_at first b xs k == the node of such a block
+--   begin_in from first b == the node that a graph begins with
 --   form_in os lists s   == what the node s is
 --   priority_in os lists s == its priority
 use Rattle.std.specs.Prelude.{ℕ, ◌+◌, ◌%◌, ◌==◌, ◌&&◌, Bool, true, false, not, if◌then◌else◌, List, [], ◌∷◌, find, length, get_or, Option, None, Some}
@@ -28,6 +29,8 @@ use Rattle.ml_ctl.specs.declared.term.Tense.TheVariants as tense
 use Rattle.ml_ctl.specs.declared.term.Pairing.{Pairing}
 use Rattle.ml_ctl.specs.declared.term.Pairing.TheVariants as pairing
 use Rattle.ml_ctl.specs.declared.term.Quantifier.TheVariants as quantifier
+use Rattle.ml_blocks.specs.declared.spots.Beginning.{Beginning}
+use Rattle.ml_blocks.specs.declared.spots.Beginning.TheVariants as beginning
 use Rattle.ml_blocks.specs.declared.spots.Block.{Block}
 use Rattle.ml_blocks.specs.declared.spots.Fixed.{Fixed}
 use Rattle.ml_blocks.specs.declared.spots.Fixed.TheVariants as fixed
@@ -187,6 +190,11 @@ state_form os part.Neither n b = form.Two true (whole (entry_at os n).left false
 abbrev pub start_in : Option Bool → Bool → Spot
 start_in None b = whole 0 b
 start_in (Some c) b = block_at (now_at 0 c) b
+
+-- the node that a graph begins with: the root, or the one that the problem starts with
+abbrev pub begin_in : Beginning → Option Bool → Bool → Spot
+begin_in beginning.Root first b = spot.Fixed fixed.Root
+begin_in beginning.Start first b = start_in first b
 
 abbrev pub fixed_form : Spot → Fixed → Form
 fixed_form start fixed.Root = form.Two true start (spot.Fixed fixed.Total)

@@ -5,8 +5,9 @@
 --   IsFull max xs x       == x would be one node too many
 --   Overflows max xs f    == so would a node to which f leads
 --   HasFormIn xs v f      == v is the node of f, where xs are the nodes by their numbers
---   ReachedIn os lists first s == the node s is reached from the root, where the problem starts with `first`
---   IsDraft os lists first max xs vs ps == xs are nodes by their numbers, and vs and ps the first nodes and priorities, so far
+--   ReachedIn os lists first root s == the node s is reached from `root`, where the problem starts with `first`
+--   IsDraft os lists first root max xs vs ps == xs are nodes by their numbers, `root` the first, and vs and ps the first nodes
+--                           and priorities, so far
 --   IsStep                == one node more was made
 use Rattle.std.specs.Prelude.{ℕ, ◌≡◌, ◌≤◌, ◌<◌, ◌⊎◌, Bool, if◌then◌else◌, List, [], ◌∷◌, ◌++◌, Some, length, map, get_or, slice_get}
 use Rattle.std.specs.List.{flat_map}
@@ -18,11 +19,9 @@ use Rattle.ml_graph.specs.declared.node.Node.TheVariants as node
 use Rattle.ml_blocks.specs.BlockGraph.{row_of}
 use Rattle.ml_blocks.specs.private.Forms.{form_in, priority_in}
 use Rattle.ml_blocks.specs.declared.table.Occurrence.{Occurrence}
-use Rattle.ml_blocks.specs.declared.spots.Fixed.TheVariants as fixed
 use Rattle.ml_blocks.specs.declared.spots.Form.{Form}
 use Rattle.ml_blocks.specs.declared.spots.Form.TheVariants as form
 use Rattle.ml_blocks.specs.declared.spots.Spot.{Spot}
-use Rattle.ml_blocks.specs.declared.spots.Spot.TheVariants as spot
 
 abbrev pub constant_of : Bool → Node
 constant_of b = if b then node.True else node.False
@@ -85,12 +84,12 @@ children_in (form.Two b l r) = l ∷ r ∷ []
 children_in (form.Twice b s) = s ∷ []
 children_in (form.Edge b s) = s ∷ []
 
-pub data ReachedIn (os : List Occurrence) (lists : List (List ℕ)) (first : Spot) : Spot → Type 0 where
-  at_root : ReachedIn os lists first (spot.Fixed fixed.Root)
+pub data ReachedIn (os : List Occurrence) (lists : List (List ℕ)) (first root : Spot) : Spot → Type 0 where
+  at_root : ReachedIn os lists first root root
   behind : (s t : Spot)
-      → ReachedIn os lists first s
+      → ReachedIn os lists first root s
       → IsMember t (children_in (form_in os lists first s))
-      → ReachedIn os lists first t
+      → ReachedIn os lists first root t
 
 pub record IsMade (os : List Occurrence) (lists : List (List ℕ)) (first : Spot)
     (xs : List Spot) (vs : List Node) (ps : List ℕ) (n : ℕ) : Type 0 where
@@ -99,11 +98,11 @@ pub record IsMade (os : List Occurrence) (lists : List (List ℕ)) (first : Spot
   pub form : HasFormIn xs (get_or vs n node.True) (form_in os lists first spot)
   pub priority : get_or ps n 0 ≡ priority_in os lists spot
 
-pub record IsDraft (os : List Occurrence) (lists : List (List ℕ)) (first : Spot) (max : ℕ)
+pub record IsDraft (os : List Occurrence) (lists : List (List ℕ)) (first root : Spot) (max : ℕ)
     (xs : List Spot) (vs : List Node) (ps : List ℕ) : Type 0 where
   pub once : HasOnePlace xs
-  pub root : slice_get xs 0 ≡ Some (spot.Fixed fixed.Root)
-  pub are_reached : (n : ℕ) (s : Spot) → slice_get xs n ≡ Some s → ReachedIn os lists first s
+  pub begins : slice_get xs 0 ≡ Some root
+  pub are_reached : (n : ℕ) (s : Spot) → slice_get xs n ≡ Some s → ReachedIn os lists first root s
   pub few : length xs ≤ max
   pub short : length vs ≤ length xs
   pub as_many : length ps ≡ length vs
@@ -129,8 +128,8 @@ pub record HasNoRoom (os : List Occurrence) (lists : List (List ℕ)) (first : S
   pub full : Overflows max xs (form_in os lists first spot)
 
 -- some nodes that are reached, each once, are more
-pub record IsTooLarge (os : List Occurrence) (lists : List (List ℕ)) (first : Spot) (max : ℕ) : Type 0 where
+pub record IsTooLarge (os : List Occurrence) (lists : List (List ℕ)) (first root : Spot) (max : ℕ) : Type 0 where
   pub spots : List Spot
   pub once : HasOnePlace spots
-  pub are_reached : (n : ℕ) (s : Spot) → slice_get spots n ≡ Some s → ReachedIn os lists first s
+  pub are_reached : (n : ℕ) (s : Spot) → slice_get spots n ≡ Some s → ReachedIn os lists first root s
   pub more : max < length spots

@@ -11,6 +11,7 @@
 --   IsKept K n           == the formula at n does
 --   Fits K s             == so do all formulas of the node s
 --   start_place first f b == the node that a problem of f starts with
+--   begin_place from start == the node that a graph begins with, where the problem starts with the node `start`
 use Rattle.std.specs.Prelude.{ℕ, ◌≡◌, ◌<◌, ◌+◌, Bool, true, false, List, [], ◌∷◌, Option, None, Some, map, get_or, slice_get, length}
 use Rattle.std.specs.List.{AllByRecursion, list_any}
 use Rattle.std.specs.Str.{bytes_eq}
@@ -29,6 +30,8 @@ use Rattle.ml_blocks.specs.declared.items.Few.TheVariants as few
 use Rattle.ml_blocks.specs.declared.rows.Row.{Row}
 use Rattle.ml_blocks.specs.declared.rows.Row.TheVariants as row
 use Rattle.ml_blocks.specs.declared.table.Occurrence.{Occurrence}
+use Rattle.ml_blocks.specs.declared.spots.Beginning.{Beginning}
+use Rattle.ml_blocks.specs.declared.spots.Beginning.TheVariants as beginning
 use Rattle.ml_blocks.specs.declared.spots.Block.{Block}
 use Rattle.ml_blocks.specs.declared.spots.Fixed.TheVariants as fixed
 use Rattle.ml_blocks.specs.declared.spots.Form.{Form}
@@ -172,3 +175,8 @@ FormFits K (form.Edge b s) = Fits K s
 abbrev pub start_place : Option Bool → Formula → Bool → Place
 start_place None f b = node.Holding 0 f b
 start_place (Some c) f b = node.block_of (plain.now 0 f c) b
+
+-- the node that a graph begins with: the root, or the one that the problem starts with
+abbrev pub begin_place : Beginning → (start : Place) → Place
+begin_place beginning.Root start = node.Root start
+begin_place beginning.Start start = start

@@ -7,9 +7,10 @@ use Rattle.ml_text.proofs.Names.{few_added}
 use Rattle.ml_ctl.specs.Formula.{names, occurrences}
 use Rattle.ml_ctl.specs.Term.{formula_of}
 use Rattle.ml_ctl.proofs.Counting.{few_names}
-use Rattle.ml_blocks.specs.BlockGraph.{IsGraphAt}
+use Rattle.ml_nodes.specs.ClosureGraph.{IsGraphFrom}
+use Rattle.ml_blocks.specs.Places.{forms}
 use Rattle.ml_blocks.specs.private.Occurrences.{lists_of}
-use Rattle.ml_blocks.specs.private.Views.{start_place}
+use Rattle.ml_blocks.specs.private.Views.{begin_place, start_place}
 use Rattle.ml_blocks.proofs.GraphMade.{closure_large, graph_made}
 use Rattle.ml_blocks.proofs.graph.made.Goals as goal
 
@@ -21,7 +22,7 @@ of-requires-2-clause-names c =
 pub returns-in_err-draft-clause-too_large : goal.returns-in_err-draft-clause-too_large
 returns-in_err-draft-clause-too_large c = λ e.
     let table = c.in_ok-table.table in
-    closure_large (formula_of c.args.term.now) c.args.first c.args.positive c.args.max c.in_ok-names.names.props.keys
+    closure_large (formula_of c.args.term.now) c.args.first c.args.positive c.args.beginning c.args.max c.in_ok-names.names.props.keys
     table.occurrences.items (lists_of table.eventualities.items) c.in_ok-names.ensures c.in_ok-table.ensures.occurrences
     c.in_ok-table.ensures.eventualities (c.in_err-draft.ensures.too_large (search rules))
 
@@ -34,7 +35,7 @@ unreachable-requires c =
     let draft = c.in_ok-draft.draft in
     let g = graph_of draft.nodes draft.priorities 0 c.in_ok-props.props c.in_ok-actions.actions in
     let is =
-    graph_made (formula_of c.args.term.now) c.args.first c.args.positive c.args.max c.in_ok-names.names.props.keys
+    graph_made (formula_of c.args.term.now) c.args.first c.args.positive c.args.beginning c.args.max c.in_ok-names.names.props.keys
     table.occurrences.items (lists_of table.eventualities.items) c.in_ok-names.ensures c.in_ok-table.ensures.occurrences
     c.in_ok-table.ensures.eventualities draft.spots.keys draft.nodes.items draft.priorities.items
     c.in_ok-draft.ensures.draft c.in_ok-draft.ensures.whole g refl refl refl c.in_ok-props.ensures
@@ -49,9 +50,10 @@ returns-clause-graph c =
     let draft = c.in_ok-draft.draft in
     let g = graph_of draft.nodes draft.priorities 0 c.in_ok-props.props c.in_ok-actions.actions in
     let is =
-    graph_made f c.args.first c.args.positive c.args.max c.in_ok-names.names.props.keys table.occurrences.items
+    graph_made f c.args.first c.args.positive c.args.beginning c.args.max c.in_ok-names.names.props.keys table.occurrences.items
     (lists_of table.eventualities.items) c.in_ok-names.ensures c.in_ok-table.ensures.occurrences
     c.in_ok-table.ensures.eventualities draft.spots.keys draft.nodes.items draft.priorities.items
     c.in_ok-draft.ensures.draft c.in_ok-draft.ensures.whole g refl refl refl c.in_ok-props.ensures
     c.in_ok-actions.ensures in
-    subst (λ h. IsGraphAt h (start_place c.args.first f c.args.positive)) (sym c.in-Ok.ensures.ok) is
+    subst (λ h. IsGraphFrom forms h (begin_place c.args.beginning (start_place c.args.first f c.args.positive)))
+    (sym c.in-Ok.ensures.ok) is
