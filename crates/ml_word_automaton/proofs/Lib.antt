@@ -16,5 +16,9 @@ pub mod Acceptance
 pub mod SameLetters
 -- one automaton, and some automaton
 pub mod BlockGraphs
+-- states of a graph, marked
+pub mod MarkedStates
+-- states of a graph, numbered
+pub mod NumberedStates
 -- the automaton of F p, by hand
 pub mod WorkedAutomaton

@@ -20,17 +20,14 @@ use Rattle.std.specs.Prelude.{ℕ, ◌≡◌, ◌⊎◌, ◌==◌, Bool, true}
 use Rattle.ml_graph.specs.Graph.{Graph, node_at, priority_at, prop_at}
 use Rattle.ml_graph.specs.declared.node.Node.{Node}
 use Rattle.ml_graph.specs.declared.node.Node.TheVariants as node
-use Rattle.ml_nodes.specs.ClosureGraph as closure
 use Rattle.ml_ctl.specs.Formula.{Formula}
 use Rattle.ml_blocks.specs.BlockGraph.{linear_start_of}
-use Rattle.ml_blocks.specs.Places.{Place, forms}
+pub use Rattle.ml_blocks.specs.BlockGraph.{IsBlockGraph}
+use Rattle.ml_blocks.specs.Places.{Place}
 use Rattle.ml_word_automaton.specs.Words.{Letter, has}
 
 abbrev pub start_block : Formula → Bool → Place
 start_block = linear_start_of
-
-abbrev pub IsBlockGraph : Graph → Formula → Bool → Type 0
-IsBlockGraph g f negated = closure.IsGraphFrom forms g (start_block f negated)
 
 -- ---- one letter
 

@@ -4,10 +4,19 @@
 // place. The nodes of the problem's block, as `ml_blocks` has them, make a Büchi automaton: at each place a block is
 // decomposed, one way or another, until only what is asked of the next place is left.
 //
-// Begin with `specs/Words.antt` (when a word satisfies a formula) and `specs/WordAutomaton.antt` (how letters lead); the module
-// `laws` says what the automaton accepts. There are definitions and a theorem here, and no code.
+// The calls to know:
+// - `automaton_of` gives the automaton of a problem, with its states numbered.
+// - `letter_at` gives its transitions where these propositions are true.
 //
-// Below stand `ml_blocks`, for the graph, and `ml_trace`, for words and runs.
+// Begin with `specs/Words.antt` (when a word satisfies a formula), `specs/WordAutomaton.antt` (how letters lead) and
+// `specs/Letters.antt` (states and transitions by numbers); the module `laws` says what the automaton accepts.
+//
+// Below stand `ml_blocks`, for the graph, and `ml_trace`, for words, runs and letters.
 #![tactic(auto)]
 
+mod automaton;
 pub mod laws;
+mod letters;
+
+pub use automaton::{WordAutomaton, automaton_of};
+pub use letters::letter_at;
