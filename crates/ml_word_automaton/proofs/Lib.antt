@@ -20,5 +20,11 @@ pub mod BlockGraphs
 pub mod MarkedStates
 -- states of a graph, numbered
 pub mod NumberedStates
+-- walks from states, and the transitions with which they end
+pub mod LetterWalks
+-- walks by the numbers of propositions
+pub mod LettersByNumbers
+-- transitions by the numbers of states
+pub mod HeldTransitions
 -- the automaton of F p, by hand
 pub mod WorkedAutomaton

@@ -1,6 +1,6 @@
 -- States of a graph, marked node by node.
 --
---   inside             == a node that isn't True, as nodes past the end are, is one of the graph
+--   inside, goes_inside == a node that isn't True, as nodes past the end are, or that goes on, is one of the graph
 --   marked_one         == one mark more
 --   begun              == node 0 is marked
 --   marked_more        == what one node more makes states is marked
@@ -20,6 +20,10 @@ pub inside : (g : Graph) (n : ℕ) → (node_at g n ≡ node.True → ⊥) → n
 inside g n other =
     ⊎_elim (λ (low : n < size g). low) (λ (high : size g ≤ n). absurd (other (get_or_past g.nodes n node.True high)))
     (cases_lt n (size g))
+
+-- so is one that goes on
+pub goes_inside : (g : Graph) (k n : ℕ) → GoesOn (node_at g k) n → k < size g
+goes_inside g k n goes = inside g k (λ e. subst (λ v. GoesOn v n) e goes)
 
 -- ---- marks
 
@@ -109,18 +113,16 @@ states_made : (g : Graph) (n : ℕ) → IsState g n → IsMadeBelow (size g) g n
 states_made g _ begins = inl refl
 states_made g n (behind d a _ e) =
     inr (d, inside g d (λ t. let wrong = sym e ∙ t in cc), subst (λ v. Makes g v n) (sym e) refl)
-states_made g n (is_true k _ goes t) = let both = by_node (node_at g k) refl goes in inr (k, both.0, both.1)
+states_made g n (is_true k _ goes t) = inr (k, goes_inside g k n goes, by_node (node_at g k) goes)
   where
-    by_node : (v : Node) → node_at g k ≡ v → GoesOn v n → (k < size g) × Makes g (node_at g k) n
-    by_node (node.And l r) e goes =
-        (inside g k (λ t. let wrong = sym e ∙ t in cc), subst (λ v. Makes g v n) (sym e) (goes, t))
-    by_node (node.Or l r) e goes =
-        (inside g k (λ t. let wrong = sym e ∙ t in cc), subst (λ v. Makes g v n) (sym e) (goes, t))
-    by_node node.True e goes = absurd goes
-    by_node node.False e goes = absurd goes
-    by_node (node.Lit p b) e goes = absurd goes
-    by_node (node.Diamond a q) e goes = absurd goes
-    by_node (node.Square a q) e goes = absurd goes
+    by_node : (v : Node) → GoesOn v n → Makes g v n
+    by_node (node.And l r) goes = (goes, t)
+    by_node (node.Or l r) goes = (goes, t)
+    by_node node.True goes = absurd goes
+    by_node node.False goes = absurd goes
+    by_node (node.Lit p b) goes = absurd goes
+    by_node (node.Diamond a q) goes = absurd goes
+    by_node (node.Square a q) goes = absurd goes
 
 pub all_marked : (g : Graph) (marks : List Bool) (k : ℕ)
     → length marks ≡ size g
