@@ -1,22 +1,26 @@
 -- A problem has an automaton, and one at most.
 --
 --   reached_from_root == what is reached from the block is reached from the root of the whole problem
---   one_graph, some_graph == the laws
+--   one_graph, some_graph, one_size == the laws
 use Rattle.std.proofs.Common.{ℕ, ◌≤◌, ◌⊎◌, inl, inr, Bool, refl}
 use Rattle.ml_graph.specs.Graph.{Graph, size}
 use Rattle.ml_nodes.specs.ClosureGraph as closure
 use Rattle.ml_nodes.specs.ClosureGraph.{at_root, behind}
 use Rattle.ml_nodes.proofs.OneNumbering as numbering
+use Rattle.ml_nodes.proofs.OneSize as sizes
 use Rattle.ml_nodes.proofs.SomeGraph as graphs
 use Rattle.ml_ctl.specs.Formula.{Formula}
 use Rattle.ml_blocks.specs.Places.{Place, Root, forms}
 use Rattle.ml_blocks.proofs.FiniteClosures.{closures_are_finite}
 use Rattle.ml_blocks.proofs.PlaceEquality.{same_place}
-use Rattle.ml_word_automaton.specs.Laws.{OneGraph, SomeGraph}
+use Rattle.ml_word_automaton.specs.Laws.{OneGraph, OneSize, SomeGraph}
 use Rattle.ml_word_automaton.specs.WordAutomaton.{IsBlockGraph, start_block}
 
 pub one_graph : OneGraph
 one_graph f negated g h x y = numbering.one_graph forms (start_block f negated) g h x y
+
+pub one_size : OneSize
+one_size f negated g n is = sizes.one_size forms same_place (start_block f negated) g n is
 
 reached_from_root : (start p : Place) → closure.IsReached forms start p → closure.IsReached forms (Root start) p
 reached_from_root start _ at_root = behind (Root start) start at_root (inl refl)

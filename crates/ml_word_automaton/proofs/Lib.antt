@@ -26,5 +26,9 @@ pub mod LetterWalks
 pub mod LettersByNumbers
 -- transitions by the numbers of states
 pub mod HeldTransitions
+-- runs carried over to another automaton
+pub mod CarriedRuns
+-- what rows of letters accept
+pub mod RowsAccept
 -- the automaton of F p, by hand
 pub mod WorkedAutomaton

@@ -6,3 +6,6 @@ returns-clause-one c = graphs.one_graph
 
 pub returns-clause-some : goal.returns-clause-some
 returns-clause-some c = graphs.some_graph
+
+pub returns-clause-size : goal.returns-clause-size
+returns-clause-size c = graphs.one_size
