@@ -216,13 +216,17 @@ module _ (a : Automaton) (numbers : List ℕ) (H : IsHeld a.graph a.states numbe
                 → IsEnd a.graph n (node_of a t.to) t.accepting
                 → IsMember t ts
             given n walks end =
-                (those t).1 (t.from, is.from_state, record {
-                  at = n;
-                  comes = walks_back a.graph present ok letter are (node_of a t.from) n (node_low t.from is.from_state) walks;
-                  is_one =
-                      subst (λ k. IsMember (transition t.from k t.accepting) (moves a.graph numbers t.from n))
-                      (number_is t.to is.to_state) (end_moves a.graph numbers t.from n (node_of a t.to) t.accepting end);
-                })
+                (those t).1 (
+                  t.from,
+                  is.from_state,
+                  record {
+                    at = n;
+                    comes = walks_back a.graph present ok letter are (node_of a t.from) n (node_low t.from is.from_state) walks;
+                    is_one =
+                        subst (λ k. IsMember (transition t.from k t.accepting) (moves a.graph numbers t.from n))
+                        (number_is t.to is.to_state) (end_moves a.graph numbers t.from n (node_of a t.to) t.accepting end);
+                  },
+                )
 
             by_lead : Leads a.graph letter (node_of a t.from) (node_of a t.to) t.accepting → IsMember t ts
             by_lead (inl on) =

@@ -85,7 +85,7 @@ module _ (next : ℕ → List ℕ) (ends : ℕ → List Transition) (p s : ℕ) 
     transitions = λ t. (
       (λ m. inl m),
       (λ both. ⊎_elim (λ (m : IsMember t old). m)
-      (λ (some : (n : ℕ) × (last before n ≡ Some p) × IsMember t (ends n)). absurd (new some.0 some.1)) both),
+          (λ (some : (n : ℕ) × (last before n ≡ Some p) × IsMember t (ends n)). absurd (new some.0 some.1)) both),
     );
   }
     where

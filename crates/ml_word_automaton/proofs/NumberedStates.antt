@@ -56,8 +56,8 @@ module _ (k : ℕ) (marks : List Bool) (states numbers : List ℕ) (N : AreNumbe
     ascend = subst IsAscending (sym (append-nil states)) N.ascend;
     members = λ n. (
       (λ m. let old = (N.members n).0 (subst (IsMember n) (append-nil states) m) in
-      let low = old.0 in
-      (omega (arith, low), old.1)),
+          let low = old.0 in
+          (omega (arith, low), old.1)),
       (λ both. member-append_left n states [] ((N.members n).1 (lower n both.0 both.1, both.1))),
     );
     as_long = long_more;
