@@ -1,0 +1,56 @@
+// The rules of the text of a task.
+ghost use Rattle.std.specs.Prelude.{◌≡◌};
+ghost use Rattle.ml_task.specs.TaskText.{rule_number};
+
+use ml_base::NoMemory;
+
+/// A rule that a line of a task keeps.
+#[derive(Clone, Copy, Debug, PartialEq, Eq)]
+pub enum TaskRule {
+    /// The line is there and of the kind that stands there; nothing follows the third.
+    OfKind,
+    /// Each word is a proposition of LTL of at most 64 bytes.
+    Named,
+    /// No name stood before.
+    New,
+    /// No more than eight names stood up to here.
+    Few,
+    /// The formula's text is parsed.
+    Parses,
+    /// The formula speaks of the inputs and outputs alone.
+    Known,
+}
+
+impl TaskRule {
+    /// The number that a refusal has of this rule, from 41 to 46.
+    pub fn number(self) -> u32
+        ensures { result ≡ rule_number self }
+    {
+        match self {
+            TaskRule::OfKind => 41,
+            TaskRule::Named => 42,
+            TaskRule::New => 43,
+            TaskRule::Few => 44,
+            TaskRule::Parses => 45,
+            TaskRule::Known => 46,
+        }
+    }
+}
+
+// Why a line was refused.
+#[derive(Clone, Copy, Debug, PartialEq, Eq)]
+pub(crate) enum LineRefusal {
+    /// The lowest rule that it breaks.
+    Breaks(TaskRule),
+    NoMemory,
+}
+
+impl From<NoMemory> for LineRefusal {
+    ghost use Rattle.ml_task.specs.declared.task_rule.LineRefusal.TheVariants as refusal;
+
+    ghost from_gives = { λ _ e. e ≡ refusal.NoMemory };
+
+    fn from(_: NoMemory) -> LineRefusal {
+        LineRefusal::NoMemory
+    }
+}
