@@ -1,0 +1,23 @@
+use Rattle.std.proofs.Common.{◌≡◌, ◌++◌, ◌∙◌, ◌↔◌, ◌⊎◌, [], ap, get_or, subst, IsTrue}
+use Rattle.std.proofs.lemmas.List.{get_or_default}
+use Rattle.ml_graph.specs.Graph.{prop_at}
+use Rattle.ml_lists.specs.Member.{IsMember}
+use Rattle.ml_task.specs.NameSets.{members}
+use Rattle.ml_word_automaton.specs.Words.{has}
+use Rattle.ml_realize.proofs.PresentNames.{one_more}
+use Rattle.ml_realize.proofs.letters.present.Goals as goal
+
+pub loop-prop-preserved : goal.loop-prop-preserved
+loop-prop-preserved c =
+    let letter = members (c.args.inputs.now ++ c.args.outputs.now) c.args.valuation in
+    let n = c.loop-prop.prop in
+    let names = c.props-name-items in
+    let here : c.name-item.result ≡ prop_at c.args.graph.now n =
+    c.name-item.is
+    ∙ get_or_default names.result.now n c.name-item.result [] c.loop-prop-test.true
+    ∙ ap (λ props. get_or props n []) names.ensures.value in
+    one_more c.args.graph.now letter n c.loop-prop.set c.add_if.new.set c.is_true.result
+    c.loop-prop.invariant (c.is_true.ensures ∙ ap (has letter) here)
+    (λ p.
+    subst (λ k. IsMember p c.add_if.new.set ↔ (IsMember p c.loop-prop.set ⊎ ((p ≡ k) × IsTrue c.is_true.result)))
+    c.in-Ok.ensures.1 (c.in_ok-add_if.ensures p))

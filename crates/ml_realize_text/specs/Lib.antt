@@ -1,0 +1,4 @@
+-- the documents of realizability
+pub mod RealizeText
+-- what only private contracts cite
+pub mod private
