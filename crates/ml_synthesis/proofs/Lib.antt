@@ -1,0 +1,34 @@
+-- runs of a deterministic automaton along a word
+pub mod Runs
+-- machines against environments
+pub mod CommonWords
+-- words as plays of the game
+pub mod WordPlays
+-- the game of an arena
+pub mod Arenas
+-- equality of arrivals
+pub mod Arrivals
+-- arrivals that are met from a state with inputs
+pub mod Answered
+-- a game that is made vertex by vertex
+pub mod Drafts
+-- states that are numbered as they are met
+pub mod RowsMet
+-- where the choices of a solution lead
+pub mod Choices
+-- the steps of a machine, as they are made
+pub mod MachineSteps
+-- what an environment plays, as it is made
+pub mod EnvironmentSteps
+-- words along lassos of states that stand for states of an automaton
+pub mod AlongWords
+-- the machine of a winning strategy is right
+pub mod MadeMachines
+-- the environment of a winning strategy defeats all machines
+pub mod MadeEnvironments
+-- the positions of the game, and its vertices
+pub mod Positions
+-- automata over valuations
+pub mod Automata
+-- from the solution of the game to its outcome
+pub mod Outcomes

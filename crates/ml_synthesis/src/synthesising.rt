@@ -1,0 +1,86 @@
+// A machine or an environment, from a deterministic parity automaton.
+ghost use Rattle.std.specs.Prelude.{◌≡◌, ◌+◌, ◌^◌, ◌<◌, ◌≤◌, length, IfOk, OnOk, IsErrOf};
+ghost use Rattle.ml_parity.specs.Solution.{winner_at};
+ghost use Rattle.ml_determinise.specs.Numbering.{automaton_of, rows_of};
+ghost use Rattle.ml_synthesis.specs.Game.{HasMorePositions};
+ghost use Rattle.ml_synthesis.specs.Synthesis.{IsAccessible, IsAutomaton, IsOutcome};
+ghost use Rattle.ml_synthesis.specs.declared.refusals.SynthesisRefusal.TheVariants as refusal;
+
+use crate::arena::{Arena, Automaton};
+use crate::environment_making::environment_of;
+use crate::machine_making::machine_of;
+use crate::outcome::Outcome;
+use crate::refusals::SynthesisRefusal;
+use ml_determinise::DetMove;
+use ml_parity::{Player, Solution, solve};
+use std::alloc::Global;
+
+/// How many sets there are of so many inputs, or outputs.
+fn sets_of(signals: u32) -> u32
+    requires { signals ≤ 8 }
+    ensures sets { result ≡ 2 ^ signals }
+    ensures few { result ≤ 256 }
+{
+    1 << signals
+}
+
+/// Who wins a vertex.
+fn winner(solution: &Solution, vertex: usize) -> Player
+    requires { vertex < length solution.now.winner }
+    ensures { result ≡ winner_at solution.now.winner vertex }
+{
+    solution.winner[vertex]
+}
+
+/// A machine none of whose words a deterministic parity automaton accepts, or an environment all of whose words it accepts.
+///
+/// `moves` are the moves of the automaton, state by state, one for each valuation: that of the set of inputs `I` and the set
+/// of outputs `O` is `I + 2^inputs * O`. It begins in state 0, each state is reached from there, and it accepts a word if the
+/// lowest priority that its run meets again and again is odd. There are at most 8 inputs and outputs together. `neutral` is
+/// even, and no priority is greater.
+///
+/// Back comes the machine, or the environment, of a positional strategy in the game in which the environment chooses the inputs
+/// and the machine the outputs. A machine's states are the automaton's states that its steps reach, an environment's the states
+/// with the priorities with which it reaches them; both are numbered breadth first, sets ascending.
+///
+/// # Errors
+/// `Passed` exactly where the game has more than `limit` positions: the states with the priorities with which they are
+/// reached, and each state with each set of inputs; `NoMemory`.
+///
+/// Cost: linear in the moves, and that of `ml_parity::solve` on this game.
+/// Source: Pnueli and Rosner, On the synthesis of a reactive module (1989).
+pub fn synthesise(
+    alloc: Global,
+    moves: &[Vec<DetMove>],
+    inputs: u32,
+    outputs: u32,
+    neutral: u32,
+    limit: u32,
+) -> Result<Outcome, SynthesisRefusal>
+    requires few { inputs + outputs ≤ 8 }
+    requires automaton { IsAutomaton inputs outputs neutral (rows_of moves.now) }
+    requires accessible { IsAccessible inputs outputs (rows_of moves.now) }
+    ensures outcome { IfOk result (IsOutcome inputs outputs neutral (rows_of moves.now)) }
+    ensures not_passed { OnOk result (¬ (HasMorePositions (automaton_of (rows_of moves.now)) 0 neutral inputs outputs limit)) }
+    ensures passed { IsErrOf result refusal.Passed
+        → HasMorePositions (automaton_of (rows_of moves.now)) 0 neutral inputs outputs limit }
+{
+    if moves.len() > limit as usize {
+        return Err(SynthesisRefusal::Passed);
+    }
+    let automaton = Automaton {
+        moves,
+        input_sets: sets_of(inputs),
+        output_sets: sets_of(outputs),
+        neutral,
+    };
+    let arena = Arena::of(alloc, &automaton)?;
+    if arena.game.size() > limit as usize {
+        return Err(SynthesisRefusal::Passed);
+    }
+    let solution = solve(alloc, &arena.game)?;
+    match winner(&solution, arena.base) {
+        Player::Even => Ok(Outcome::Made(machine_of(alloc, &arena, &solution)?)),
+        Player::Odd => Ok(Outcome::Defeated(environment_of(alloc, &arena, &solution)?)),
+    }
+}
