@@ -83,13 +83,13 @@ module _ (states : ℕ) (row : List (List Transition)) (q : ℕ) (moves : List (
   abbrev InRow : ℕ → Type 0
   InRow i = i < length row
 
-  read : (v i : ℕ) (h : List (Item ℕ))
+  pub read : (v i : ℕ) (h : List (Item ℕ))
       → HasNumber h v
       → InRow i
       → move_at moves v i ≡ move_along states hs h (letter_at row i)
   read v i h at low = ap (λ ms. move_at ms v i) m.moves_are ∙ move_is states row hs v i h at low
 
-  next_has : (h : List (Item ℕ)) (v i : ℕ)
+  pub next_has : (h : List (Item ℕ)) (v i : ℕ)
       → HasNumber h v
       → InRow i
       → HasNumber (stepped h (letter_at row i)) ((automaton_of moves).next v i)

@@ -2,3 +2,7 @@
 pub mod PresentNames
 -- the game over one automaton in that over another one
 pub mod GameImages
+-- the game over histories, and over their numbers
+pub mod HistoryGame
+-- what is made is right
+pub mod RightOutcomes

@@ -11,8 +11,7 @@ ghost use Rattle.ml_realize.specs.declared.refusals.RealizeRefusal.TheVariants a
 
 use crate::letters::letters;
 use crate::refusals::{RealizeRefusal, of_automaton};
-use ml_base::NoMemory;
-use ml_determinise::{DetMove, DetRefusal, determinise};
+use ml_determinise::{DetRefusal, determinise};
 use ml_synthesis::{Outcome, SynthesisRefusal, synthesise};
 use ml_task::Task;
 use ml_trace::Letter;
@@ -81,28 +80,17 @@ fn play(
     ensures passed { IsErrOf result refusal.Passed → Passes states row.now inputs outputs limit }
     ensures not_large { ¬ (IsErrOf result refusal.ClosureTooLarge) }
 {
-    // at each history there are a position of the environment, and one of the machine for each set of inputs
-    let most = limit / (1 + (1 << inputs));
+    // each history has a position for each set of inputs
+    let most = limit / (1 << inputs);
     if most == 0 {
         return Err(RealizeRefusal::Passed);
     }
-    match determinise(alloc, states, 0, row, most) {
-        Ok(moves) => over_moves(alloc, states, &moves, inputs, outputs, limit),
-        Err(DetRefusal::Passed) => Err(RealizeRefusal::Passed),
-        Err(DetRefusal::NoMemory) => Err(RealizeRefusal::NoMemory),
-    }
-}
-
-// the game over the moves of the histories
-fn over_moves(
-    alloc: Global,
-    states: u32,
-    moves: &[Vec<DetMove>],
-    inputs: u32,
-    outputs: u32,
-    limit: u32,
-) -> Result<Outcome, RealizeRefusal> {
-    match synthesise(alloc, moves, inputs, outputs, 2 * states + 2, limit) {
+    let moves = match determinise(alloc, states, 0, row, most) {
+        Ok(moves) => moves,
+        Err(DetRefusal::Passed) => return Err(RealizeRefusal::Passed),
+        Err(DetRefusal::NoMemory) => return Err(RealizeRefusal::NoMemory),
+    };
+    match synthesise(alloc, &moves, inputs, outputs, 2 * states + 2, limit) {
         Ok(outcome) => Ok(outcome),
         Err(SynthesisRefusal::Passed) => Err(RealizeRefusal::Passed),
         Err(SynthesisRefusal::NoMemory) => Err(RealizeRefusal::NoMemory),

@@ -37,23 +37,23 @@ abbrev pub listed : {X : Type 0} → (ℕ → X) → ℕ → List X
 listed f zero = []
 listed f (suc k) = f k ∷ listed f k
 
-length-listed : {X : Type 0} (f : ℕ → X) (k : ℕ) → length (listed f k) ≡ k
+pub length-listed : {X : Type 0} (f : ℕ → X) (k : ℕ) → length (listed f k) ≡ k
 length-listed f zero = refl
 length-listed f (suc k) = ap suc (length-listed f k)
 
-record IsValue {X : Type 0} (f : ℕ → X) (k : ℕ) (x : X) : Type 0 where
-  place : ℕ
-  low : place < k
-  is : x ≡ f place
+pub record IsValue {X : Type 0} (f : ℕ → X) (k : ℕ) (x : X) : Type 0 where
+  pub place : ℕ
+  pub low : place < k
+  pub is : x ≡ f place
 
-listed-member : {X : Type 0} (f : ℕ → X) (k : ℕ) (x : X) → IsMember x (listed f k) → IsValue f k x
+pub listed-member : {X : Type 0} (f : ℕ → X) (k : ℕ) (x : X) → IsMember x (listed f k) → IsValue f k x
 listed-member f zero x none = absurd none
 listed-member f (suc k) x (inl same) = record { place = k; low = omega arith; is = same }
 listed-member f (suc k) x (inr later) =
     let v = listed-member f k x later in
     record { place = v.place; low = (let low = v.low in omega (arith, low)); is = v.is }
 
-listed-apart : {X : Type 0} (f : ℕ → X) (k : ℕ)
+pub listed-apart : {X : Type 0} (f : ℕ → X) (k : ℕ)
     → ((i j : ℕ) → i < k → j < k → f i ≡ f j → i ≡ j)
     → AreApart (listed f k)
 listed-apart f zero one = tt
