@@ -218,3 +218,22 @@ module _ (n m neutral : ℕ) (moves : List (List DetMove)) (ks : List Arrival) (
     goes_on = goes_on;
     in_range = in_range_of;
   }
+
+  -- ---- how many moves
+
+  pub moves_at_most : (most : ℕ) → n ≤ most → m ≤ most → (v : ℕ) → length (moves_of g v) ≤ most
+  moves_at_most most few_inputs few_outputs v =
+      ⊎_elim
+      (λ (low : v < size g). by_kind (vertex_at v low))
+      (λ (past : size g ≤ v).
+      let none = ap length (get_or-eq_default g.successors [] {n = v} (let a = arena.lists in let b = arena.owners in omega (arith, past, a, b))) in
+      omega (arith, none))
+      (cases_lt v (size g))
+    where
+      by_kind : VertexAt v → length (moves_of g v) ≤ most
+      by_kind (is_known q ins q_low set is) =
+          let long = ap (λ u. length (moves_of g u)) is ∙ row_length q ins q_low set in
+          omega (arith, long, few_outputs)
+      by_kind (is_state k a stands is) =
+          let long = ap (λ u. length (moves_of g u)) is ∙ (state_at k a stands).sets.one_each in
+          omega (arith, long, few_inputs)

@@ -31,7 +31,6 @@ module _ (n base : ℕ) (ks : List Arrival) (g : ParityGame) (s : GameSolution) 
   pub record IsChoice (v : ℕ) : Type 0 where
     pub is_vertex : v < size g
     pub is_move : HasMove g v (choice v)
-    pub few : length (moves_of g v) ≤ 256
     pub place : ℕ
     pub arrival : Arrival
     pub is : choice v ≡ base + place
@@ -41,11 +40,6 @@ module _ (n base : ℕ) (ks : List Arrival) (g : ParityGame) (s : GameSolution) 
   choice_at_known v low = record {
     is_vertex = is_vertex;
     is_move = is_move;
-    few =
-        let long = ap (λ u. length (moves_of g u)) (sym whole)
-        ∙ row_length n m solved.neutral solved.moves ks g solved.are_moves solved.arena q ins q_low ins_low in
-        let few = solved.few in
-        omega (arith, long, few);
     place = r.place;
     arrival = r.arrival;
     is = some.is ∙ r.is ∙ ap (λ b. b + r.place) (sym solved.base_is);
@@ -125,12 +119,13 @@ module _ (n base : ℕ) (ks : List Arrival) (g : ParityGame) (s : GameSolution) 
   pub states_are : base / n ≡ length solved.moves
   states_are = ap (λ b. b / n) solved.base_is ∙ mul-div_cancel (length solved.moves) {n = n} solved.are_moves.sets
 
-  pub few_states : base / n ≤ 2 ^ 32
-  few_states =
+  pub few_states : size g ≤ 2 ^ 32 → base / n ≤ 2 ^ 32
+  few_states small =
       let times = le-mul_of_pos_right {m = n} (length solved.moves) solved.are_moves.sets in
-      let small = solved.small in
       let same = states_are in
-      omega (arith, times, small, same)
+      let all = sizes in
+      let whole = solved.base_is in
+      omega (arith, times, small, same, all, whole)
 
   -- the state of an arrival is a state
   pub state_low : (k : ℕ) (a : Arrival) → slice_get ks k ≡ Some a → a.state < base / n
@@ -217,9 +212,6 @@ module _ (n base : ℕ) (ks : List Arrival) (g : ParityGame) (s : GameSolution) 
       ap (λ v. get_or (moves_of g v) i 0) (sym whole) ∙ r.is ∙ ap (λ b. b + r.place) (sym solved.base_is) in
       let place = slice_get_within ks r.place r.arrival r.stands in
       record { behind = omega (arith, value); inside = omega (arith, value, place, sizes) }
-
-  pub few_vertices : size g ≤ 2 ^ 32
-  few_vertices = let small = solved.small in let same = solved.base_is in let all = sizes in omega (arith, small, same, all)
 
   -- what is read at a state is a vertex with inputs
   pub choice_low : (v : ℕ) → base ≤ v → v < size g → (items : List ℕ) (x : ℕ) → items ≡ s.choice → x ≡ get_or items v x → x < base

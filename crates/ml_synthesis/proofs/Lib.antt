@@ -32,3 +32,7 @@ pub mod Positions
 pub mod Automata
 -- from the solution of the game to its outcome
 pub mod Outcomes
+-- each automaton has its game
+pub mod SomeGames
+-- each automaton has an outcome
+pub mod SomeOutcomes

@@ -1,5 +1,5 @@
 // The environment of Odd's moves.
-ghost use Rattle.std.specs.Prelude.{◌≡◌, ◌<◌, ◌≤◌, IfOk};
+ghost use Rattle.std.specs.Prelude.{◌≡◌, ◌^◌, ◌<◌, ◌≤◌, IfOk};
 ghost use Rattle.ml_parity.specs.Game.{size};
 ghost use Rattle.ml_synthesis.specs.private.Numbered.{AreNumbers, IsAnswerAt, IsEnvironment, IsRowMet};
 ghost use Rattle.ml_synthesis.specs.private.Solved.{IsSolved};
@@ -26,6 +26,7 @@ fn answer_at(
         arena.now.arrivals.keys
         arena.now.game
         solution.now }
+    requires small { size arena.now.game ≤ 2 ^ 32 }
     requires is_state { arena.now.base ≤ vertex }
     requires is_vertex { vertex < size arena.now.game }
     requires numbers { AreNumbers arena.now.base (size arena.now.game) states.old.keys }
@@ -70,6 +71,7 @@ pub(crate) fn environment_of(
         arena.now.arrivals.keys
         arena.now.game
         solution.now }
+    requires small { size arena.now.game ≤ 2 ^ 32 }
     ensures { IfOk result (λ environment. IsEnvironment
         arena.now.input_sets
         arena.now.base

@@ -1,10 +1,10 @@
 // The machine of Even's moves.
-ghost use Rattle.std.specs.Prelude.{◌≡◌, ◌+◌, ◌*◌, ◌/◌, ◌<◌, ◌≤◌, [], ◌∷◌, length, IfOk};
+ghost use Rattle.std.specs.Prelude.{◌≡◌, ◌+◌, ◌*◌, ◌/◌, ◌^◌, ◌<◌, ◌≤◌, [], ◌∷◌, length, IfOk};
 ghost use Rattle.ml_parity.specs.Game.{HasMove, moves_of, size};
 ghost use Rattle.ml_parity.specs.Solution.{choice_at};
 ghost use Rattle.ml_synthesis.specs.Synthesis.{nexts};
 ghost use Rattle.ml_synthesis.specs.private.Numbered.{AreNumbers, AreStepsAt, IsChosen, IsMachine, IsRowMet, IsStepAt};
-ghost use Rattle.ml_synthesis.specs.private.Solved.{IsSolved};
+ghost use Rattle.ml_synthesis.specs.private.Solved.{HasFewMoves, IsSolved};
 
 use crate::arena::{Arena, moves_at};
 use crate::machines::{Machine, MachineStep};
@@ -42,6 +42,8 @@ fn step_at(
         arena.now.arrivals.keys
         arena.now.game
         solution.now }
+    requires small { size arena.now.game ≤ 2 ^ 32 }
+    requires few { HasFewMoves arena.now.game }
     requires vertex { vertex < arena.now.base }
     requires numbers { AreNumbers 0 (arena.now.base / arena.now.input_sets) states.old.keys }
     ensures step { IfOk result (IsStepAt
@@ -75,6 +77,8 @@ fn steps_of(
         arena.now.arrivals.keys
         arena.now.game
         solution.now }
+    requires small { size arena.now.game ≤ 2 ^ 32 }
+    requires few { HasFewMoves arena.now.game }
     requires state { state < arena.now.base / arena.now.input_sets }
     requires numbers { AreNumbers 0 (arena.now.base / arena.now.input_sets) states.old.keys }
     ensures steps { IfOk result (λ row. AreStepsAt
@@ -114,6 +118,8 @@ pub(crate) fn machine_of(
         arena.now.arrivals.keys
         arena.now.game
         solution.now }
+    requires small { size arena.now.game ≤ 2 ^ 32 }
+    requires few { HasFewMoves arena.now.game }
     ensures { IfOk result (λ machine. IsMachine
         arena.now.input_sets
         arena.now.base

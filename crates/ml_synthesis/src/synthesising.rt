@@ -4,6 +4,7 @@ ghost use Rattle.ml_parity.specs.Solution.{winner_at};
 ghost use Rattle.ml_determinise.specs.Numbering.{automaton_of, rows_of};
 ghost use Rattle.ml_synthesis.specs.Game.{HasMorePositions};
 ghost use Rattle.ml_synthesis.specs.Synthesis.{IsAccessible, IsAutomaton, IsOutcome};
+ghost use Rattle.ml_synthesis.specs.private.Solved.{IsArenaOver};
 ghost use Rattle.ml_synthesis.specs.declared.refusals.SynthesisRefusal.TheVariants as refusal;
 
 use crate::arena::{Arena, Automaton};
@@ -11,6 +12,7 @@ use crate::environment_making::environment_of;
 use crate::machine_making::machine_of;
 use crate::outcome::Outcome;
 use crate::refusals::SynthesisRefusal;
+use ml_base::NoMemory;
 use ml_determinise::DetMove;
 use ml_parity::{Player, Solution, solve};
 use std::alloc::Global;
@@ -30,6 +32,37 @@ fn winner(solution: &Solution, vertex: usize) -> Player
     ensures { result ≡ winner_at solution.now.winner vertex }
 {
     solution.winner[vertex]
+}
+
+/// The game over an automaton.
+fn arena_over(
+    alloc: Global,
+    moves: &[Vec<DetMove>],
+    inputs: u32,
+    outputs: u32,
+    neutral: u32,
+) -> Result<Arena, NoMemory>
+    requires few { inputs + outputs ≤ 8 }
+    requires few_states { length moves.now ≤ 2 ^ 32 }
+    requires automaton { IsAutomaton inputs outputs neutral (rows_of moves.now) }
+    ensures { IfOk result (λ arena. IsArenaOver
+        inputs
+        outputs
+        neutral
+        (rows_of moves.now)
+        arena.input_sets
+        arena.base
+        arena.arrivals.keys
+        arena.game) }
+{
+    let automaton = Automaton {
+        moves,
+        input_sets: sets_of(inputs),
+        output_sets: sets_of(outputs),
+        neutral,
+    };
+    let arena = Arena::of(alloc, &automaton)?;
+    Ok(arena)
 }
 
 /// A machine none of whose words a deterministic parity automaton accepts, or an environment all of whose words it accepts.
@@ -68,13 +101,7 @@ pub fn synthesise(
     if moves.len() > limit as usize {
         return Err(SynthesisRefusal::Passed);
     }
-    let automaton = Automaton {
-        moves,
-        input_sets: sets_of(inputs),
-        output_sets: sets_of(outputs),
-        neutral,
-    };
-    let arena = Arena::of(alloc, &automaton)?;
+    let arena = arena_over(alloc, moves, inputs, outputs, neutral)?;
     if arena.game.size() > limit as usize {
         return Err(SynthesisRefusal::Passed);
     }

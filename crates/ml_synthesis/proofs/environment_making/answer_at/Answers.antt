@@ -6,7 +6,7 @@ use Rattle.std.proofs.lemmas.Option.{slice_get_within}
 use Rattle.ml_parity.specs.Game.{moves_of, size}
 use Rattle.ml_parity.specs.Solution.{GameSolution, choice_at}
 use Rattle.ml_synthesis.specs.private.Numbered.{AreNumbersOf, IsRowMet}
-use Rattle.ml_synthesis.proofs.Choices.{choice_low, choice_read, few_vertices, known_is_vertex}
+use Rattle.ml_synthesis.proofs.Choices.{choice_low, choice_read, known_is_vertex}
 use Rattle.ml_synthesis.proofs.EnvironmentSteps.{numbers_more, numbers_none, row_numbered}
 use Rattle.ml_synthesis.proofs.RowsMet.{few_numbers, row_none}
 use Rattle.ml_synthesis.proofs.environment_making.answer_at.Goals as goal
@@ -40,7 +40,7 @@ overflow_cast-branch c =
     let few = few_numbers a.base (size a.game) c.number.new.states.keys met.numbers in
     let place = slice_get_within c.number.new.states.keys c.in_ok-number.field-0 (get_or c.moves_at-moves.result.now l.state-index 0)
     c.in_ok-number.ensures.stands in
-    let small = few_vertices a.input_sets a.base a.arrivals.keys a.game c.args.solution.now c.requires.solved in
+    let small = c.requires.small in
     omega (arith, few, place, small)
 
 pub loop-state-preserved : goal.loop-state-preserved

@@ -52,10 +52,7 @@ give-requires-clause-vertex c =
     c.requires.vertex).is_vertex
 
 pub give-requires-clause-few : goal.give-requires-clause-few
-give-requires-clause-few c =
-    let a = c.args.arena.now in
-    (choice_at_known a.input_sets a.base a.arrivals.keys a.game c.args.solution.now c.requires.solved c.args.vertex
-    c.requires.vertex).few
+give-requires-clause-few c = c.requires.few c.args.vertex
 
 -- the state that is numbered is that of the arrival, and the numbers stay few
 module _ (c : goal.In_ok-number) where
@@ -91,7 +88,7 @@ overflow_cast-result c =
     let few = few_numbers 0 (c.args.arena.now.base / c.args.arena.now.input_sets) c.number.new.states.keys (met c).numbers in
     let place = slice_get_within c.number.new.states.keys c.in_ok-number.field-0 c.from.result c.in_ok-number.ensures.stands in
     let small = few_states c.args.arena.now.input_sets c.args.arena.now.base c.args.arena.now.arrivals.keys
-    c.args.arena.now.game c.args.solution.now c.requires.solved in
+    c.args.arena.now.game c.args.solution.now c.requires.solved c.requires.small in
     omega (arith, few, place, small)
 
 pub returns-clause-step : goal.returns-clause-step
