@@ -133,7 +133,10 @@ module _ (n m neutral : ℕ) (moves : List (List DetMove)) (ks : List Arrival) (
       let below : p.place < n = let long = row.one_each in let b = p.below in omega (arith, long, b) in
       record { ins = p.place; low = below; is = sym (p.holds 0) ∙ row.sets p.place below }
 
-  pub sets_of : (k : ℕ) (a : Arrival) (ins : ℕ) → slice_get ks k ≡ Some a → ins < n → HasMove g (base + k) (a.state * n + ins)
+  pub sets_of : (k : ℕ) (a : Arrival) (ins : ℕ)
+      → slice_get ks k ≡ Some a
+      → ins < n
+      → HasMove g (base + k) (a.state * n + ins)
   sets_of k a ins is low =
       let row = (state_at k a is).sets in
       subst (Contains (moves_of g (base + k))) (row.sets ins low)

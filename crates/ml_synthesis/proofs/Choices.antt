@@ -86,7 +86,12 @@ module _ (n base : ℕ) (ks : List Arrival) (g : ParityGame) (s : GameSolution) 
 
   -- ---- what the program reads
 
-  pub choice_read : (v : ℕ) → v < size g → (items : List ℕ) (x : ℕ) → items ≡ s.choice → x ≡ get_or items v x → x ≡ choice v
+  pub choice_read : (v : ℕ)
+      → v < size g
+      → (items : List ℕ) (x : ℕ)
+      → items ≡ s.choice
+      → x ≡ get_or items v x
+      → x ≡ choice v
   choice_read v low items x same entry =
       entry ∙ ap (λ xs. get_or xs v x) same
       ∙ get_or_default s.choice v x 0 (let long = solved.solution.choices in omega (arith, low, long))
@@ -214,7 +219,13 @@ module _ (n base : ℕ) (ks : List Arrival) (g : ParityGame) (s : GameSolution) 
       record { behind = omega (arith, value); inside = omega (arith, value, place, sizes) }
 
   -- what is read at a state is a vertex with inputs
-  pub choice_low : (v : ℕ) → base ≤ v → v < size g → (items : List ℕ) (x : ℕ) → items ≡ s.choice → x ≡ get_or items v x → x < base
+  pub choice_low : (v : ℕ)
+      → base ≤ v
+      → v < size g
+      → (items : List ℕ) (x : ℕ)
+      → items ≡ s.choice
+      → x ≡ get_or items v x
+      → x < base
   choice_low v behind low items x same entry =
       subst (λ u. u < base) (sym (choice_read v low items x same entry)) (choice_at_state v behind low).low
 

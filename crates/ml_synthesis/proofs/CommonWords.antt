@@ -97,7 +97,8 @@ module _ (i o : ℕ) (m : MachineTable) (e : EnvironmentTable) (m_fits : Machine
   common = from (pigeons (length e.plays * length m) code
       (λ k few. mul-add-lt (at k).0 (length e.plays) (at k).1 (length m) (are_states k).of_machine (are_states k).of_environment))
     where
-      from : Twice code (length e.plays * length m) → (w : WordLasso ℕ) × IsMachineWord i m w × IsEnvironmentWord i o e w
+      from : Twice code (length e.plays * length m)
+          → (w : WordLasso ℕ) × IsMachineWord i m w × IsEnvironmentWord i o e w
       from t =
           let same = same_from_place (at t.first).0 (at t.first).1 (at t.second).0 (at t.second).1 (length e.plays)
           (are_states t.first).of_environment (are_states t.second).of_environment t.same in (

@@ -27,7 +27,8 @@ extended g who p row = record {
 }
 
 -- what the program adds
-pub grown_game : (owner owner' : Vec Player) (priority priority' : Vec ℕ) (moves moves' : Vec (Vec ℕ)) (who : Player) (p : ℕ)
+pub grown_game : (owner owner' : Vec Player) (priority priority' : Vec ℕ) (moves moves' : Vec (Vec ℕ)) (who : Player)
+    (p : ℕ)
     (row : Vec ℕ)
     → owner'.items ≡ owner.items ++ who ∷ []
     → priority'.items ≡ priority.items ++ p ∷ []

@@ -19,7 +19,9 @@ use Rattle.ml_synthesis.specs.private.Numbered.{AreMet, AreStepsAt, IsMachineMet
 use Rattle.ml_synthesis.proofs.RowsMet.{met_first, met_more, row_kept}
 
 -- a row that is met behind another one
-pub rows_joined : (first bound : ℕ) (ks row js more hs : List ℕ) → IsRowMet first bound ks row js → IsRowMet first bound js more hs
+pub rows_joined : (first bound : ℕ) (ks row js more hs : List ℕ)
+    → IsRowMet first bound ks row js
+    → IsRowMet first bound js more hs
     → IsRowMet first bound ks (row ++ more) hs
 rows_joined first bound ks row js more hs one other = record {
   more = one.more ++ other.more;

@@ -53,7 +53,10 @@ module _ (i o neutral : ℕ) (moves : List (List DetMove)) (ks : List Arrival) (
   steps_at : (s : ℕ) → s < length t → AreStepsAt n base ks g choice is.states (name s) n (get_or t s [])
   steps_at s low = is.met.steps s (name s) low (name_at s low)
 
-  one_step : (s ins : ℕ) → s < length t → ins < n → IsStepAt base ks g choice is.states (name s * n + ins) (step_at t s ins)
+  one_step : (s ins : ℕ)
+      → s < length t
+      → ins < n
+      → IsStepAt base ks g choice is.states (name s * n + ins) (step_at t s ins)
   one_step s ins low set = (steps_at s low).steps ins set
 
   gives : (s ins : ℕ) → s < length t → ins < n → (step_at t s ins).give < 2 ^ o

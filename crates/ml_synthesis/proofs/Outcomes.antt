@@ -91,7 +91,10 @@ module _ (i o neutral : ℕ) (moves : List (List DetMove)) (n base : ℕ) (ks : 
         (arena_is_game (2 ^ i) (2 ^ o) neutral moves ks g (are_moves i o neutral moves over.automaton) over.arena) s solution p
         base base_inside is
 
-    pub made : (t : MachineTable) → winner_at s.winner base ≡ Even → IsMachine n base ks g s.choice t → IsMade i o moves t
+    pub made : (t : MachineTable)
+        → winner_at s.winner base ≡ Even
+        → IsMachine n base ks g s.choice t
+        → IsMade i o moves t
     made t even machine =
         is_made i o neutral moves ks g s.choice (are_moves i o neutral moves over.automaton) over.arena t
         (subst₂ (λ p b. IsMachine p b ks g s.choice t) over.sets_are base_for machine)

@@ -92,7 +92,10 @@ module _ (i o neutral : ℕ) (moves : List (List DetMove)) (are : AreMoves (2 ^ 
       (by_outputs q (v % 2 ^ i) (v / 2 ^ i)
       ((div-lt_iff_lt-mul {k = 2 ^ i} {x = v} {y = 2 ^ o} are.sets).1 (omega (arith, low)))))
 
-  along_word : (q : ℕ) (word : List ℕ) → ((v : ℕ) → IsMember v word → v < 2 ^ i * 2 ^ o) → IsState q → IsState (state_behind d q word)
+  along_word : (q : ℕ) (word : List ℕ)
+      → ((v : ℕ) → IsMember v word → v < 2 ^ i * 2 ^ o)
+      → IsState q
+      → IsState (state_behind d q word)
   along_word q [] low s = s
   along_word q (v ∷ word) low s =
       along_word (d.next q v) word (λ l m. low l (inr m))
@@ -131,7 +134,11 @@ module _ (i o neutral : ℕ) (moves : List (List DetMove)) (are : AreMoves (2 ^ 
     -- v is the vertex of x
     data IsAt (v : ℕ) (x : Position ℕ) : Type 0 where
       at_known : (q ins : ℕ) → q < length moves → ins < 2 ^ i → v ≡ q * 2 ^ i + ins → x ≡ with_inputs q ins → IsAt v x
-      at_arrival : (k : ℕ) (a : Arrival) → slice_get ks k ≡ Some a → v ≡ base + k → x ≡ at_state a.state a.priority → IsAt v x
+      at_arrival : (k : ℕ) (a : Arrival)
+          → slice_get ks k ≡ Some a
+          → v ≡ base + k
+          → x ≡ at_state a.state a.priority
+          → IsAt v x
 
     never : (q ins k : ℕ) → q < length moves → ins < 2 ^ i → q * 2 ^ i + ins ≡ base + k → ⊥
     never q ins k low set same =
@@ -177,7 +184,10 @@ module _ (i o neutral : ℕ) (moves : List (List DetMove)) (are : AreMoves (2 ^ 
       low : vertex < size g
       at : IsAt vertex x
 
-    arrived : (k : ℕ) (a : Arrival) (x : Position ℕ) → slice_get ks k ≡ Some a → x ≡ at_state a.state a.priority → HasVertex x
+    arrived : (k : ℕ) (a : Arrival) (x : Position ℕ)
+        → slice_get ks k ≡ Some a
+        → x ≡ at_state a.state a.priority
+        → HasVertex x
     arrived k a x stands is = record {
       vertex = base + k;
       low = let within = slice_get_within ks k a stands in let all = arena.owners in omega (arith, within, all);

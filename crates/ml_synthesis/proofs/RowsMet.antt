@@ -51,7 +51,11 @@ module _ (first bound : ℕ) (ks : List ℕ) where
   row_none numbers = record { more = []; grown = sym (append-nil ks); numbers = numbers; runs = refl }
 
   -- what has a number keeps it
-  pub row_kept : (row js : List ℕ) → IsRowMet first bound ks row js → (k x : ℕ) → slice_get ks k ≡ Some x → slice_get js k ≡ Some x
+  pub row_kept : (row js : List ℕ)
+      → IsRowMet first bound ks row js
+      → (k x : ℕ)
+      → slice_get ks k ≡ Some x
+      → slice_get js k ≡ Some x
   row_kept row js met k x is = subst (λ zs. slice_get zs k ≡ Some x) (sym met.grown) (get_grown ks met.more k x is)
 
   pub row_more : (row js : List ℕ) (x : ℕ) (hs : List ℕ) (i : ℕ)

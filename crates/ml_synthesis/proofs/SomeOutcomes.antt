@@ -114,7 +114,9 @@ module _ (n base : ℕ) (ks : List Arrival) (g : ParityGame) (s : GameSolution) 
   MachineFrom fuel =
       (states : List ℕ) (m : MachineTable) → IsMachineMet n base ks g s.choice states m → base / n ≤ length m + fuel → TheMachine
 
-  all_made : (states : List ℕ) (m : MachineTable) → IsMachineMet n base ks g s.choice states m → length states ≤ length m
+  all_made : (states : List ℕ) (m : MachineTable)
+      → IsMachineMet n base ks g s.choice states m
+      → length states ≤ length m
       → TheMachine
   all_made states m is past =
       let within = is.met.within in

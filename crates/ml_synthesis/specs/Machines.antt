@@ -87,7 +87,9 @@ pub record IsWordAlong (goes : ℕ → ℕ → ℕ → Type 0) (w : WordLasso �
   pub one_length : length states.entries ≡ length w.word
   pub one_loop : states.start ≡ w.loop_start
   pub loops : w.loop_start < length w.word
-  pub goes_on : (k : ℕ) → k < length w.word → goes (get_or (round states) k 0) (get_or w.word k 0) (get_or (round states) (k + 1) 0)
+  pub goes_on : (k : ℕ)
+      → k < length w.word
+      → goes (get_or (round states) k 0) (get_or w.word k 0) (get_or (round states) (k + 1) 0)
 
 abbrev pub IsMachineWord : ℕ → MachineTable → WordLasso ℕ → Type 0
 IsMachineWord i m = IsWordAlong (MachineGoes i m)

@@ -104,7 +104,10 @@ pub record IsDraft (n m neutral : ℕ) (moves : List (List DetMove)) (ks : List 
   pub lists : length g.successors ≡ v
   pub arrivals : AreArrivals n m neutral moves ks
   pub known : (u : ℕ) → u < v → u < length moves * n → IsKnownAt n m (length moves * n) neutral moves ks g u
-  pub states : (k : ℕ) (a : Arrival) → length moves * n + k < v → slice_get ks k ≡ Some a → IsStateAt n a g (length moves * n + k)
+  pub states : (k : ℕ) (a : Arrival)
+      → length moves * n + k < v
+      → slice_get ks k ≡ Some a
+      → IsStateAt n a g (length moves * n + k)
 
 abbrev pub IsArena : ℕ → ℕ → ℕ → List (List DetMove) → List Arrival → ParityGame → Type 0
 IsArena n m neutral moves ks g = IsDraft n m neutral moves ks g (length moves * n + length ks)

@@ -63,7 +63,10 @@ pub record AreStepsAt (n base : ℕ) (arrivals : List Arrival) (g : ParityGame) 
 pub record IsMachineMet (n base : ℕ) (arrivals : List Arrival) (g : ParityGame) (choice ks : List ℕ) (m : MachineTable)
     : Type 0 where
   pub met : AreMet 0 (base / n) ks (map nexts m)
-  pub steps : (s q : ℕ) → s < length m → slice_get ks s ≡ Some q → AreStepsAt n base arrivals g choice ks q n (get_or m s [])
+  pub steps : (s q : ℕ)
+      → s < length m
+      → slice_get ks s ≡ Some q
+      → AreStepsAt n base arrivals g choice ks q n (get_or m s [])
 
 -- steps were made for all states
 pub record IsMachine (n base : ℕ) (arrivals : List Arrival) (g : ParityGame) (choice : List ℕ) (m : MachineTable)
