@@ -40,6 +40,8 @@ pub mod ReachedItems
 pub mod BlocksTold
 -- graphs agree with problems
 pub mod Agreement
+-- graphs worked out by hand: what is to be seen of them
+pub mod ListedGraphs
 -- a graph worked out by hand
 mod WorkedGraph
 -- nodes are equal or not

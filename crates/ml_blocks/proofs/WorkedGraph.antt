@@ -29,8 +29,9 @@ use Rattle.ml_ctl.specs.Problem.{IsAdmitted}
 use Rattle.ml_ctl.specs.Paths.{IsPathFrom, has_step}
 use Rattle.ml_blocks.specs.BlockGraph.{IsGraphAt, IsClosure, IsReached, at_root, behind, HasForm, children, linear_start_of}
 use Rattle.ml_blocks.specs.Items.{Item, now, put_off}
-use Rattle.ml_blocks.specs.Places.{Place, Path, Root, Total, HasEdge, LeadsOn, True, Holding, form_of, priority_of}
+use Rattle.ml_blocks.specs.Places.{Place, Path, Root, Total, HasEdge, LeadsOn, True, Holding, forms}
 use Rattle.ml_blocks.proofs.Agreement.{linear_graphs_agree}
+use Rattle.ml_blocks.proofs.ListedGraphs.{◌&◌, done, listed_graph}
 
 abbrev p_holds : Formula
 p_holds = Prop (codes "p")
@@ -64,11 +65,6 @@ with_items x = Path (record { first = whole; positive = true; items = x ∷ []; 
 abbrev start : Place
 start = with_items whole
 
-abbrev places : List Place
-places =
-    Root start ∷ start ∷ Total ∷ with_items (now 1 p_holds true) ∷ with_items (put_off whole) ∷ HasEdge ∷ LeadsOn
-    ∷ Holding 1 p_holds true ∷ True ∷ []
-
 is_a_graph : IsGraph worked_graph
 unfolding IsDistinct
 is_a_graph = record {
@@ -78,95 +74,27 @@ is_a_graph = record {
   actions_differ = (tt, tt);
 }
 
--- ---- each node once
+-- ---- the closure
 
 abbrev rank_of_items : List Item → ℕ
 rank_of_items [] = 9
 rank_of_items (x ∷ xs) = if x.later then 4 else (if x.number == 0 then 1 else 3)
 
-abbrev rank : Option Place → ℕ
-rank None = 9
-rank (Some (Root q)) = 0
-rank (Some (Path b)) = rank_of_items b.items
-rank (Some Total) = 2
-rank (Some HasEdge) = 5
-rank (Some LeadsOn) = 6
-rank (Some (Holding i f sign)) = 7
-rank (Some True) = 8
-rank (Some q) = 9
+abbrev rank : Place → ℕ
+rank (Root q) = 0
+rank (Path b) = rank_of_items b.items
+rank Total = 2
+rank HasEdge = 5
+rank LeadsOn = 6
+rank (Holding i f sign) = 7
+rank True = 8
+rank q = 9
 
-ranked : (n : ℕ) (q : Place) → slice_get places n ≡ Some q → rank (Some q) ≡ n
-ranked zero q e = ap rank (sym e)
-ranked (suc zero) q e = ap rank (sym e)
-ranked (suc (suc zero)) q e = ap rank (sym e)
-ranked (suc (suc (suc zero))) q e = ap rank (sym e)
-ranked (suc (suc (suc (suc zero)))) q e = ap rank (sym e)
-ranked (suc (suc (suc (suc (suc zero))))) q e = ap rank (sym e)
-ranked (suc (suc (suc (suc (suc (suc zero)))))) q e = ap rank (sym e)
-ranked (suc (suc (suc (suc (suc (suc (suc zero))))))) q e = ap rank (sym e)
-ranked (suc (suc (suc (suc (suc (suc (suc (suc zero)))))))) q e = ap rank (sym e)
-ranked (suc (suc (suc (suc (suc (suc (suc (suc (suc n))))))))) q e = absurd (cc)
+abbrev p_now : Place
+p_now = with_items (now 1 p_holds true)
 
--- ---- what is reached
-
-closed : (q : Place) → IsMember q places → (r : Place) → IsMember r (children (form_of q)) → IsMember r places
-closed q m = from m
-  where
-    root_leads : (r : Place) → IsMember r (children (form_of (Root start))) → IsMember r places
-    root_leads r (inl e) = inr (inl e)
-    root_leads r (inr (inl e)) = inr (inr (inl e))
-    root_leads r (inr (inr none)) = absurd none
-
-    start_leads : (r : Place) → IsMember r (children (form_of start)) → IsMember r places
-    start_leads r (inl e) = inr (inr (inr (inl e)))
-    start_leads r (inr (inl e)) = inr (inr (inr (inr (inl e))))
-    start_leads r (inr (inr none)) = absurd none
-
-    total_leads : (r : Place) → IsMember r (children (form_of Total)) → IsMember r places
-    total_leads r (inl e) = inr (inr (inr (inr (inr (inl e)))))
-    total_leads r (inr (inl e)) = inr (inr (inr (inr (inr (inr (inl e))))))
-    total_leads r (inr (inr none)) = absurd none
-
-    p_leads : (r : Place) → IsMember r (children (form_of (with_items (now 1 p_holds true)))) → IsMember r places
-    p_leads r (inl e) = inr (inr (inr (inr (inr (inr (inr (inl e)))))))
-    p_leads r (inr (inl e)) = inr (inr (inr (inr (inr (inr (inr (inr (inl e))))))))
-    p_leads r (inr (inr none)) = absurd none
-
-    later_leads : (r : Place) → IsMember r (children (form_of (with_items (put_off whole)))) → IsMember r places
-    later_leads r (inl e) = inr (inl e)
-    later_leads r (inr none) = absurd none
-
-    edge_leads : (r : Place) → IsMember r (children (form_of HasEdge)) → IsMember r places
-    edge_leads r (inl e) = inr (inr (inr (inr (inr (inr (inr (inr (inl e))))))))
-    edge_leads r (inr none) = absurd none
-
-    edges_lead : (r : Place) → IsMember r (children (form_of LeadsOn)) → IsMember r places
-    edges_lead r (inl e) = inr (inr (inl e))
-    edges_lead r (inr none) = absurd none
-
-    by : (x : Place)
-        → ((r : Place) → IsMember r (children (form_of x)) → IsMember r places)
-        → q ≡ x
-        → (r : Place)
-        → IsMember r (children (form_of q))
-        → IsMember r places
-    by x leads e r m = leads r (subst (λ y. IsMember r (children (form_of y))) e m)
-
-    from : IsMember q places → (r : Place) → IsMember r (children (form_of q)) → IsMember r places
-    from (inl e) = by (Root start) root_leads e
-    from (inr (inl e)) = by start start_leads e
-    from (inr (inr (inl e))) = by Total total_leads e
-    from (inr (inr (inr (inl e)))) = by (with_items (now 1 p_holds true)) p_leads e
-    from (inr (inr (inr (inr (inl e))))) = by (with_items (put_off whole)) later_leads e
-    from (inr (inr (inr (inr (inr (inl e)))))) = by HasEdge edge_leads e
-    from (inr (inr (inr (inr (inr (inr (inl e))))))) = by LeadsOn edges_lead e
-    from (inr (inr (inr (inr (inr (inr (inr (inl e)))))))) = by (Holding 1 p_holds true) (λ r none. absurd none) e
-    from (inr (inr (inr (inr (inr (inr (inr (inr (inl e))))))))) = by True (λ r none. absurd none) e
-    from (inr (inr (inr (inr (inr (inr (inr (inr (inr none))))))))) = absurd none
-
-listed : (q : Place) → IsReached (Root start) q → IsMember q places
-listed q at_root = inl refl
-listed r (behind q _ before m) = closed q (listed q before) r m
+abbrev later : Place
+later = with_items (put_off whole)
 
 start_reached : IsReached (Root start) start
 start_reached = behind (Root start) start at_root (inl refl)
@@ -174,81 +102,52 @@ start_reached = behind (Root start) start at_root (inl refl)
 total_reached : IsReached (Root start) Total
 total_reached = behind (Root start) Total at_root (inr (inl refl))
 
-p_reached : IsReached (Root start) (with_items (now 1 p_holds true))
-p_reached = behind start (with_items (now 1 p_holds true)) start_reached (inl refl)
-
-reached : (q : Place) → IsMember q places → IsReached (Root start) q
-reached q (inl e) = subst (IsReached (Root start)) (sym e) at_root
-reached q (inr (inl e)) = subst (IsReached (Root start)) (sym e) start_reached
-reached q (inr (inr (inl e))) = subst (IsReached (Root start)) (sym e) total_reached
-reached q (inr (inr (inr (inl e)))) = subst (IsReached (Root start)) (sym e) p_reached
-reached q (inr (inr (inr (inr (inl e))))) =
-    subst (IsReached (Root start)) (sym e) (behind start (with_items (put_off whole)) start_reached (inr (inl refl)))
-reached q (inr (inr (inr (inr (inr (inl e)))))) =
-    subst (IsReached (Root start)) (sym e) (behind Total HasEdge total_reached (inl refl))
-reached q (inr (inr (inr (inr (inr (inr (inl e))))))) =
-    subst (IsReached (Root start)) (sym e) (behind Total LeadsOn total_reached (inr (inl refl)))
-reached q (inr (inr (inr (inr (inr (inr (inr (inl e)))))))) =
-    subst (IsReached (Root start)) (sym e)
-    (behind (with_items (now 1 p_holds true)) (Holding 1 p_holds true) p_reached (inl refl))
-reached q (inr (inr (inr (inr (inr (inr (inr (inr (inl e))))))))) =
-    subst (IsReached (Root start)) (sym e) (behind (with_items (now 1 p_holds true)) True p_reached (inr (inl refl)))
-reached q (inr (inr (inr (inr (inr (inr (inr (inr (inr none))))))))) = absurd none
-
-is_closure : IsClosure (Root start) places
-is_closure = record {
-  once = λ i j q a b. omega (arith, ranked i q a, ranked j q b);
-  are_reached = λ q. (reached q, listed q);
-}
-
--- ---- forms
-
-abbrev Fits : ℕ → Place → Type 0
-Fits n q = HasForm worked_graph places (node_at worked_graph n) (form_of q) × (priority_at worked_graph n ≡ priority_of q)
-
-fits : (n : ℕ) (q : Place) → slice_get places n ≡ Some q → Fits n q
-fits zero q e = subst (Fits 0) (same_Some _ _ e) ((1, 2, refl, refl, refl), refl)
-fits (suc zero) q e = subst (Fits 1) (same_Some _ _ e) ((3, 4, refl, refl, refl), refl)
-fits (suc (suc zero)) q e = subst (Fits 2) (same_Some _ _ e) ((5, 6, refl, refl, refl), refl)
-fits (suc (suc (suc zero))) q e = subst (Fits 3) (same_Some _ _ e) ((7, 8, refl, refl, refl), refl)
-fits (suc (suc (suc (suc zero)))) q e = subst (Fits 4) (same_Some _ _ e) ((0, 1, refl, refl, refl), refl)
-fits (suc (suc (suc (suc (suc zero))))) q e = subst (Fits 5) (same_Some _ _ e) ((0, 8, refl, refl, refl), refl)
-fits (suc (suc (suc (suc (suc (suc zero)))))) q e = subst (Fits 6) (same_Some _ _ e) ((0, 2, refl, refl, refl), refl)
-fits (suc (suc (suc (suc (suc (suc (suc zero))))))) q e = subst (Fits 7) (same_Some _ _ e) ((0, refl, refl), refl)
-fits (suc (suc (suc (suc (suc (suc (suc (suc zero)))))))) q e = subst (Fits 8) (same_Some _ _ e) (refl, refl)
-fits (suc (suc (suc (suc (suc (suc (suc (suc (suc n))))))))) q e = absurd (cc)
-
-abbrev rows : List (List ℕ)
-rows = (1 ∷ 2 ∷ []) ∷ (3 ∷ 4 ∷ []) ∷ (5 ∷ 6 ∷ []) ∷ (7 ∷ 8 ∷ []) ∷ (1 ∷ []) ∷ (8 ∷ []) ∷ (2 ∷ []) ∷ [] ∷ [] ∷ []
-
-earlier : (k : ℕ) → 0 < k → k < 9 → (j : ℕ) × (j < k) × IsMember (get_or (range_with_len 0 9) k 0) (get_or rows j [])
-earlier zero above low = absurd (omega (arith, above))
-earlier (suc zero) above low = (0, omega arith, inl refl)
-earlier (suc (suc zero)) above low = (0, omega arith, inr (inl refl))
-earlier (suc (suc (suc zero))) above low = (1, omega arith, inl refl)
-earlier (suc (suc (suc (suc zero)))) above low = (1, omega arith, inr (inl refl))
-earlier (suc (suc (suc (suc (suc zero))))) above low = (2, omega arith, inl refl)
-earlier (suc (suc (suc (suc (suc (suc zero)))))) above low = (2, omega arith, inr (inl refl))
-earlier (suc (suc (suc (suc (suc (suc (suc zero))))))) above low = (3, omega arith, inl refl)
-earlier (suc (suc (suc (suc (suc (suc (suc (suc zero)))))))) above low = (3, omega arith, inr (inl refl))
-earlier (suc (suc (suc (suc (suc (suc (suc (suc (suc n))))))))) above low = absurd (omega (arith, low))
+p_reached : IsReached (Root start) p_now
+p_reached = behind start p_now start_reached (inl refl)
 
 is_its_graph : IsGraphAt worked_graph (linear_start_of worked false)
-is_its_graph = record {
-  is_graph = is_a_graph;
-  is_numbered = (
-    places,
-    record {
-      is_closure = is_closure;
+is_its_graph =
+    listed_graph forms worked_graph (Root start)
+    (start ∷ Total ∷ p_now ∷ later ∷ HasEdge ∷ LeadsOn ∷ Holding 1 p_holds true ∷ True ∷ []) rank
+    (record {
+      is_graph = is_a_graph;
+      begins = refl;
       one_each = refl;
-      has_forms = λ n q e. (fits n q e).0;
-      has_priorities = λ n q e. (fits n q e).1;
-      root_is = refl;
-      is_first = refl;
-      breadth_first = record { a_row_each = refl; in_order = refl; from_earlier = earlier };
-    },
-  );
-}
+      ranks = refl;
+      children_stand =
+          (refl & refl & done) & (refl & refl & done) & (refl & refl & done) & (refl & refl & done) & (refl & done)
+          & (refl & done) & (refl & done) & done & done & done;
+      reached =
+          at_root & start_reached & total_reached & p_reached
+          & behind start later start_reached (inr (inl refl))
+          & behind Total HasEdge total_reached (inl refl)
+          & behind Total LeadsOn total_reached (inr (inl refl))
+          & behind p_now (Holding 1 p_holds true) p_reached (inl refl)
+          & behind p_now True p_reached (inr (inl refl))
+          & done;
+      forms =
+          ((1, 2, refl, refl, refl), refl)
+          & ((3, 4, refl, refl, refl), refl)
+          & ((5, 6, refl, refl, refl), refl)
+          & ((7, 8, refl, refl, refl), refl)
+          & ((0, 1, refl, refl, refl), refl)
+          & ((0, 8, refl, refl, refl), refl)
+          & ((0, 2, refl, refl, refl), refl)
+          & ((0, refl, refl), refl)
+          & (refl, refl)
+          & done;
+      in_order = refl;
+      earlier =
+          (0, omega arith, inl refl)
+          & (0, omega arith, inr (inl refl))
+          & (1, omega arith, inl refl)
+          & (1, omega arith, inr (inl refl))
+          & (2, omega arith, inl refl)
+          & (2, omega arith, inr (inl refl))
+          & (3, omega arith, inl refl)
+          & (3, omega arith, inr (inl refl))
+          & done;
+    })
 
 -- ---- the law at work
 
