@@ -6,22 +6,27 @@
 --   eventually_p            == the formula F p
 --   worked_graph            == its graph, with the block as node 0
 --   is_its_graph            == the graph is that of the problem
+--   is_its_automaton        == its states are the block and True
 --   waits, comes_true       == a letter without p leads back to the block, and one with p to True
 --   accepted_some_time      == so by the law the word is accepted that has p at its second place alone
 --   refused_without         == and the one that never has p isn't
-use Rattle.std.proofs.Common.{ℕ, zero, suc, ◌≡◌, ◌<◌, ◌==◌, inl, inr, true, false, if◌then◌else◌, List, [], ◌∷◌, Option, Some, codes, refl, sym, ap, subst, arith, get_or}
-use Rattle.std.specs.List.{IsDistinct, slice_get, range_with_len}
+use Rattle.std.proofs.Common.{ℕ, zero, suc, ◌≡◌, ◌<◌, ◌==◌, inl, inr, true, false, if◌then◌else◌, List, [], ◌∷◌, codes, refl, sym, ap, subst, ◌∙◌, arith}
+use Rattle.std.specs.List.{IsDistinct}
 use Rattle.std.proofs.lemmas.Bool.{false≢true}
 use Rattle.ml_lists.specs.Member.{IsMember}
 use Rattle.ml_graph.specs.Graph.{Graph, IsGraph, references, node_at, priority_at}
 use Rattle.ml_graph.specs.declared.node.Node.TheVariants as node
 use Rattle.ml_graph.proofs.References.{all_in_range}
-use Rattle.ml_nodes.specs.ClosureGraph.{IsClosure, IsReached, at_root, behind, HasForm, children}
+use Rattle.ml_lists.proofs.Ascending.{ascending-cons, ascending-one}
+use Rattle.ml_nodes.specs.ClosureGraph.{IsReached, at_root, behind}
 use Rattle.ml_trace.specs.WordAutomata.{WordLasso, IsAcceptedFrom}
 use Rattle.ml_ctl.specs.Formula.{Formula, Prop, Temporal}
 use Rattle.ml_ctl.specs.declared.term.Tense.TheVariants.{Finally}
 use Rattle.ml_blocks.specs.Items.{Item, now, put_off}
-use Rattle.ml_blocks.specs.Places.{Place, Path, True, Holding, forms, form_of, priority_of}
+use Rattle.ml_blocks.specs.Places.{Place, Path, True, Holding, forms}
+use Rattle.ml_blocks.proofs.ListedGraphs.{◌&◌, done, listed_graph}
+use Rattle.ml_word_automaton.specs.Letters.{Automaton, GoesOn, IsAutomatonOf, IsState, begins, is_true}
+use Rattle.ml_word_automaton.specs.Letters.{behind as led}
 use Rattle.ml_word_automaton.specs.WordAutomaton.{IsBlockGraph, Leads, itself, past_true, to_left, to_right}
 use Rattle.ml_word_automaton.specs.Words.{Letter, SatisfiedBy}
 use Rattle.ml_word_automaton.proofs.Acceptance.{accepts_what_satisfies}
@@ -61,9 +66,6 @@ p_now = with_items (now 1 p_holds true)
 abbrev later : Place
 later = with_items (put_off whole)
 
-abbrev places : List Place
-places = start ∷ p_now ∷ later ∷ Holding 1 p_holds true ∷ True ∷ []
-
 is_a_graph : IsGraph worked_graph
 unfolding IsDistinct
 is_a_graph = record {
@@ -73,128 +75,92 @@ is_a_graph = record {
   actions_differ = (tt, tt);
 }
 
--- ---- each node once
+-- ---- the closure
 
 abbrev rank_of_items : List Item → ℕ
 rank_of_items [] = 9
 rank_of_items (x ∷ xs) = if x.later then 2 else (if x.number == 0 then 0 else 1)
 
-abbrev rank : Option Place → ℕ
-rank (Some (Path b)) = rank_of_items b.items
-rank (Some (Holding i f sign)) = 3
-rank (Some True) = 4
+abbrev rank : Place → ℕ
+rank (Path b) = rank_of_items b.items
+rank (Holding i f sign) = 3
+rank True = 4
 rank _ = 9
 
-ranked : (n : ℕ) (q : Place) → slice_get places n ≡ Some q → rank (Some q) ≡ n
-ranked zero q e = ap rank (sym e)
-ranked (suc zero) q e = ap rank (sym e)
-ranked (suc (suc zero)) q e = ap rank (sym e)
-ranked (suc (suc (suc zero))) q e = ap rank (sym e)
-ranked (suc (suc (suc (suc zero)))) q e = ap rank (sym e)
-ranked (suc (suc (suc (suc (suc n))))) q e = absurd (cc)
-
--- ---- what is reached
-
-closed : (q : Place) → IsMember q places → (r : Place) → IsMember r (children (form_of q)) → IsMember r places
-closed q m = from m
-  where
-    start_leads : (r : Place) → IsMember r (children (form_of start)) → IsMember r places
-    start_leads r (inl e) = inr (inl e)
-    start_leads r (inr (inl e)) = inr (inr (inl e))
-    start_leads r (inr (inr none)) = absurd none
-
-    p_leads : (r : Place) → IsMember r (children (form_of p_now)) → IsMember r places
-    p_leads r (inl e) = inr (inr (inr (inl e)))
-    p_leads r (inr (inl e)) = inr (inr (inr (inr (inl e))))
-    p_leads r (inr (inr none)) = absurd none
-
-    later_leads : (r : Place) → IsMember r (children (form_of later)) → IsMember r places
-    later_leads r (inl e) = inl e
-    later_leads r (inr none) = absurd none
-
-    by : (x : Place)
-        → ((r : Place) → IsMember r (children (form_of x)) → IsMember r places)
-        → q ≡ x
-        → (r : Place)
-        → IsMember r (children (form_of q))
-        → IsMember r places
-    by x leads e r m = leads r (subst (λ y. IsMember r (children (form_of y))) e m)
-
-    from : IsMember q places → (r : Place) → IsMember r (children (form_of q)) → IsMember r places
-    from (inl e) = by start start_leads e
-    from (inr (inl e)) = by p_now p_leads e
-    from (inr (inr (inl e))) = by later later_leads e
-    from (inr (inr (inr (inl e)))) = by (Holding 1 p_holds true) (λ r none. absurd none) e
-    from (inr (inr (inr (inr (inl e))))) = by True (λ r none. absurd none) e
-    from (inr (inr (inr (inr (inr none))))) = absurd none
-
-abbrev Comes : Place → Type 0
-Comes q = IsReached forms start q
-
-listed : (q : Place) → Comes q → IsMember q places
-listed q at_root = inl refl
-listed r (behind q _ before m) = closed q (listed q before) r m
-
-p_reached : Comes p_now
+p_reached : IsReached forms start p_now
 p_reached = behind start p_now at_root (inl refl)
 
-reached : (q : Place) → IsMember q places → Comes q
-reached q (inl e) = subst Comes (sym e) at_root
-reached q (inr (inl e)) = subst Comes (sym e) p_reached
-reached q (inr (inr (inl e))) = subst Comes (sym e) (behind start later at_root (inr (inl refl)))
-reached q (inr (inr (inr (inl e)))) = subst Comes (sym e) (behind p_now (Holding 1 p_holds true) p_reached (inl refl))
-reached q (inr (inr (inr (inr (inl e))))) = subst Comes (sym e) (behind p_now True p_reached (inr (inl refl)))
-reached q (inr (inr (inr (inr (inr none))))) = absurd none
-
-is_closure : IsClosure forms start places
-is_closure = record {
-  once = λ i j q a b. omega (arith, ranked i q a, ranked j q b);
-  are_reached = λ q. (reached q, listed q);
-}
-
--- ---- forms
-
-same_place : {x y : Place} → Some x ≡ Some y → x ≡ y
-same_place e = cc
-
-abbrev Fits : ℕ → Place → Type 0
-Fits n q = HasForm worked_graph places (node_at worked_graph n) (form_of q) × (priority_at worked_graph n ≡ priority_of q)
-
-fits : (n : ℕ) (q : Place) → slice_get places n ≡ Some q → Fits n q
-fits zero q e = subst (Fits 0) (same_place e) ((1, 2, refl, refl, refl), refl)
-fits (suc zero) q e = subst (Fits 1) (same_place e) ((3, 4, refl, refl, refl), refl)
-fits (suc (suc zero)) q e = subst (Fits 2) (same_place e) ((0, 0, refl, refl, refl), refl)
-fits (suc (suc (suc zero))) q e = subst (Fits 3) (same_place e) ((0, refl, refl), refl)
-fits (suc (suc (suc (suc zero)))) q e = subst (Fits 4) (same_place e) (refl, refl)
-fits (suc (suc (suc (suc (suc n))))) q e = absurd (cc)
-
-abbrev rows : List (List ℕ)
-rows = (1 ∷ 2 ∷ []) ∷ (3 ∷ 4 ∷ []) ∷ (0 ∷ []) ∷ [] ∷ [] ∷ []
-
-earlier : (k : ℕ) → 0 < k → k < 5 → (j : ℕ) × (j < k) × IsMember (get_or (range_with_len 0 5) k 0) (get_or rows j [])
-earlier zero above low = absurd (omega (arith, above))
-earlier (suc zero) above low = (0, omega arith, inl refl)
-earlier (suc (suc zero)) above low = (0, omega arith, inr (inl refl))
-earlier (suc (suc (suc zero))) above low = (1, omega arith, inl refl)
-earlier (suc (suc (suc (suc zero)))) above low = (1, omega arith, inr (inl refl))
-earlier (suc (suc (suc (suc (suc n))))) above low = absurd (omega (arith, low))
-
 is_its_graph : IsBlockGraph worked_graph eventually_p false
-is_its_graph = record {
-  is_graph = is_a_graph;
-  is_numbered = (
-    places,
-    record {
-      is_closure = is_closure;
+is_its_graph =
+    listed_graph forms worked_graph start (p_now ∷ later ∷ Holding 1 p_holds true ∷ True ∷ []) rank
+    (record {
+      is_graph = is_a_graph;
+      begins = refl;
       one_each = refl;
-      has_forms = λ n q e. (fits n q e).0;
-      has_priorities = λ n q e. (fits n q e).1;
-      root_is = refl;
-      is_first = refl;
-      breadth_first = record { a_row_each = refl; in_order = refl; from_earlier = earlier };
-    },
-  );
+      ranks = refl;
+      children_stand = (refl & refl & done) & (refl & refl & done) & (refl & done) & done & done & done;
+      reached =
+          at_root & p_reached
+          & behind start later at_root (inr (inl refl))
+          & behind p_now (Holding 1 p_holds true) p_reached (inl refl)
+          & behind p_now True p_reached (inr (inl refl))
+          & done;
+      forms =
+          ((1, 2, refl, refl, refl), refl)
+          & ((3, 4, refl, refl, refl), refl)
+          & ((0, 0, refl, refl, refl), refl)
+          & ((0, refl, refl), refl)
+          & (refl, refl)
+          & done;
+      in_order = refl;
+      earlier =
+          (0, omega arith, inl refl)
+          & (0, omega arith, inr (inl refl))
+          & (1, omega arith, inl refl)
+          & (1, omega arith, inr (inl refl))
+          & done;
+    })
+
+-- ---- states
+
+abbrev worked_automaton : Automaton
+worked_automaton = record { graph = worked_graph; states = 0 ∷ 4 ∷ [] }
+
+state_listed : (n : ℕ) → IsState worked_graph n → IsMember n (0 ∷ 4 ∷ [])
+state_listed _ begins = inl refl
+state_listed n (led d a _ e) = by_node d e
+  where
+    by_node : (d : ℕ) → node_at worked_graph d ≡ node.Diamond a n → IsMember n (0 ∷ 4 ∷ [])
+    by_node zero e = absurd (cc)
+    by_node (suc zero) e = absurd (cc)
+    by_node (suc (suc zero)) e = inl (let is : n ≡ 0 = cc in is)
+    by_node (suc (suc (suc zero))) e = absurd (cc)
+    by_node (suc (suc (suc (suc zero)))) e = absurd (cc)
+    by_node (suc (suc (suc (suc (suc d))))) e = absurd (cc)
+state_listed n (is_true k _ goes t) = by_node k goes
+  where
+    by_node : (k : ℕ) → GoesOn (node_at worked_graph k) n → IsMember n (0 ∷ 4 ∷ [])
+    by_node zero (inl is) = absurd (let wrong = ap (node_at worked_graph) (sym is) ∙ t in cc)
+    by_node zero (inr is) = absurd (let wrong = ap (node_at worked_graph) (sym is) ∙ t in cc)
+    by_node (suc zero) is = inr (inl is)
+    by_node (suc (suc zero)) none = absurd none
+    by_node (suc (suc (suc zero))) none = absurd none
+    by_node (suc (suc (suc (suc zero)))) none = absurd none
+    by_node (suc (suc (suc (suc (suc k))))) none = absurd none
+
+is_its_automaton : IsAutomatonOf worked_automaton eventually_p false
+is_its_automaton = record {
+  is_graph = is_its_graph;
+  states = record {
+    ascend = ascending-cons 0 4 [] (omega arith) (ascending-one 4);
+    are_states = λ n. (listed_state n, state_listed n);
+  };
 }
+  where
+    listed_state : (n : ℕ) → IsMember n (0 ∷ 4 ∷ []) → IsState worked_graph n
+    listed_state n (inl e) = subst (IsState worked_graph) (sym e) begins
+    listed_state n (inr (inl e)) = subst (IsState worked_graph) (sym e) (is_true 1 4 refl refl)
+    listed_state n (inr (inr none)) = absurd none
 
 -- ---- letters
 
