@@ -8,11 +8,11 @@
 --   stem_read, turn_read, turns_read == the parts of such a word
 --   run_there, accepting_there, accepted_there == runs of the automaton that reads the given letters
 --   run_back, accepting_back, accepted_back    == runs of the one that reads the letters for them
-use Rattle.std.proofs.Common.{ℕ, zero, suc, ◌≡◌, ◌⊎◌, inl, inr, Bool, true, List, [], ◌∷◌, ◌++◌, length, map, take, drop, refl, sym, ap, ◌∙◌, subst}
-use Rattle.std.proofs.lemmas.List.{drop-map, map-append, take-map}
+use Rattle.std.proofs.Common.{ℕ, zero, suc, ◌≡◌, ◌⊎◌, inl, inr, Bool, true, List, [], ◌∷◌, ◌++◌, map, refl, sym, ap, ◌∙◌, subst}
+use Rattle.std.proofs.lemmas.List.{drop-map, map-append, take-append-drop, take-map}
 use Rattle.ml_lists.specs.Member.{IsMember}
 use Rattle.ml_lists.specs.Repeated.{repeated}
-use Rattle.ml_lists.proofs.Member.{member-append}
+use Rattle.ml_lists.proofs.Member.{member-append, member-append_left, member-append_right}
 use Rattle.ml_lists.proofs.Repeated.{repeated-member}
 use Rattle.ml_trace.specs.Run.{Run, AcceptingRun}
 use Rattle.ml_trace.specs.WordAutomata.{WordLasso, IsAcceptedFrom, stem, turn}
@@ -44,25 +44,17 @@ module _ {L K : Type 0} (h : L → K) (w : WordLasso L) where
       ∙ ap (λ u. stem (read_as h w) ++ u) (turns_read k)
 
   -- all letters that are read stand in the word
-  taken : (n : ℕ) (u : List L) (l : L) → IsMember l (take n u) → IsMember l u
-  taken zero u l none = absurd none
-  taken (suc n) [] l none = absurd none
-  taken (suc n) (k ∷ u) l (inl is) = inl is
-  taken (suc n) (k ∷ u) l (inr m) = inr (taken n u l m)
-
-  dropped : (n : ℕ) (u : List L) (l : L) → IsMember l (drop n u) → IsMember l u
-  dropped zero u l m = m
-  dropped (suc n) [] l none = absurd none
-  dropped (suc n) (k ∷ u) l m = inr (dropped n u l m)
+  stands : (l : L) → IsMember l (stem w ++ turn w) → IsMember l w.word
+  stands l m = subst (IsMember l) (take-append-drop w.loop_start w.word) m
 
   turns_stand : (k : ℕ) (l : L) → IsMember l (repeated k (turn w)) → IsMember l w.word
-  turns_stand k l m = dropped w.loop_start w.word l (repeated-member l k (turn w) m)
+  turns_stand k l m = stands l (member-append_right l (stem w) (turn w) (repeated-member l k (turn w) m))
 
   unrolled_stand : (k : ℕ) (l : L) → IsMember l (stem w ++ repeated k (turn w)) → IsMember l w.word
   unrolled_stand k l m = by_part (member-append l (stem w) (repeated k (turn w)) m)
     where
       by_part : IsMember l (stem w) ⊎ IsMember l (repeated k (turn w)) → IsMember l w.word
-      by_part (inl i) = taken w.loop_start w.word l i
+      by_part (inl i) = stands l (member-append_left l (stem w) (turn w) i)
       by_part (inr i) = turns_stand k l i
 
 -- ---- runs

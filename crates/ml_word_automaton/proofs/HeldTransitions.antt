@@ -8,9 +8,9 @@
 --   those_of            == the same of what a program holds
 --   all_small           == all ends are small numbers
 --   all_transitions     == these are all transitions under the letter
-use Rattle.std.proofs.Common.{ℕ, ◌≡◌, ◌<◌, ◌≤◌, ◌^◌, ◌⊎◌, ◌↔◌, ◌==◌, inl, inr, ⊎_elim, arith, Bool, true, false, List, [], ◌∷◌, length, get_or, refl, sym, ap, ◌∙◌, subst}
+use Rattle.std.proofs.Common.{ℕ, ◌≡◌, ◌<◌, ◌^◌, ◌⊎◌, ◌==◌, inl, inr, arith, Bool, true, List, [], length, get_or, refl, sym, ap, ◌∙◌, subst}
 use Rattle.ml_lists.specs.Member.{IsMember}
-use Rattle.ml_lists.proofs.Member.{member-All, place-member}
+use Rattle.ml_lists.proofs.Member.{member-All}
 use Rattle.ml_graph.specs.Graph.{Graph, IsGraph, node_at, priority_at, size}
 use Rattle.ml_graph.specs.declared.node.Node.{Node}
 use Rattle.ml_graph.specs.declared.node.Node.TheVariants as node
@@ -22,9 +22,9 @@ use Rattle.ml_word_automaton.specs.WordAutomaton.{Leads, Walks}
 use Rattle.ml_word_automaton.specs.Words.{Letter}
 use Rattle.ml_word_automaton.specs.private.Numbers.{HasNumber, IsHeld}
 use Rattle.ml_word_automaton.specs.private.Walking.{AreThoseBelow, Comes, itself, further, Ends, moves, moves_at, onward}
-use Rattle.ml_word_automaton.proofs.LettersByNumbers.{come_low, goes_low, goes_on, walks_back, walks_there}
+use Rattle.ml_word_automaton.proofs.LettersByNumbers.{goes_low, goes_on, walks_back, walks_there}
 use Rattle.ml_word_automaton.proofs.MarkedStates.{goes_inside, inside}
-use Rattle.ml_word_automaton.proofs.NumberedStates.{one_place}
+use Rattle.ml_word_automaton.proofs.NumberedStates.{one_place, state_at}
 
 -- ---- where a walk ends
 
@@ -121,18 +121,15 @@ those_of a h nodes numbers present i ts graph_is states_are all those =
     (subst (λ g. AreThoseBelow i (onward g present) (moves g numbers) nodes ts) graph_is those))
 
 module _ (a : Automaton) (numbers : List ℕ) (H : IsHeld a.graph a.states numbers) (ok : IsGraph a.graph) where
-  is_state_at : (p : ℕ) → p < length a.states → IsState a.graph (node_of a p)
-  is_state_at p low = ((H.listed).are_states (node_of a p)).0 (place-member a.states p 0 low)
-
   pub node_low : (p : ℕ) → p < length a.states → node_of a p < size a.graph
-  node_low p low = state_low a.graph ok (node_of a p) (is_state_at p low)
+  node_low p low = state_low a.graph ok (node_of a p) (state_at a H.listed p low)
 
   number_of : (n : ℕ) → IsState a.graph n → HasNumber a.states numbers n
   number_of n is = H.are_numbered n (((H.listed).are_states n).1 is)
 
   number_is : (p : ℕ) → p < length a.states → get_or numbers (node_of a p) 0 ≡ p
   number_is p low =
-      let has = number_of (node_of a p) (is_state_at p low) in
+      let has = number_of (node_of a p) (state_at a H.listed p low) in
       one_place a.states (H.listed).ascend (get_or numbers (node_of a p) 0) p has.is_low low has.is
 
   module _ (present : List ℕ) (ts : List Transition)
@@ -161,7 +158,7 @@ module _ (a : Automaton) (numbers : List ℕ) (H : IsHeld a.graph a.states numbe
               node = m.node;
               is_end = m.is_end;
               is_state =
-                  end_state a.graph present (node_of a p) e.at m.node t.accepting (is_state_at p low) e.comes m.is_end;
+                  end_state a.graph present (node_of a p) e.at m.node t.accepting (state_at a H.listed p low) e.comes m.is_end;
               to_is = ap (λ (x : Transition). x.to) m.is;
             }
 

@@ -5,8 +5,8 @@
 --   goes_on, goes_low, come_low == it goes on as a block does, to nodes of the graph
 --   true_there, true_back   == which nodes are true
 --   walks_there, walks_back == which walks there are
-use Rattle.std.proofs.Common.{ℕ, ◌≡◌, ◌<◌, ◌≤◌, ◌⊎◌, ◌↔◌, ◌==◌, ◌||◌, inl, inr, ⊎_elim, arith, Bool, true, false, if◌then◌else◌, List, [], ◌∷◌, length, refl, sym, ap, ◌∙◌, subst, eqb-true, eq-eqb}
-use Rattle.std.specs.Bool.{beq}
+use Rattle.std.proofs.Common.{ℕ, ◌≡◌, ◌<◌, ◌≤◌, ◌↔◌, ◌==◌, ◌||◌, inl, inr, ⊎_elim, arith, Bool, true, false, if◌then◌else◌, List, [], ◌∷◌, length, refl, sym, ◌∙◌, subst, eqb-true, eq-eqb}
+use Rattle.std.specs.Cmp.{booleans_Decides}
 use Rattle.std.proofs.lemmas.Bool.{cases_Bool, false≢true, or_cases}
 use Rattle.std.proofs.lemmas.Bool as bools
 use Rattle.ml_lists.specs.Member.{IsMember}
@@ -112,25 +112,13 @@ module _ (g : Graph) (present : List ℕ) where
               (λ (f : has_number present p ≡ false). f)
               (cases_Bool (has_number present p))
 
-      same_sign : (b c : Bool) → beq b c ≡ true → b ≡ c
-      same_sign true true e = refl
-      same_sign true false e = absurd (false≢true e)
-      same_sign false true e = absurd (false≢true e)
-      same_sign false false e = refl
-
-      sign_same : (b c : Bool) → b ≡ c → beq b c ≡ true
-      sign_same true true e = refl
-      sign_same true false e = absurd (false≢true (sym e))
-      sign_same false true e = absurd (false≢true e)
-      sign_same false false e = refl
-
       true_there : (n : ℕ) → n < size g → is_true_node present (node_at g n) ≡ true → IsTrueIn g letter n
       true_there n low t = by_node (node_at g n) refl t
         where
           by_node : (v : Node) → node_at g n ≡ v → is_true_node present v ≡ true → IsTrueNode g letter v
           by_node node.True e t = tt
           by_node (node.Lit p b) e t =
-              sym (same_truth p (prop_in_range g ok n low p b e)) ∙ same_sign (has_number present p) b t
+              sym (same_truth p (prop_in_range g ok n low p b e)) ∙ (booleans_Decides (has_number present p) b).0 t
           by_node node.False e t = absurd (false≢true t)
           by_node (node.And l r) e t = absurd (false≢true t)
           by_node (node.Or l r) e t = absurd (false≢true t)
@@ -143,7 +131,7 @@ module _ (g : Graph) (present : List ℕ) where
           by_node : (v : Node) → node_at g n ≡ v → IsTrueNode g letter v → is_true_node present v ≡ true
           by_node node.True e t = refl
           by_node (node.Lit p b) e t =
-              sign_same (has_number present p) b (same_truth p (prop_in_range g ok n low p b e) ∙ t)
+              (booleans_Decides (has_number present p) b).1 (same_truth p (prop_in_range g ok n low p b e) ∙ t)
           by_node node.False e none = absurd none
           by_node (node.And l r) e none = absurd none
           by_node (node.Or l r) e none = absurd none

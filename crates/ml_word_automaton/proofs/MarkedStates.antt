@@ -6,7 +6,7 @@
 --   marked_more        == what one node more makes states is marked
 --   makes_states, states_made == what nodes make states, and node 0, are the states
 --   all_marked         == so they are marked
-use Rattle.std.proofs.Common.{ℕ, zero, ◌≡◌, ◌+◌, ◌<◌, ◌≤◌, ◌⊎◌, ◌↔◌, inl, inr, ⊎_elim, arith, Bool, true, false, List, length, get_or, set, replicate, refl, sym, ap, ◌∙◌, subst}
+use Rattle.std.proofs.Common.{ℕ, ◌≡◌, ◌+◌, ◌<◌, ◌≤◌, ◌⊎◌, inl, inr, ⊎_elim, arith, Bool, true, false, List, length, set, replicate, refl, sym, ap, ◌∙◌, subst}
 use Rattle.std.proofs.lemmas.Bool.{cases_eq, cases_lt}
 use Rattle.std.proofs.lemmas.List.{get_or-replicate, get_or-set_other, get_or-set_same, get_or_past, length-replicate, length-set}
 use Rattle.ml_graph.specs.Graph.{Graph, node_at, size}

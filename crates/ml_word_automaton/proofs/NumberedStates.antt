@@ -3,17 +3,18 @@
 --   numbered_none  == of none
 --   numbered_more  == of one number more
 --   numbers_held   == the marked states of a graph, as an automaton keeps them
---   number_of      == the number of the node of a state
---   one_number     == each state has one number
-use Rattle.std.proofs.Common.{ℕ, ◌≡◌, ◌+◌, ◌<◌, ◌≤◌, ◌⊎◌, ◌↔◌, ◌^◌, inl, inr, ⊎_elim, arith, Bool, true, false, if◌then◌else◌, List, [], ◌∷◌, ◌++◌, length, get_or, refl, sym, ap, ◌∙◌, subst, append-nil, length-append}
+--   state_at       == the node of a state is one
+--   one_place      == two places of an ascending list with one number are one
+use Rattle.std.proofs.Common.{ℕ, ◌≡◌, ◌+◌, ◌<◌, ◌≤◌, ◌⊎◌, ◌^◌, inl, inr, ⊎_elim, arith, Bool, true, false, if◌then◌else◌, List, [], ◌∷◌, ◌++◌, length, get_or, refl, sym, ap, ◌∙◌, subst, append-nil, length-append}
 use Rattle.std.proofs.lemmas.Bool.{cases_eq, cases_lt}
 use Rattle.std.proofs.lemmas.List.{get_or_append_left, get_or_past}
 use Rattle.std.proofs.Math.Seq.{get_or-append_seam}
 use Rattle.ml_lists.specs.Ascending.{IsAscending}
 use Rattle.ml_lists.specs.Member.{IsMember}
 use Rattle.ml_lists.proofs.Ascending.{ascending-apart, ascending-append}
-use Rattle.ml_lists.proofs.Member.{member-append, member-append_left, member-append_right, member-place}
+use Rattle.ml_lists.proofs.Member.{member-append, member-append_left, member-append_right, place-member}
 use Rattle.ml_graph.specs.Graph.{Graph, size}
+use Rattle.ml_word_automaton.specs.Letters.{Automaton, HasItsStates, IsState, node_of}
 use Rattle.ml_word_automaton.specs.private.Numbers.{AreMarked, AreNumbered, AreNumberedBelow, HasNumber, IsHeld, mark}
 
 pub numbered_none : (marks : List Bool) → AreNumberedBelow 0 marks [] []
@@ -139,6 +140,10 @@ numbers_held g marks states numbers M N small = record {
 }
 
 -- ---- numbers of states
+
+-- the node of a state is one
+pub state_at : (a : Automaton) → HasItsStates a → (p : ℕ) → p < length a.states → IsState a.graph (node_of a p)
+state_at a has p low = (has.are_states (node_of a p)).0 (place-member a.states p 0 low)
 
 -- two places of an ascending list with one number are one
 pub one_place : (xs : List ℕ) → IsAscending xs → (p q : ℕ) → p < length xs → q < length xs

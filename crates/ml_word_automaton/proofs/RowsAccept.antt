@@ -1,10 +1,9 @@
 -- What is accepted by states and letters that go by their numbers.
 --
---   lead_to_states  == letters lead from states to states
+--   lead_to, lead_to_states == letters lead from states to states
 --   some_letter     == each list of numbers is that of the propositions in some letter
 --   rows_accept     == rows accept as the automaton does
-use Rattle.std.proofs.Common.{ℕ, zero, suc, ◌≡◌, ◌<◌, ◌≤◌, ◌⊎◌, ◌↔◌, inl, inr, ⊎_elim, arith, Bool, true, List, [], length, map, get_or, filter, ltb, bytes_eq, refl, sym, ap, ◌∙◌, subst, All, ltb-true, lt-ltb}
-use Rattle.std.specs.List.{IsDistinct}
+use Rattle.std.proofs.Common.{ℕ, ◌≡◌, ◌<◌, ◌≤◌, ◌↔◌, inl, inr, ⊎_elim, arith, Bool, true, List, length, map, filter, ltb, bytes_eq, refl, sym, ap, ◌∙◌, subst, ltb-true, lt-ltb}
 use Rattle.std.proofs.lemmas.Bool.{cases_lt}
 use Rattle.std.proofs.lemmas.List.{length-map}
 use Rattle.std.proofs.lemmas.Slice.Eq.{bytes_eq-Decides}
@@ -16,16 +15,14 @@ use Rattle.ml_graph.specs.declared.node.Node.TheVariants as node
 use Rattle.ml_graph.proofs.Places.{same_place}
 use Rattle.ml_trace.specs.declared.letters.Transition.{Transition}
 use Rattle.ml_trace.specs.WordAutomata.{WordLasso, IsWordLasso, IsAcceptedFrom}
-use Rattle.ml_ctl.specs.Formula.{Formula, is_linear}
-use Rattle.ml_ltl.specs.Problem.{in_sense}
 use Rattle.ml_word_automaton.specs.Laws.{HasOneNumber, LeadToStates, LettersLeadToStates, RowsAccept, SomeLetter}
-use Rattle.ml_word_automaton.specs.Letters.{Automaton, AreThoseIn, GoesOn, HasItsStates, HasTransitionsOf, IsAutomatonOf, IsState, IsTransition}
+use Rattle.ml_word_automaton.specs.Letters.{Automaton, GoesOn, HasItsStates, HasTransitionsOf, IsState}
 use Rattle.ml_word_automaton.specs.Letters.{begins, behind, is_true, leads_by, letter_in, node_of, word_of}
 use Rattle.ml_word_automaton.specs.WordAutomaton.{Leads, Walks, itself, past_same, past_true, to_left, to_right}
-use Rattle.ml_word_automaton.specs.Words.{Letter, SatisfiedBy, has}
+use Rattle.ml_word_automaton.specs.Words.{Letter, has}
 use Rattle.ml_word_automaton.proofs.Acceptance.{accepts_what_satisfies}
 use Rattle.ml_word_automaton.proofs.CarriedRuns.{accepted_back, accepted_there}
-use Rattle.ml_word_automaton.proofs.NumberedStates.{one_place}
+use Rattle.ml_word_automaton.proofs.NumberedStates.{one_place, state_at}
 
 -- ---- states
 
@@ -42,9 +39,6 @@ led_to g l s q b state (inl on) = behind on.diamond on.action q on.is_diamond
 led_to g l s q b state (inr end) = walked_to g l s q state end.walks end.is_true
 
 module _ (a : Automaton) (has : HasItsStates a) where
-  state_at : (p : ℕ) → p < length a.states → IsState a.graph (node_of a p)
-  state_at p low = (has.are_states (node_of a p)).0 (Rattle.ml_lists.proofs.Member.place-member a.states p 0 low)
-
   number_of : (n : ℕ) → IsState a.graph n → HasOneNumber a n
   number_of n is =
       let at = member-place n a.states ((has.are_states n).1 is) in record {
@@ -72,7 +66,7 @@ module _ (a : Automaton) (has : HasItsStates a) where
   lead_to = record {
     has_state = let zero_at = number_of 0 begins in let low = zero_at.is_low in omega (arith, low);
     begins = first;
-    lead = λ l p q b low leads. number_of q (led_to a.graph l (node_of a p) q b (state_at p low) leads);
+    lead = λ l p q b low leads. number_of q (led_to a.graph l (node_of a p) q b (state_at a has p low) leads);
   }
 
 pub lead_to_states : LettersLeadToStates
@@ -83,9 +77,6 @@ lead_to_states a has = lead_to a has
 pub some_letter : SomeLetter
 some_letter g present different = (l, λ p low. (there p low, back p low))
   where
-    numbers : List ℕ
-    numbers = filter (λ p. ltb p (length g.props)) present
-
     l : Letter
     l = map (prop_at g) (filter (λ p. ltb p (length g.props)) present)
 

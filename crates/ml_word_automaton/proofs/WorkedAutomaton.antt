@@ -10,11 +10,11 @@
 --   waits, comes_true       == a letter without p leads back to the block, and one with p to True
 --   accepted_some_time      == so by the law the word is accepted that has p at its second place alone
 --   refused_without         == and the one that never has p isn't
-use Rattle.std.proofs.Common.{ℕ, zero, suc, ◌≡◌, ◌<◌, ◌==◌, inl, inr, true, false, if◌then◌else◌, List, [], ◌∷◌, codes, refl, sym, ap, subst, ◌∙◌, arith}
+use Rattle.std.proofs.Common.{ℕ, zero, suc, ◌≡◌, ◌==◌, inl, inr, true, false, if◌then◌else◌, List, [], ◌∷◌, codes, refl, sym, ap, subst, ◌∙◌, arith}
 use Rattle.std.specs.List.{IsDistinct}
 use Rattle.std.proofs.lemmas.Bool.{false≢true}
 use Rattle.ml_lists.specs.Member.{IsMember}
-use Rattle.ml_graph.specs.Graph.{Graph, IsGraph, references, node_at, priority_at}
+use Rattle.ml_graph.specs.Graph.{Graph, IsGraph, references, node_at}
 use Rattle.ml_graph.specs.declared.node.Node.TheVariants as node
 use Rattle.ml_graph.proofs.References.{all_in_range}
 use Rattle.ml_lists.proofs.Ascending.{ascending-cons, ascending-one}

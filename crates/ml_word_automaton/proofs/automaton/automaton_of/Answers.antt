@@ -1,4 +1,4 @@
-use Rattle.std.proofs.Common.{rules, ◌≡◌, ◌≤◌, ◌^◌, List, Bool, subst, sym, arith}
+use Rattle.std.proofs.Common.{◌≤◌, ◌^◌, List, Bool, subst, arith}
 use Rattle.ml_graph.specs.Graph.{size}
 use Rattle.ml_word_automaton.specs.private.Numbers.{AreNumbered, IsHeld}
 use Rattle.ml_word_automaton.proofs.NumberedStates.{numbers_held}

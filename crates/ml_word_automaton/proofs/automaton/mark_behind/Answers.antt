@@ -1,6 +1,4 @@
-use Rattle.std.proofs.Common.{rules, ◌≡◌, ◌<◌, ◌∙◌, length, subst, sym, arith, set, true}
-use Rattle.ml_graph.specs.Graph.{node_at, size}
-use Rattle.ml_graph.specs.declared.node.Node.TheVariants as node
+use Rattle.std.proofs.Common.{rules, ◌∙◌, subst, sym, arith, set, true}
 use Rattle.ml_graph.proofs.References.{and_right, diamond_target, or_left, or_right}
 use Rattle.ml_word_automaton.specs.private.Numbers.{IsMarkedMore, Makes}
 use Rattle.ml_word_automaton.proofs.MarkedStates.{marked_one}

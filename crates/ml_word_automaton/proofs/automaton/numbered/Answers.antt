@@ -1,4 +1,4 @@
-use Rattle.std.proofs.Common.{rules, ◌≡◌, ◌<◌, ◌∷◌, ◌++◌, [], if◌then◌else◌, false, length, get_or, List, subst, sym, arith, ◌+◌}
+use Rattle.std.proofs.Common.{rules, ◌≡◌, ◌∷◌, ◌++◌, [], if◌then◌else◌, length, List, subst, sym, ◌+◌}
 use Rattle.ml_word_automaton.specs.private.Numbers.{AreNumberedBelow, mark}
 use Rattle.ml_word_automaton.proofs.NumberedStates.{numbered_more}
 use Rattle.ml_word_automaton.proofs.automaton.numbered.Goals as goal

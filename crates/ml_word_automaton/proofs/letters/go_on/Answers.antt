@@ -1,4 +1,4 @@
-use Rattle.std.proofs.Common.{rules, ◌∙◌, sym, arith}
+use Rattle.std.proofs.Common.{◌∙◌, sym, arith}
 use Rattle.ml_graph.proofs.References.{and_left, diamond_target}
 use Rattle.ml_word_automaton.proofs.letters.go_on.Goals as goal
 

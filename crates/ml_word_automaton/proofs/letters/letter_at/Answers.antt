@@ -1,8 +1,7 @@
-use Rattle.std.proofs.Common.{rules, ℕ, ◌≡◌, ◌<◌, ◌+◌, ◌∙◌, ◌⊎◌, inl, inr, ⊎_elim, Some, length, get_or, List, subst, sym, ap, arith}
-use Rattle.ml_lists.specs.Member.{IsMember}
+use Rattle.std.proofs.Common.{rules, ◌≡◌, ◌∙◌, ⊎_elim, Some, length, get_or, subst, ap, arith}
 use Rattle.ml_lists.proofs.Permuted.{same_members}
-use Rattle.ml_graph.specs.Graph.{Graph, IsGraph, size}
-use Rattle.ml_word_automaton.specs.private.Walking.{AreThoseBelow, last, moves, onward}
+use Rattle.ml_graph.specs.Graph.{IsGraph, size}
+use Rattle.ml_word_automaton.specs.private.Walking.{last, moves, onward}
 use Rattle.ml_word_automaton.proofs.HeldTransitions.{all_small, all_transitions, node_low, those_of}
 use Rattle.ml_word_automaton.proofs.LetterWalks.{more_below}
 use Rattle.ml_word_automaton.proofs.letters.letter_at.Goals as goal
