@@ -30,5 +30,7 @@ pub mod HeldTransitions
 pub mod CarriedRuns
 -- what rows of letters accept
 pub mod RowsAccept
+-- states that are True
+pub mod SharedTop
 -- the automaton of F p, by hand
 pub mod WorkedAutomaton

@@ -6,6 +6,7 @@
 --   OneSize              == the graph has more than n nodes exactly where more than n are reached
 --   HaveSame l k         == the letters l and k have the same propositions
 --   LettersAreSets       == then they lead alike
+--   TrueStatesAreShared  == a state is True exactly where it is the True that all blocks share
 --   LettersLeadToStates  == letters lead from states to states, each of which has one number; node 0 has the number 0
 --   SomeLetter           == each list of numbers is that of the propositions in some letter
 --   RowsAccept           == by the transitions under the letters of a row, from state 0, exactly those words are accepted that
@@ -13,14 +14,17 @@
 use Rattle.std.specs.Prelude.{ℕ, ◌≡◌, ◌<◌, ◌↔◌, Bool, true, List, length, All}
 use Rattle.std.specs.List.{IsDistinct}
 use Rattle.std.specs.Str.{bytes_eq}
-use Rattle.ml_graph.specs.Graph.{Graph, size}
+use Rattle.ml_graph.specs.Graph.{Graph, node_at, size}
+use Rattle.ml_graph.specs.declared.node.Node.TheVariants as node
+use Rattle.ml_nodes.specs.ClosureGraph as closure
 use Rattle.ml_nodes.specs.AlikeNodes.{AreAlike}
 use Rattle.ml_trace.specs.declared.letters.Transition.{Transition}
 use Rattle.ml_trace.specs.WordAutomata.{WordLasso, IsWordLasso, IsAcceptedFrom}
 use Rattle.ml_ctl.specs.Formula.{Formula, is_linear}
 use Rattle.ml_ltl.specs.Problem.{in_sense}
 use Rattle.ml_blocks.specs.Closures.{HasMoreThan}
-use Rattle.ml_word_automaton.specs.Letters.{Automaton, AreThoseIn, HasItsStates, HasTransitionsOf, IsAutomatonOf, leads_by, node_of, word_of}
+use Rattle.ml_blocks.specs.Places.{Place, True, forms}
+use Rattle.ml_word_automaton.specs.Letters.{Automaton, AreThoseIn, HasItsStates, HasTransitionsOf, IsAutomatonOf, IsState, leads_by, node_of, word_of}
 use Rattle.ml_word_automaton.specs.WordAutomaton.{IsBlockGraph, Leads, start_block}
 use Rattle.ml_word_automaton.specs.Words.{Letter, has, SatisfiedBy}
 
@@ -55,6 +59,13 @@ LettersAreSets =
     → Leads g l p q accepting ↔ Leads g k p q accepting
 
 -- ---- the automaton with numbered states
+
+abbrev pub TrueStatesAreShared : Type 0
+TrueStatesAreShared =
+    (f : Formula) (negated : Bool) (g : Graph) (places : List Place) (n : ℕ)
+    → is_linear f ≡ true
+    → closure.IsNumberedBy forms g (start_block f negated) places
+    → (IsState g n × (node_at g n ≡ node.True)) ↔ closure.IsNumberOf places n True
 
 -- the number of a state, and of no other
 pub record HasOneNumber (a : Automaton) (n : ℕ) : Type 0 where

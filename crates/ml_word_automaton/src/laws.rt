@@ -1,5 +1,5 @@
 // Laws over the definitions alone: no caller runs these functions, their contracts are the theorems.
-ghost use Rattle.ml_word_automaton.specs.Laws.{AcceptsWhatSatisfies, LettersAreSets, LettersLeadToStates, OneGraph, OneSize, RowsAccept, SomeGraph, SomeLetter};
+ghost use Rattle.ml_word_automaton.specs.Laws.{AcceptsWhatSatisfies, LettersAreSets, LettersLeadToStates, OneGraph, OneSize, RowsAccept, SomeGraph, SomeLetter, TrueStatesAreShared};
 
 /// The automaton of a problem of LTL accepts exactly the word lassos that satisfy the problem's formula, or its negation where
 /// the problem is negated.
@@ -25,6 +25,14 @@ pub fn one_graph()
     ensures one { OneGraph }
     ensures some { SomeGraph }
     ensures size { OneSize }
+{}
+
+/// Of the graph of a problem, a node that is True is a state exactly where it is the True that all blocks share; so the states
+/// are node 0, the nodes to which Diamonds lead, and that one, where it is reached.
+///
+/// Does nothing when called.
+pub fn true_states_are_shared()
+    ensures { TrueStatesAreShared }
 {}
 
 /// Letters lead from states to states, each of which has one number; node 0 is a state and has the number 0. So no transition
