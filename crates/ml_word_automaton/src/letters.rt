@@ -130,8 +130,8 @@ fn walk_from(
 /// # Errors
 /// `NoMemory` alone.
 ///
-/// Cost: for each state linear in the nodes that walks from it pass, times the logarithm of `present`, and a sort of the
-/// transitions.
+/// Cost: linear in the nodes; for each state linear in the nodes that walks from it pass, with a search in `present` for each
+/// literal among them; and a sort of the transitions.
 pub fn letter_at(automaton: &WordAutomaton, present: &IdSet) -> Result<Letter, NoMemory>
     ensures { IfOk result (λ transitions. (letter : List (List ℕ))
         → AreThoseIn automaton.now.graph letter present.now

@@ -1,0 +1,103 @@
+// Word automata of small problems of LTL, worked out by hand: the nodes of their states, and their transitions under letters,
+// from state to state by their numbers, with ! behind those that accept.
+use ml_base::IdSet;
+use ml_graph::ModalGraph;
+use ml_trace::Transition;
+use ml_word_automaton::{WordAutomaton, automaton_of, letter_at};
+use std::alloc::Global;
+use std::test::Fail;
+
+// the numbers of the graph's propositions that are one of these letters
+fn present(alloc: Global, graph: &ModalGraph, letters: &str) -> Result<IdSet, Fail> {
+    let mut numbers = IdSet::new(alloc);
+    for (number, name) in graph.props().iter().enumerate() {
+        if let [letter] = name.bytes()
+            && letters.as_bytes().contains(letter)
+        {
+            numbers.insert(number as u32)?;
+        }
+    }
+    Ok(numbers)
+}
+
+// the nodes of the states
+fn shown_states(alloc: Global, automaton: &WordAutomaton) -> Result<String, Fail> {
+    let mut out = String::new(alloc);
+    for node in automaton.states() {
+        out.push_str(format!(in alloc; "{node} ")?.as_str())?;
+    }
+    Ok(out)
+}
+
+// the transitions under a letter, in order
+fn shown_letter(alloc: Global, automaton: &WordAutomaton, letters: &str) -> Result<String, Fail> {
+    let letter = letter_at(automaton, &present(alloc, automaton.graph(), letters)?)?;
+    let many = automaton.states().len() as u32;
+    let mut out = String::new(alloc);
+    for from in 0..many {
+        for to in 0..many {
+            for accepting in [false, true] {
+                let wanted = Transition {
+                    from,
+                    to,
+                    accepting,
+                };
+                if letter.transitions().contains(&wanted) {
+                    let sign = if accepting { "!" } else { "" };
+                    out.push_str(format!(in alloc; "{from}>{to}{sign} ")?.as_str())?;
+                }
+            }
+        }
+    }
+    Ok(out)
+}
+
+// has the automaton these states, in a graph of so many nodes at least, and these transitions under the letters?
+fn is_automaton(
+    alloc: Global,
+    text: &str,
+    negated: bool,
+    nodes: u32,
+    states: &str,
+    letters: &[(&str, &str)],
+) -> Result<bool, Fail> {
+    let formula = ml_ltl::parse(alloc, text.as_bytes())?;
+    let less = automaton_of(alloc, &formula, negated, nodes.min(4096).saturating_sub(1));
+    let automaton = automaton_of(alloc, &formula, negated, nodes.min(4096))?;
+    for (letter, wanted) in letters {
+        if shown_letter(alloc, &automaton, letter)?.as_str() != *wanted {
+            return Ok(false);
+        }
+    }
+    Ok(less.is_err() && shown_states(alloc, &automaton)?.as_str() == states)
+}
+
+#[test]
+fn states_and_letters(rt: HostRuntime) -> Result<(), Fail> {
+    let alloc = rt.alloc();
+    // node 0 waits for p along node 2, or p is true, and then nothing more is asked
+    let eventually = [("", "0>0 1>1! "), ("p", "0>0 0>1! 1>1! ")];
+    assert!(rt; is_automaton(alloc, "F p", false, 5, "0 4 ", &eventually)?);
+    // node 2 is the constant, at which no walk ends, and node 3 the True that blocks share
+    assert!(rt;
+        is_automaton(
+            alloc,
+            "X tt",
+            false,
+            4,
+            "0 1 3 ",
+            &[("", "0>1! 1>2! 2>2! ")]
+        )?
+    );
+    // nothing leads past a constant that is false
+    assert!(rt; is_automaton(alloc, "ff", false, 3, "0 2 ", &[("", "1>1! ")])?);
+    // where g and r differ at some place
+    let differ = [
+        ("", "0>0 1>1! "),
+        ("g", "0>0 0>1! 1>1! "),
+        ("r", "0>0 0>1! 1>1! "),
+        ("gr", "0>0 1>1! "),
+    ];
+    assert!(rt; is_automaton(alloc, "G(g <-> r)", true, 12, "0 10 ", &differ)?);
+    Ok(())
+}
