@@ -1,16 +1,17 @@
--- Graphs of closures that are worked out by hand: what is to be seen of each value of a list, so that they are such graphs.
+-- Graphs of closures that are worked out by hand: what is to be seen of each value of a list.
 --
 -- Each value has a rank, its number, so that none stands twice and its children are found.
 --
---   EachAt P a xs, Each P xs == P holds of each entry of xs and its place, where the first place is a; and where places don't matter
+--   EachAt P a xs            == P holds of each entry of xs and its place, where the first place is a
+--   Each P xs                == P holds of each entry of xs
 --   IsListed g root rest rank == the values of the graph are the root and these, by their ranks
 --   listed_graph             == then it is the graph of the closure
-use Rattle.std.proofs.Common.{ℕ, zero, suc, ◌≡◌, ◌+◌, ◌<◌, ◌⊎◌, ◌↔◌, inl, inr, arith, List, [], ◌∷◌, length, map, get_or, slice_get, Some, refl, sym, ap, ◌∙◌, subst}
+use Rattle.std.proofs.Common.{ℕ, zero, suc, ◌≡◌, ◌+◌, ◌<◌, inl, inr, arith, List, [], ◌∷◌, length, map, get_or, slice_get, Some, refl, sym, ap, ◌∙◌, subst}
 use Rattle.std.specs.List.{flat_map, range_with_len}
 use Rattle.std.proofs.lemmas.List.FromFn.{get_or-range_with_len, length-range_with_len}
 use Rattle.std.proofs.lemmas.List.{length-map}
 use Rattle.std.proofs.lemmas.Option.{same_Some}
-use Rattle.ml_lists.specs.BreadthFirst.{IsBreadthFirst, each_once}
+use Rattle.ml_lists.specs.BreadthFirst.{each_once}
 use Rattle.ml_lists.specs.Member.{IsMember}
 use Rattle.ml_lists.proofs.Entries.{some_entry}
 use Rattle.ml_lists.proofs.Member.{member_of_get}
@@ -20,7 +21,6 @@ use Rattle.ml_nodes.specs.ClosureGraph.{Forms, HasForm, IsGraphFrom, IsReached, 
 -- ---- lists
 
 infixr 4 ◌&◌
-
 -- P holds of each entry and its place, where the first place is a: one proof after the other, and `done`
 pub data EachAt {X : Type 0} (P : ℕ → X → Type 0) : ℕ → List X → Type 0 where
   done : {a : ℕ} → EachAt P a []
@@ -93,8 +93,9 @@ module _ {P : Type 0} (F : Forms P) (g : Graph) (root : P) (rest : List P) (rank
         (λ p. Each (λ q. slice_get (root ∷ rest) (rank q) ≡ Some q) (children (F.form_of p)))
         (root ∷ rest)
     pub reached : Each (IsReached F root) (root ∷ rest)
-    pub forms : EachAt (λ n p. HasForm g (root ∷ rest) (node_at g n) (F.form_of p) × (priority_at g n ≡ F.priority_of p)) 0
-        (root ∷ rest)
+    pub forms : EachAt
+        (λ n p. HasForm g (root ∷ rest) (node_at g n) (F.form_of p) × (priority_at g n ≡ F.priority_of p))
+        0 (root ∷ rest)
     pub in_order : range_with_len 0 (size g) ≡ each_once (0 ∷ flat_map (λ (row : List ℕ). row) (map row_of g.nodes))
     pub earlier : EachAt (λ k p. (j : ℕ) × (j < k) × IsMember k (get_or (map row_of g.nodes) j [])) 1 rest
 
@@ -140,7 +141,10 @@ module _ {P : Type 0} (F : Forms P) (g : Graph) (root : P) (rest : List P) (rank
       is_numbered = (
         places,
         record {
-          is_closure = record { once = once; are_reached = λ p. (of_each (IsReached F root) 0 places L.reached p, inside p) };
+          is_closure = record {
+            once = once;
+            are_reached = λ p. (of_each (IsReached F root) 0 places L.reached p, inside p);
+          };
           one_each = L.one_each;
           has_forms = λ n p e. (at n p e).0;
           has_priorities = λ n p e. (at n p e).1;

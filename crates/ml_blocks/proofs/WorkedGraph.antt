@@ -7,9 +7,8 @@
 --   is_its_graph         == the graph is that of the problem
 --   turning              == a structure: 0 leads to itself and to 1, and 1, where p is true, to itself
 --   holds_at_turn        == so by the law the graph holds at 0
-use Rattle.std.proofs.Common.{ℕ, zero, suc, ◌≡◌, ◌+◌, ◌<◌, ◌==◌, inl, inr, true, false, if◌then◌else◌, List, [], ◌∷◌, Option, Some, None, codes, refl, sym, ap, subst, ⊎_elim, arith, get_or}
-use Rattle.std.specs.List.{IsDistinct, slice_get, range_with_len}
-use Rattle.std.proofs.lemmas.Option.{same_Some}
+use Rattle.std.proofs.Common.{ℕ, zero, suc, ◌≡◌, ◌+◌, ◌<◌, ◌==◌, inl, inr, true, false, if◌then◌else◌, List, [], ◌∷◌, codes, refl, ap, ⊎_elim, arith, get_or}
+use Rattle.std.specs.List.{IsDistinct}
 use Rattle.ml_lists.specs.Lasso.{Lasso}
 use Rattle.ml_lists.specs.Member.{IsMember}
 use Rattle.ml_lists.proofs.Member.{member-All}
@@ -18,7 +17,7 @@ use Rattle.ml_base.specs.Structure.{Structure, IsStructure}
 use Rattle.ml_parity.specs.declared.players.Player.TheVariants.{Odd}
 use Rattle.ml_parity.specs.Winner.{Wins}
 use Rattle.ml_graph.specs.CheckingGame.{Pair, Holds, checking_game, vertex_number}
-use Rattle.ml_graph.specs.Graph.{Graph, IsGraph, references, node_at, priority_at}
+use Rattle.ml_graph.specs.Graph.{Graph, IsGraph, references}
 use Rattle.ml_graph.specs.declared.node.Node.TheVariants as node
 use Rattle.ml_graph.proofs.References.{all_in_range}
 use Rattle.ml_ctl.specs.Formula.{Formula, Prop, Temporal, Quantified}
@@ -27,7 +26,7 @@ use Rattle.ml_ctl.specs.declared.term.Quantifier.TheVariants.{Exists}
 use Rattle.ml_ctl.specs.Meaning.{HoldsAt}
 use Rattle.ml_ctl.specs.Problem.{IsAdmitted}
 use Rattle.ml_ctl.specs.Paths.{IsPathFrom, has_step}
-use Rattle.ml_blocks.specs.BlockGraph.{IsGraphAt, IsClosure, IsReached, at_root, behind, HasForm, children, linear_start_of}
+use Rattle.ml_blocks.specs.BlockGraph.{IsGraphAt, IsReached, at_root, behind, linear_start_of}
 use Rattle.ml_blocks.specs.Items.{Item, now, put_off}
 use Rattle.ml_blocks.specs.Places.{Place, Path, Root, Total, HasEdge, LeadsOn, True, Holding, forms}
 use Rattle.ml_blocks.proofs.Agreement.{linear_graphs_agree}

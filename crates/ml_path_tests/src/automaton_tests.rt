@@ -11,10 +11,10 @@ use std::test::Fail;
 fn present(alloc: Global, graph: &ModalGraph, letters: &str) -> Result<IdSet, Fail> {
     let mut numbers = IdSet::new(alloc);
     for (number, name) in graph.props().iter().enumerate() {
-        if let [letter] = name.bytes()
+        if let ([letter], Ok(number)) = (name.bytes(), u32::try_from(number))
             && letters.as_bytes().contains(letter)
         {
-            numbers.insert(number as u32)?;
+            numbers.insert(number)?;
         }
     }
     Ok(numbers)

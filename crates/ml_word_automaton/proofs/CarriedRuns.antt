@@ -1,8 +1,8 @@
 -- Runs of one automaton carried over to another one, which reads letters for letters.
 --
--- A relation joins states of the two automata. Where each transition from a joined state goes along with one of the other
--- automaton to a state that is joined again, so does each run; and where a state is joined to one other alone, what the one
--- automaton accepts the other does.
+-- A relation joins states of the two automata. Where each transition from a joined state goes along with one of the
+-- other automaton to a state that is joined again, so does each run; and where a state is joined to one other alone,
+-- what the one automaton accepts the other does.
 --
 --   read_as h w       == the word w, read letter by letter
 --   stem_read, turn_read, turns_read == the parts of such a word

@@ -85,7 +85,8 @@ module _ (g : Graph) (numbers : List ℕ) (p n : ℕ) where
       (inl (ap (λ c. transition p (get_or numbers q 0) c) edge.accepts))
   end_moves q b (inr top) =
       subst (λ v. IsMember (transition p (get_or numbers q 0) b) (moves_at g numbers p n v)) (sym top.is)
-      (inl (ap (λ k. transition p (get_or numbers k 0) b) top.same ∙ ap (λ c. transition p (get_or numbers n 0) c) top.accepts))
+      (inl (ap (λ k. transition p (get_or numbers k 0) b) top.same
+      ∙ ap (λ c. transition p (get_or numbers n 0) c) top.accepts))
 
 -- ---- states
 
@@ -158,12 +159,14 @@ module _ (a : Automaton) (numbers : List ℕ) (H : IsHeld a.graph a.states numbe
               node = m.node;
               is_end = m.is_end;
               is_state =
-                  end_state a.graph present (node_of a p) e.at m.node t.accepting (state_at a H.listed p low) e.comes m.is_end;
+                  end_state a.graph present (node_of a p) e.at m.node t.accepting (state_at a H.listed p low) e.comes
+                  m.is_end;
               to_is = ap (λ (x : Transition). x.to) m.is;
             }
 
     to_low : (t : Transition) → IsMade t → t.to < length a.states
-    to_low t m = let has = number_of m.node m.is_state in let low = has.is_low in let is = m.to_is in omega (arith, low, is)
+    to_low t m =
+        let has = number_of m.node m.is_state in let low = has.is_low in let is = m.to_is in omega (arith, low, is)
 
     pub all_small : HasSmallEnds ts
     all_small =
@@ -178,7 +181,10 @@ module _ (a : Automaton) (numbers : List ℕ) (H : IsHeld a.graph a.states numbe
     pub all_transitions : (letter : Letter) → AreThoseIn a.graph letter present → HasTransitions a letter ts
     all_transitions letter are t = (there, back)
       where
-        leads_to : (s n q : ℕ) → Walks a.graph letter s n → IsEnd a.graph n q t.accepting → Leads a.graph letter s q t.accepting
+        leads_to : (s n q : ℕ)
+            → Walks a.graph letter s n
+            → IsEnd a.graph n q t.accepting
+            → Leads a.graph letter s q t.accepting
         leads_to s n q walks (inl edge) = inl (record {
           diamond = n;
           action = edge.action;
@@ -196,7 +202,8 @@ module _ (a : Automaton) (numbers : List ℕ) (H : IsHeld a.graph a.states numbe
         there i =
             let m = made t i in
             let has = number_of m.node m.is_state in
-            let walks = walks_there a.graph present ok letter are (node_of a t.from) m.at (node_low t.from m.from_low) m.comes in
+            let walks =
+            walks_there a.graph present ok letter are (node_of a t.from) m.at (node_low t.from m.from_low) m.comes in
             let node_is : node_of a t.to ≡ m.node = ap (λ k. get_or a.states k 0) m.to_is ∙ has.is in record {
               from_state = m.from_low;
               to_state = to_low t m;
@@ -218,7 +225,8 @@ module _ (a : Automaton) (numbers : List ℕ) (H : IsHeld a.graph a.states numbe
                   is.from_state,
                   record {
                     at = n;
-                    comes = walks_back a.graph present ok letter are (node_of a t.from) n (node_low t.from is.from_state) walks;
+                    comes =
+                        walks_back a.graph present ok letter are (node_of a t.from) n (node_low t.from is.from_state) walks;
                     is_one =
                         subst (λ k. IsMember (transition t.from k t.accepting) (moves a.graph numbers t.from n))
                         (number_is t.to is.to_state) (end_moves a.graph numbers t.from n (node_of a t.to) t.accepting end);

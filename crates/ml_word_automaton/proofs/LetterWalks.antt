@@ -74,7 +74,8 @@ module _ (p n : ℕ) (seen : List (Option ℕ)) (low : n < length seen) where
 
 -- ---- a walk
 
-module _ (next : ℕ → List ℕ) (ends : ℕ → List Transition) (p s : ℕ) (before : List (Option ℕ)) (old : List Transition) where
+module _ (next : ℕ → List ℕ) (ends : ℕ → List Transition) (p s : ℕ)
+    (before : List (Option ℕ)) (old : List Transition) where
   pub walk_begins : ((n : ℕ) → last before n ≡ Some p → ⊥) → IsWalk next ends p s before old before (s ∷ []) old
   walk_begins new = record {
     seen_more = record { as_long = refl; others = λ n q e. inl e };
@@ -240,7 +241,9 @@ module _ (next : ℕ → List ℕ) (ends : ℕ → List Transition) (p s : ℕ) 
             subst (λ xs. 2 * unseen p xs + length front < 2 * unseen p seen + length waiting) (sym visit) (passes_less e)
 
         module _ (waiting2 : List ℕ) (longer : waiting2 ≡ front ++ next n) where
-          pub went_on : (ts2 : List Transition) → ts2 ≡ ts ++ ends n → IsWalk next ends p s before old seen2 waiting2 ts2
+          pub went_on : (ts2 : List Transition)
+              → ts2 ≡ ts ++ ends n
+              → IsWalk next ends p s before old seen2 waiting2 ts2
           went_on ts2 more =
               subst (λ us. IsWalk next ends p s before old seen2 waiting2 us) (sym more)
               (subst (λ xs. IsWalk next ends p s before old seen2 xs (ts ++ ends n)) (sym longer)

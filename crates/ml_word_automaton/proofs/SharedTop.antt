@@ -1,6 +1,6 @@
 -- The states that are True are one: the True that all blocks share.
 --
---   Shape f            == how a block that asks for a path leads on: along an edge, past a state node, or to blocks at the place
+--   Shape f            == how a block that asks for a path leads on: along an edge, past a state node, or to blocks
 --   shape_of           == so each such block does
 --   Kind p             == p is such a block, or the True that they share, or a constant or proposition beside one
 --   kinds              == so is each node that is reached
@@ -119,7 +119,10 @@ module _ (f : Formula) (sign : Bool) (linear : is_linear f ≡ true) where
       by_child (inr (inl is)) = of_block zs k of_zs is
       by_child (inr (inr none)) = absurd none
 
-  atom_alone : (n : ℕ) (h : Formula) (b : Bool) (p : Place) → IsAtom h → IsMember p (children (form_of (Holding n h b))) → ⊥
+  atom_alone : (n : ℕ) (h : Formula) (b : Bool) (p : Place)
+      → IsAtom h
+      → IsMember p (children (form_of (Holding n h b)))
+      → ⊥
   atom_alone n h b p (inl (c, is)) m = subst (λ x. IsMember p (children (form_of (Holding n x b)))) is m
   atom_alone n h b p (inr (name, is)) m = subst (λ x. IsMember p (children (form_of (Holding n x b)))) is m
 
@@ -227,7 +230,8 @@ module _ (f : Formula) (sign : Bool) (linear : is_linear f ≡ true) where
         by_kind : (p : Place) → Stands m p → Kind p → OfBlock n
         by_kind p e (of_block [] k of is) = absurd (constant_alone (node_at g m) true n (has m p (at [] k) e is) goes)
         by_kind p e (of_block (y ∷ ys) k of is) =
-            block_behind (node_at g m) (form_of (at (y ∷ ys) k)) n (shape_of y ys k of) (has m p (at (y ∷ ys) k) e is) goes
+            block_behind (node_at g m) (form_of (at (y ∷ ys) k)) n (shape_of y ys k of)
+            (has m p (at (y ∷ ys) k) e is) goes
         by_kind p e (of_atom j h b atom is) = by_atom j h b atom (has m p (Holding j h b) e is)
 
     -- a block that is True has no items

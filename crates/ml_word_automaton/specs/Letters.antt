@@ -1,13 +1,13 @@
 -- The word automaton of a problem as a value: its graph, its states, and the transitions under a letter by numbers.
 --
--- A walk begins at a state and leads to states. The states are node 0, where the automaton begins; the nodes to which a Diamond
--- leads; and True, where a block goes on to it: as the right child of an And, or as a child of an Or. (The left child of an And
--- is a state node, at which no walk ends.) The nodes of the states are listed in ascending order, and a state's number is its
--- place in this list, so node 0 is state 0.
+-- A walk begins at a state and leads to states. The states are node 0, where the automaton begins; the nodes to which a
+-- Diamond leads; and True, where a block goes on to it: as the right child of an And, or as a child of an Or. (The left
+-- child of an And is a state node, at which no walk ends.) The nodes of the states are listed in ascending order, and a
+-- state's number is its place in this list, so node 0 is state 0.
 --
--- Under a letter there are the transitions by which it leads between states. Of the letter only those propositions matter
--- that the graph has. A row has a list of transitions for each of finitely many letters: so a word of places in the row
--- stands for a word of letters.
+-- Under a letter there are the transitions by which it leads between states. Of the letter only those propositions
+-- matter that the graph has. A row has a list of transitions for each of finitely many letters: so a word of places in
+-- the row stands for a word of letters.
 --
 --   Automaton                       == a graph, and the nodes of its states
 --   GoesOn v n                      == the node v of a block goes on to n

@@ -22,8 +22,8 @@ of-requires-2-clause-names c =
 pub returns-in_err-draft-clause-too_large : goal.returns-in_err-draft-clause-too_large
 returns-in_err-draft-clause-too_large c = λ e.
     let table = c.in_ok-table.table in
-    closure_large (formula_of c.args.term.now) c.args.first c.args.positive c.args.beginning c.args.max c.in_ok-names.names.props.keys
-    table.occurrences.items (lists_of table.eventualities.items) c.in_ok-names.ensures c.in_ok-table.ensures.occurrences
+    closure_large (formula_of c.args.term.now) c.args.first c.args.positive c.args.beginning c.args.max
+    c.in_ok-names.names.props.keys table.occurrences.items (lists_of table.eventualities.items) c.in_ok-names.ensures c.in_ok-table.ensures.occurrences
     c.in_ok-table.ensures.eventualities (c.in_err-draft.ensures.too_large (search rules))
 
 pub build-requires-clause-actions : goal.build-requires-clause-actions
@@ -35,8 +35,8 @@ unreachable-requires c =
     let draft = c.in_ok-draft.draft in
     let g = graph_of draft.nodes draft.priorities 0 c.in_ok-props.props c.in_ok-actions.actions in
     let is =
-    graph_made (formula_of c.args.term.now) c.args.first c.args.positive c.args.beginning c.args.max c.in_ok-names.names.props.keys
-    table.occurrences.items (lists_of table.eventualities.items) c.in_ok-names.ensures c.in_ok-table.ensures.occurrences
+    graph_made (formula_of c.args.term.now) c.args.first c.args.positive c.args.beginning c.args.max
+    c.in_ok-names.names.props.keys table.occurrences.items (lists_of table.eventualities.items) c.in_ok-names.ensures c.in_ok-table.ensures.occurrences
     c.in_ok-table.ensures.eventualities draft.spots.keys draft.nodes.items draft.priorities.items
     c.in_ok-draft.ensures.draft c.in_ok-draft.ensures.whole g refl refl refl c.in_ok-props.ensures
     c.in_ok-actions.ensures in
@@ -50,8 +50,8 @@ returns-clause-graph c =
     let draft = c.in_ok-draft.draft in
     let g = graph_of draft.nodes draft.priorities 0 c.in_ok-props.props c.in_ok-actions.actions in
     let is =
-    graph_made f c.args.first c.args.positive c.args.beginning c.args.max c.in_ok-names.names.props.keys table.occurrences.items
-    (lists_of table.eventualities.items) c.in_ok-names.ensures c.in_ok-table.ensures.occurrences
+    graph_made f c.args.first c.args.positive c.args.beginning c.args.max c.in_ok-names.names.props.keys
+    table.occurrences.items (lists_of table.eventualities.items) c.in_ok-names.ensures c.in_ok-table.ensures.occurrences
     c.in_ok-table.ensures.eventualities draft.spots.keys draft.nodes.items draft.priorities.items
     c.in_ok-draft.ensures.draft c.in_ok-draft.ensures.whole g refl refl refl c.in_ok-props.ensures
     c.in_ok-actions.ensures in

@@ -28,4 +28,5 @@ returns-in_err-step-clause-too_large c = λ e.
     let draft = c.loop-alloc.draft in
     no_room c.args.table.now.occurrences.items (lists_of c.args.table.now.eventualities.items)
     (start_in c.args.first c.args.positive) (begin_in c.args.beginning c.args.first c.args.positive) c.args.max
-    draft.spots.keys draft.nodes.items draft.priorities.items c.loop-alloc.invariant (c.in_err-step.ensures.full (search rules))
+    draft.spots.keys draft.nodes.items draft.priorities.items c.loop-alloc.invariant
+    (c.in_err-step.ensures.full (search rules))

@@ -15,7 +15,10 @@ returns-clause-draft c = λ os lists first.
     let none : c.new-spots.result.keys ≡ [] = search rules in
     let nodes : c.new.result.items ≡ [] = search rules in
     let priorities : c.new-2.result.items ≡ [] = search rules in
-    let added = subst (λ xs. IsAdded xs c.args.root c.number.new.spots.keys c.in_ok-number.field-0) none c.in_ok-number.ensures.added in
-    let draft = one_spot os lists first c.args.root c.args.max c.number.new.spots.keys c.in_ok-number.field-0 added c.in_ok-number.ensures.few in
-    subst (λ ps. IsDraft os lists first c.args.root c.args.max c.number.new.spots.keys c.new.result.items ps) (sym priorities)
-    (subst (λ vs. IsDraft os lists first c.args.root c.args.max c.number.new.spots.keys vs []) (sym nodes) draft)
+    let root = c.args.root in
+    let spots = c.number.new.spots.keys in
+    let added = subst (λ xs. IsAdded xs root spots c.in_ok-number.field-0) none c.in_ok-number.ensures.added in
+    let few = c.in_ok-number.ensures.few in
+    let draft = one_spot os lists first root c.args.max spots c.in_ok-number.field-0 added few in
+    subst (λ ps. IsDraft os lists first root c.args.max spots c.new.result.items ps) (sym priorities)
+    (subst (λ vs. IsDraft os lists first root c.args.max spots vs []) (sym nodes) draft)

@@ -13,7 +13,8 @@ loop-n-preserved c =
     let is_states : c.add_number.new.states.items ≡ states ++ (if mark marks n then n ∷ [] else []) = search (rules) in
     let is_numbers : c.add_number.new.numbers.items ≡ numbers ++ length states ∷ [] = search (rules) in
     subst (λ (xs : List _). AreNumberedBelow (n + 1) marks xs c.add_number.new.numbers.items) (sym is_states)
-    (subst (λ (xs : List _). AreNumberedBelow (n + 1) marks (states ++ (if mark marks n then n ∷ [] else [])) xs) (sym is_numbers) next)
+    (subst (λ (xs : List _). AreNumberedBelow (n + 1) marks (states ++ (if mark marks n then n ∷ [] else [])) xs)
+    (sym is_numbers) next)
 
 pub returns : goal.returns
 returns c =

@@ -10,7 +10,7 @@ is_true-requires c =
 pub bounds-reading-to : goal.bounds-reading-to
 bounds-reading-to c =
     let low =
-    diamond_target c.args.reading.now.graph.now c.requires.graph c.args.n c.requires.node c.in-Diamond.action c.in-Diamond.to
-    (sym c.node.ensures ∙ c.in-Diamond.is) in
+    diamond_target c.args.reading.now.graph.now c.requires.graph c.args.n c.requires.node c.in-Diamond.action
+    c.in-Diamond.to (sym c.node.ensures ∙ c.in-Diamond.is) in
     let long = c.requires.numbers in
     omega (arith, low, long)
