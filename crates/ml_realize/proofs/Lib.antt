@@ -6,3 +6,5 @@ pub mod GameImages
 pub mod HistoryGame
 -- what is made is right
 pub mod RightOutcomes
+-- what is played answers the task
+pub mod Found

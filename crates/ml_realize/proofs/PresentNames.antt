@@ -2,13 +2,14 @@
 --
 --   members_append       == a set of names that stand one behind the other is one of each
 --   has_append           == so a name is in it if it is in one of them
+--   valuations_are_sets  == the letter of a valuation has the names of both its sets
 --   AreBelow g letter n set == the set has the numbers below n of the graph's propositions that are in the letter
 --   with_number          == a set of numbers with one more
 --   first_more           == a row of letters with one more
 --   one_more             == so it has those below the next number, once this one is added where it is in the letter
-use Rattle.std.proofs.Common.{◌≡◌, ℕ, ◌+◌, ◌/◌, ◌%◌, ◌^◌, ◌<◌, ◌≤◌, ◌==◌, ◌||◌, ◌↔◌, ◌⊎◌, get_or, refl, subst, Bool, true, false, List, [], ◌∷◌, ◌++◌, length, inl, inr, sym, ap, ◌∙◌, arith, bytes_eq, if◌then◌else◌}
+use Rattle.std.proofs.Common.{◌≡◌, ℕ, ◌+◌, ◌*◌, ◌/◌, ◌%◌, ◌^◌, ◌<◌, ◌≤◌, ◌==◌, ◌||◌, ◌↔◌, ◌⊎◌, get_or, refl, subst, Bool, true, false, List, [], ◌∷◌, ◌++◌, length, inl, inr, sym, ap, ◌∙◌, arith, bytes_eq, if◌then◌else◌}
 use Rattle.std.specs.List.{list_any}
-use Rattle.std.proofs.Math.Nat.{div-div-eq-div-mul, pow-suc}
+use Rattle.std.proofs.Math.Nat.{add-mul-div_left, add-mul-mod_self_left, div-div-eq-div-mul, mul_assoc, mul_comm, pow-suc}
 use Rattle.std.proofs.Math.ListN.{get_or-append}
 use Rattle.std.proofs.Math.Seq.{get_or-append_seam}
 use Rattle.std.proofs.lemmas.Bool.{cases_lt}
@@ -18,10 +19,13 @@ use Rattle.ml_graph.specs.Graph.{Graph, prop_at}
 use Rattle.ml_lists.specs.Ascending.{insert_once}
 use Rattle.ml_lists.specs.Member.{IsMember}
 use Rattle.ml_lists.proofs.Ascending.{insert_once-keeps, insert_once-member, member-insert_once}
+use Rattle.ml_synthesis.specs.Machines.{valuation}
+use Rattle.ml_synthesis.proofs.AlongWords.{letter_parts}
 use Rattle.ml_task.specs.NameSets.{members}
 use Rattle.ml_trace.specs.declared.letters.Transition.{Transition}
 use Rattle.ml_word_automaton.specs.Letters.{Automaton, HasTransitions}
 use Rattle.ml_word_automaton.specs.Words.{Letter, has}
+use Rattle.ml_realize.specs.Laws.{ValuationsAreSets}
 use Rattle.ml_realize.specs.private.Rows.{AreFirst}
 
 pub members_append : (ns ms : List (List ℕ)) (s : ℕ) → members (ns ++ ms) s ≡ members ns s ++ members ms (s / 2 ^ length ns)
@@ -43,6 +47,23 @@ pub has_append : (ns ms : List (List ℕ)) (s : ℕ) (p : List ℕ)
 has_append ns ms s p =
     ap (λ letter. has letter p) (members_append ns ms s)
     ∙ list_any-append (λ q. bytes_eq q p) (members ns s) (members ms (s / 2 ^ length ns))
+
+-- the bits above those of the names don't matter
+members_below : (ns : List (List ℕ)) (s u : ℕ) → members ns (s + 2 ^ length ns * u) ≡ members ns s
+members_below [] s u = refl
+members_below (n ∷ ns) s u =
+    let k = 2 ^ length ns * u in
+    let whole : s + 2 ^ length (n ∷ ns) * u ≡ s + 2 * k =
+    ap (λ p. s + p) (ap (λ p. p * u) (pow-suc 2 (length ns) ∙ mul_comm (2 ^ length ns) 2) ∙ mul_assoc 2 (2 ^ length ns) u) in
+    let bit : (s + 2 ^ length (n ∷ ns) * u) % 2 ≡ s % 2 = ap (λ p. p % 2) whole ∙ add-mul-mod_self_left s 2 k in
+    let rest : (s + 2 ^ length (n ∷ ns) * u) / 2 ≡ s / 2 + k = ap (λ p. p / 2) whole ∙ add-mul-div_left s k (omega arith) in
+    let later = ap (members ns) rest ∙ members_below ns (s / 2) u in
+    λ j. if bit j == 1 then n ∷ later j else later j
+
+pub valuations_are_sets : ValuationsAreSets
+valuations_are_sets ins outs s u low =
+    members_append ins outs (valuation (length ins) s u)
+    ∙ (λ j. members_below ins s u j ++ members outs ((letter_parts (2 ^ length ins) (valuation (length ins) s u) s u low refl).outputs j))
 
 abbrev pub AreBelow : Graph → Letter → ℕ → List ℕ → Type 0
 AreBelow g letter n set = (p : ℕ) → IsMember p set ↔ ((p < n) × (has letter (prop_at g p) ≡ true))

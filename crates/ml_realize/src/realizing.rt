@@ -51,14 +51,19 @@ pub fn realize(alloc: Global, task: &Task, limit: u32) -> Result<Outcome, Realiz
     };
     let row = letters(alloc, &automaton, &task.inputs, &task.outputs)?;
     let states = automaton.states().len() as u32;
-    play(
-        alloc,
-        states,
-        &row,
-        task.inputs.len() as u32,
-        task.outputs.len() as u32,
-        limit,
-    )
+    let (inputs, outputs) = (task.inputs.len() as u32, task.outputs.len() as u32);
+    match play(alloc, states, &row, inputs, outputs, limit) {
+        Ok(outcome) => Ok(outcome),
+        Err(refusal) => Err(refusal),
+    }
+}
+
+// how many sets of so many names there are
+fn sets(names: u32) -> u32
+    requires { names ≤ 8 }
+    ensures { result ≡ 2 ^ names }
+{
+    1 << names
 }
 
 // The game over the histories of a Büchi automaton that begins in state 0, with a letter for each valuation.
@@ -81,7 +86,7 @@ fn play(
     ensures not_large { ¬ (IsErrOf result refusal.ClosureTooLarge) }
 {
     // each history has a position for each set of inputs
-    let most = limit / (1 << inputs);
+    let most = limit / sets(inputs);
     if most == 0 {
         return Err(RealizeRefusal::Passed);
     }
@@ -90,7 +95,7 @@ fn play(
         Err(DetRefusal::Passed) => return Err(RealizeRefusal::Passed),
         Err(DetRefusal::NoMemory) => return Err(RealizeRefusal::NoMemory),
     };
-    match synthesise(alloc, &moves, inputs, outputs, 2 * states + 2, limit) {
+    match synthesise(alloc, &moves, inputs, outputs, 2 * (states + 1), limit) {
         Ok(outcome) => Ok(outcome),
         Err(SynthesisRefusal::Passed) => Err(RealizeRefusal::Passed),
         Err(SynthesisRefusal::NoMemory) => Err(RealizeRefusal::NoMemory),
