@@ -12,11 +12,11 @@ use Rattle.ml_base.specs.Whole.{AppendsPart}
 use Rattle.ml_front.specs.declared.answer.Answer.{Answer}
 use Rattle.ml_front.specs.declared.answer.Answer.TheVariants as answer
 use Rattle.ml_driver.specs.declared.command.Command.{Command}
-use Rattle.ml_driver.specs.declared.command.Command.TheVariants.{Decide, Valid, Find, Prove, CheckModel, CheckRefutation, Migrate, Quotient, SolveGame, Determinise, Gen, Bench}
+use Rattle.ml_driver.specs.declared.command.Command.TheVariants.{Decide, Valid, Find, Prove, CheckModel, CheckRefutation, Migrate, Quotient, SolveGame, Determinise, Realize, Gen, Bench}
 use Rattle.ml_driver.specs.declared.status.Status.{Status}
 use Rattle.ml_driver.specs.declared.status.Status.TheVariants.{Yes, No, Undecided, Words, Text, ReadFault, WriteFault, NoMemory}
 use Rattle.ml_driver.specs.Bench.{answer_of, status_of}
-use Rattle.ml_driver.specs.Statuses.{code_of, longest_automaton, longest_document, longest_game, longest_input, longest_text, refused_length}
+use Rattle.ml_driver.specs.Statuses.{code_of, longest_automaton, longest_document, longest_game, longest_input, longest_task, longest_text, refused_length}
 use Rattle.ml_driver.specs.Run.{as_document, document_by_length, input_limit, GaveUpTo, IsCalm, IsDue, IsTooLong, LackedMemory}
 use Rattle.ml_driver.specs.Run.{World, WasGiven, WasRead, IsWhole, Answered, FailedToWrite, Ended, Wrote}
 
@@ -39,6 +39,7 @@ no_fault_due (Some Migrate) text output due = due
 no_fault_due (Some Quotient) text output due = due
 no_fault_due (Some (SolveGame e)) text output due = due
 no_fault_due (Some (Determinise n)) text output due = due
+no_fault_due (Some (Realize n)) text output due = due.is_so
 no_fault_due (Some (Gen f n)) text output due = due
 no_fault_due (Some (Bench f n)) text output due =
     absurd (omega (arith, calm_status (answer_of due.finding) ReadFault due.status_is))
@@ -55,6 +56,7 @@ no_write_fault_due (Some Migrate) text output due = due
 no_write_fault_due (Some Quotient) text output due = due
 no_write_fault_due (Some (SolveGame e)) text output due = due
 no_write_fault_due (Some (Determinise n)) text output due = due
+no_write_fault_due (Some (Realize n)) text output due = due.is_so
 no_write_fault_due (Some (Gen f n)) text output due = due
 no_write_fault_due (Some (Bench f n)) text output due =
     absurd (omega (arith, calm_status (answer_of due.finding) WriteFault due.status_is))
@@ -71,6 +73,7 @@ no_want_due (Some Migrate) text output due = due
 no_want_due (Some Quotient) text output due = due
 no_want_due (Some (SolveGame e)) text output due = due
 no_want_due (Some (Determinise n)) text output due = due
+no_want_due (Some (Realize n)) text output due = due.is_so
 no_want_due (Some (Gen f n)) text output due = due
 no_want_due (Some (Bench f n)) text output due =
     absurd (omega (arith, calm_status (answer_of due.finding) NoMemory due.status_is))
@@ -149,6 +152,7 @@ too_long_due Migrate k text is long = document_by_length (past_limit longest_doc
 too_long_due Quotient k text is long = document_by_length (past_limit longest_document k text is long)
 too_long_due (SolveGame e) k text is long = inl (past_limit longest_game k text is long)
 too_long_due (Determinise n) k text is long = inl (past_limit longest_automaton k text is long)
+too_long_due (Realize n) k text is long = inl (past_limit longest_task k text is long)
 too_long_due (Gen f n) k text is long = absurd (cc)
 too_long_due (Bench f n) k text is long = absurd (cc)
 

@@ -14,6 +14,8 @@ pub mod RefutationDocuments
 pub mod GameAnswers
 -- what is due for `determinise`
 pub mod AutomatonAnswers
+-- what is due for `realize`
+pub mod TaskAnswers
 -- each structure has a quotient
 pub mod SomeQuotient
 -- what is due for `quotient`

@@ -18,7 +18,7 @@ use Rattle.ml_model_check.specs.Checked.{IsCheckedAs}
 use Rattle.ml_model_check.specs.declared.checked.Checked.{Checked}
 use Rattle.ml_model_check.specs.declared.checked.Checked.TheVariants as checked
 use Rattle.ml_model_check.proofs.OneCheck.{one_check}
-use Rattle.ml_driver.specs.declared.command.Command.TheVariants.{Decide, Valid, Find, Prove, CheckModel, CheckRefutation, Migrate, Quotient, SolveGame, Determinise, Gen, Bench}
+use Rattle.ml_driver.specs.declared.command.Command.TheVariants.{Decide, Valid, Find, Prove, CheckModel, CheckRefutation, Migrate, Quotient, SolveGame, Determinise, Realize, Gen, Bench}
 use Rattle.ml_driver.specs.declared.status.Status.{Status}
 use Rattle.ml_driver.specs.declared.status.Status.TheVariants.{Yes, No, Undecided, Words, Text}
 use Rattle.ml_driver.specs.Statuses.{longest_document, refusal_line}
@@ -36,6 +36,7 @@ use Rattle.ml_driver.proofs.FamilyProblems.{one_family_problem}
 use Rattle.ml_driver.proofs.GameAnswers.{one_solved}
 use Rattle.ml_driver.proofs.Measures.{one_finding}
 use Rattle.ml_driver.proofs.QuotientAnswers.{one_quotient_due}
+use Rattle.ml_driver.proofs.TaskAnswers.{one_told}
 use Rattle.ml_driver.specs.Laws.{AgreeUnlessOpen, AnswersAreExact, IsExact, OneDue, OneMeasure, OneUnlessOpen, says, open_at, satisfiable_at, unsatisfiable_at}
 
 -- ---- words that are no command
@@ -344,6 +345,7 @@ one_due (Some Migrate) text s t out more whole x y =
 one_due (Some Quotient) text s t out more whole x y = (one_quotient_due text s t out more x y).0
 one_due (Some (SolveGame e)) text s t out more whole x y = one_solved e text s t out more x y
 one_due (Some (Determinise n)) text s t out more whole x y = (one_determinised n text s t out more x y).0
+one_due (Some (Realize n)) text s t out more whole x y = one_told n text s t out more x y
 one_due (Some (Gen f n)) text s t out more whole x y =
     let a = generated f n text s out x in
     let b = generated f n text t more y in
@@ -364,6 +366,7 @@ one_unless_open (Some Quotient) text s t out more x y = inl (one_due (Some Quoti
 one_unless_open (Some (SolveGame e)) text s t out more x y = inl (one_due (Some (SolveGame e)) text s t out more refl x y)
 one_unless_open (Some (Determinise n)) text s t out more x y =
     inl (one_due (Some (Determinise n)) text s t out more refl x y)
+one_unless_open (Some (Realize n)) text s t out more x y = inl (one_due (Some (Realize n)) text s t out more refl x y)
 one_unless_open (Some (Gen f n)) text s t out more x y = inl (one_due (Some (Gen f n)) text s t out more refl x y)
 one_unless_open (Some (Bench f n)) text s t out more x y = inl (one_due (Some (Bench f n)) text s t out more refl x y)
 

@@ -28,7 +28,8 @@ use Rattle.ml_driver.proofs.GameAnswers.{on_game}
 use Rattle.ml_driver.proofs.Measures.{some_finding}
 use Rattle.ml_driver.specs.declared.question.Way.TheVariants.{WholeGame, Search}
 use Rattle.ml_driver.proofs.QuotientAnswers.{on_structure}
-use Rattle.ml_driver.specs.declared.command.Command.TheVariants.{Decide, Valid, Find, Prove, CheckModel, CheckRefutation, Migrate, Quotient, SolveGame, Determinise, Gen, Bench}
+use Rattle.ml_driver.proofs.TaskAnswers.{on_task}
+use Rattle.ml_driver.specs.declared.command.Command.TheVariants.{Decide, Valid, Find, Prove, CheckModel, CheckRefutation, Migrate, Quotient, SolveGame, Determinise, Realize, Gen, Bench}
 use Rattle.ml_driver.specs.declared.status.Status.{Status}
 use Rattle.ml_driver.specs.declared.status.Status.TheVariants.{Yes, No, Undecided, Words, Text}
 use Rattle.ml_driver.specs.Statuses.{longest_document, refused_words, refused_length, holds_line, fails_line, open_line, not_total_line, not_a_word_line, accepted_line, rejected_line, refused_document}
@@ -139,5 +140,6 @@ some_due (Some Migrate) text small = to_migrate text
 some_due (Some Quotient) text small = on_structure text
 some_due (Some (SolveGame e)) text small = on_game e text
 some_due (Some (Determinise n)) text small = on_automaton n text
+some_due (Some (Realize n)) text small = on_task n text
 some_due (Some (Gen f n)) text small = (Yes, (gen_text f n, refl))
 some_due (Some (Bench f n)) text small = of_family f n text small

@@ -96,7 +96,7 @@ FindsAsDecided = AnswersAs Find Decide
 abbrev pub ProvesAsDecided : Type 0
 ProvesAsDecided = AnswersAs Prove Valid
 
--- for `gen` and `determinise` a number may be any
+-- for `gen`, `determinise` and `realize` a number may be any
 abbrev pub HasFitNumbers : Option Command → Type 0
 HasFitNumbers (Some (Decide l n)) = n < 2 ^ 32
 HasFitNumbers (Some (Valid l n)) = n < 2 ^ 32

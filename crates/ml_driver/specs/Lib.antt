@@ -10,6 +10,8 @@ pub mod Quotients
 pub mod Games
 -- automata that are made deterministic
 pub mod Automata
+-- tasks that are realized
+pub mod Tasks
 -- what a problem is decided to be
 pub mod Decision
 -- what is written of the formulas of families

@@ -38,7 +38,7 @@ use Rattle.ml_model_check.specs.declared.checked.Checked.TheVariants.{Holds, Fai
 use Rattle.ml_refute_check.specs.Documents as refuted
 use Rattle.ml_refute_check.specs.Documents.{IsAcceptedDocument, IsMigrated, IsRejectedAt, HoldsNowhere}
 use Rattle.ml_driver.specs.declared.command.Command.{Command}
-use Rattle.ml_driver.specs.declared.command.Command.TheVariants.{Decide, Valid, Find, Prove, CheckModel, CheckRefutation, Migrate, Quotient, SolveGame, Determinise, Gen, Bench}
+use Rattle.ml_driver.specs.declared.command.Command.TheVariants.{Decide, Valid, Find, Prove, CheckModel, CheckRefutation, Migrate, Quotient, SolveGame, Determinise, Realize, Gen, Bench}
 use Rattle.ml_driver.specs.declared.status.Status.{Status}
 use Rattle.ml_driver.specs.declared.status.Status.TheVariants.{Yes, No, Undecided, Words, Text, ReadFault, WriteFault, NoMemory}
 use Rattle.ml_driver.specs.Automata.{IsRefusedAutomaton, IsWrittenFor, PassesLimit, StandsForOne}
@@ -49,6 +49,7 @@ use Rattle.ml_driver.specs.Quotients.{IsReduced}
 use Rattle.ml_driver.specs.declared.question.Question.{Question}
 use Rattle.ml_driver.specs.declared.question.Way.{Way}
 use Rattle.ml_driver.specs.declared.question.Way.TheVariants.{WholeGame, Search}
+use Rattle.ml_driver.specs.Tasks.{IsTaskAnswered}
 use Rattle.ml_front.specs.declared.logic.Logic.{Logic}
 use Rattle.ml_driver.specs.Statuses.{longest_document, longest_input, refused_words, refused_length, holds_line, fails_line, open_line, not_total_line, not_a_word_line, accepted_line, rejected_line, refused_document}
 
@@ -139,6 +140,7 @@ IsDue (Some (SolveGame e)) text Text out = IsRefusedGame text out
 IsDue (Some (Determinise n)) text Yes out = StandsForOne text (λ a. IsWrittenFor a n out)
 IsDue (Some (Determinise n)) text Undecided out = StandsForOne text (λ a. PassesLimit a n out)
 IsDue (Some (Determinise n)) text Text out = IsRefusedAutomaton text out
+IsDue (Some (Realize n)) text status out = IsTaskAnswered n text status out
 IsDue (Some (Gen f n)) text Yes out = out ≡ gen_text f n
 IsDue (Some (Bench f n)) text status out = IsBenched f n status out
 IsDue _ _ _ _ = ⊥

@@ -6,6 +6,7 @@
 --   longest_document == the limit on the length of a document
 --   longest_game     == the limit on the length of a game's text
 --   longest_automaton == the limit on the length of an automaton's text
+--   longest_task     == the limit on the length of a task's text
 --   longest_input c  == the limit on the length of the input of a command, if it takes one
 --   refused_length   == the line for a longer input
 --   holds_line       == the line for a document whose problem holds where the document says so
@@ -26,8 +27,9 @@ use Rattle.ml_lines.specs.Lines.{number, line_text}
 use Rattle.ml_front.specs.declared.problem.TheConstants.{MOST_NODES}
 use Rattle.ml_hoa.specs.declared.limits.TheConstants.{LONGEST_AUTOMATON_TEXT}
 use Rattle.ml_pgsolver.specs.declared.limits.TheConstants.{LONGEST_GAME_TEXT}
+use Rattle.ml_task.specs.declared.limits.TheConstants.{LONGEST_TASK_TEXT}
 use Rattle.ml_driver.specs.declared.command.Command.{Command}
-use Rattle.ml_driver.specs.declared.command.Command.TheVariants.{Decide, Valid, Find, Prove, CheckModel, CheckRefutation, Migrate, Quotient, SolveGame, Determinise, Gen, Bench}
+use Rattle.ml_driver.specs.declared.command.Command.TheVariants.{Decide, Valid, Find, Prove, CheckModel, CheckRefutation, Migrate, Quotient, SolveGame, Determinise, Realize, Gen, Bench}
 use Rattle.ml_driver.specs.declared.command.TheConstants.{LONGEST_TEXT, LONGEST_DOCUMENT}
 use Rattle.ml_driver.specs.declared.status.Status.{Status}
 use Rattle.ml_driver.specs.declared.status.Status.TheVariants.{Yes, No, Undecided, Words, Text, ReadFault, WriteFault, NoMemory}
@@ -57,6 +59,9 @@ longest_game = LONGEST_GAME_TEXT
 abbrev pub longest_automaton : ℕ
 longest_automaton = LONGEST_AUTOMATON_TEXT
 
+abbrev pub longest_task : ℕ
+longest_task = LONGEST_TASK_TEXT
+
 abbrev pub longest_input : Command → Option ℕ
 longest_input (Decide l n) = Some longest_text
 longest_input (Valid l n) = Some longest_text
@@ -68,6 +73,7 @@ longest_input Migrate = Some longest_document
 longest_input Quotient = Some longest_document
 longest_input (SolveGame e) = Some longest_game
 longest_input (Determinise n) = Some longest_automaton
+longest_input (Realize n) = Some longest_task
 longest_input (Gen f n) = None
 longest_input (Bench f n) = None
 

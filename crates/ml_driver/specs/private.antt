@@ -10,3 +10,5 @@ pub mod UsualNumbers
 pub mod Findings
 -- inputs of commands
 pub mod Inputs
+-- the statuses of outcomes
+pub mod Outcomes

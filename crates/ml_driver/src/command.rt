@@ -21,6 +21,7 @@ use ml_front::Logic;
 use ml_gen::Family;
 use ml_hoa::LONGEST_AUTOMATON_TEXT;
 use ml_pgsolver::LONGEST_GAME_TEXT;
+use ml_task::LONGEST_TASK_TEXT;
 use std::alloc::{AllocError, Global};
 
 /// What the words ask for.
@@ -47,6 +48,9 @@ pub enum Command {
     /// `determinise`: the deterministic automaton of the Büchi automaton on the input, which may have as many states as the
     /// limit.
     Determinise { limit: u32 },
+    /// `realize`: a machine that realizes the task on the input, or an environment that defeats it. The game may have as many
+    /// positions as the limit.
+    Realize { limit: u32 },
     /// `gen FAMILY N`: the text of the family's formula for the number. Nothing is read.
     Gen { family: Family, n: u32 },
     /// `bench FAMILY N`: the size of this formula, of its graph and of its decision game, and is it satisfiable? Nothing is
@@ -60,10 +64,10 @@ pub const LONGEST_TEXT: u64 = 1_048_576;
 /// How many bytes a document has at most, 2^63 - 1: no slice of bytes is longer.
 pub const LONGEST_DOCUMENT: u64 = 0x7fff_ffff_ffff_ffff;
 
-/// How many positions a decision game may have, or states a deterministic automaton, where the words don't say.
+/// How many positions a game may have, or states a deterministic automaton, where the words don't say.
 pub const DEFAULT_LIMIT: u32 = 50_000;
 
-/// How many positions a decision game, or states a deterministic automaton, may have at most.
+/// How many positions a game, or states a deterministic automaton, may have at most.
 pub const GREATEST_LIMIT: u32 = 200_000;
 
 /// How many digits a number has at most.
@@ -85,6 +89,7 @@ impl Command {
                 Some(LONGEST_DOCUMENT),
             Command::SolveGame { .. } => Some(LONGEST_GAME_TEXT as u64),
             Command::Determinise { .. } => Some(LONGEST_AUTOMATON_TEXT as u64),
+            Command::Realize { .. } => Some(LONGEST_TASK_TEXT as u64),
             Command::Gen { .. } | Command::Bench { .. } => None,
         }
     }
@@ -201,6 +206,8 @@ fn alone(command: &str, limit: Option<&str>) -> Option<Command>
 {
     if command == "determinise" {
         determinised_by(limit)
+    } else if command == "realize" {
+        realized_by(limit)
     } else {
         unlimited(command, limit)
     }
@@ -212,6 +219,14 @@ fn determinised_by(limit: Option<&str>) -> Option<Command>
 {
     let limit = limit_named(limit)?;
     Some(Command::Determinise { limit })
+}
+
+fn realized_by(limit: Option<&str>) -> Option<Command>
+    ensures command { result ≡ command_line.realized_by (option_map (λ s. s.now) limit.entry) }
+    ensures usual { IfSome result HasUsualNumbers }
+{
+    let limit = limit_named(limit)?;
+    Some(Command::Realize { limit })
 }
 
 fn unlimited(command: &str, limit: Option<&str>) -> Option<Command>

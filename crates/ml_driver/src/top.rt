@@ -14,6 +14,7 @@ use crate::input::input_of;
 use crate::output::Output;
 use crate::question::{Question, Way};
 use crate::quotienting::quotient_document;
+use crate::realizing::realize_text;
 use crate::solving::solve_game;
 use crate::{Command, Status, command_of};
 use ml_base::{NoMemory, ReadRefusal, Sink, Source, write_all};
@@ -30,7 +31,8 @@ use std::alloc::Global;
 ///   which the formula of the text holds, and with a refutation that is accepted, where it holds nowhere; of `valid` and
 ///   `prove` where its negation holds nowhere, and where it holds at some state; of `check-model` where the problem of the document holds at
 ///   the start of its structure, and where it doesn't; of `check-refutation` where the document's refutation is accepted,
-///   and where it isn't; of `bench` where the family's formula is satisfiable, and where it isn't, with its occurrences,
+///   and where it isn't; of `realize` with a machine that realizes the task of the text, and with an environment that
+///   defeats it; of `bench` where the family's formula is satisfiable, and where it isn't, with its occurrences,
 ///   the nodes of its graph and the positions of its game counted; `Yes` of `migrate` with the document that is written
 ///   of the same refutation, of `quotient` with the document of the same problem that has the quotient of the structure and
 ///   the class of the start, of `solve-game` with the text of a solution, of `determinise` with the text of the
@@ -38,7 +40,8 @@ use std::alloc::Global;
 /// - `Undecided` of `decide`, `valid` and `bench` exactly where the closure of the problem has too many nodes, or the
 ///   decision game passes the limit; of `find` and `prove` only there; of `check-model` exactly where the closure has too
 ///   many nodes, on a structure of which the logic speaks; of `determinise` exactly where the deterministic automaton has
-///   more states than the limit;
+///   more states than the limit; of `realize` exactly where the graph of the word automaton has too many nodes, or the
+///   game of the task passes the limit;
 /// - `Words` exactly for words that are no command, `Text` exactly for input that the command refuses, both with one
 ///   line that says so.
 ///
@@ -108,6 +111,7 @@ fn outcome(alloc: Global, command: Command, text: &[u8]) -> Result<Output, NoMem
         Command::Quotient => quotient_document(alloc, text),
         Command::SolveGame { engine } => solve_game(alloc, engine, text),
         Command::Determinise { limit } => determinise_text(alloc, limit, text),
+        Command::Realize { limit } => realize_text(alloc, limit, text),
         Command::Gen { family, n } => generate(alloc, family, n),
         Command::Bench { family, n } => measure(alloc, family, n),
     }

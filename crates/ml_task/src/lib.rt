@@ -15,12 +15,14 @@
 #![tactic(auto)]
 
 pub mod laws;
+mod limits;
 mod lines;
 mod reading;
 mod task;
 mod task_rule;
 mod words;
 
+pub use limits::LONGEST_TASK_TEXT;
 pub use reading::read;
 pub use task::{MOST_NAMES, Task};
 pub use task_rule::TaskRule;
