@@ -5,6 +5,7 @@
 --   stays_below       == the row leads from states to states
 --   accepts           == the moves accept exactly the words that don't satisfy the formula
 --   right             == an outcome that is made for the moves is right
+--   found_right       == so one that is found is
 use Rattle.std.proofs.Common.{ℕ, suc, ◌≡◌, ◌+◌, ◌^◌, ◌<◌, ◌≤◌, ◌⊎◌, ◌↔◌, Bool, true, List, [], ◌∷◌, ◌++◌, All, length, map, get_or, inl, inr, refl, sym, ap, subst, ◌∙◌, arith, ⊎_elim}
 use Rattle.std.specs.List.{range_with_len}
 use Rattle.std.proofs.Math.ListN.{get_or-eq_default}
@@ -37,7 +38,8 @@ use Rattle.ml_trace.specs.declared.letters.Transition.{Transition}
 use Rattle.ml_word_automaton.specs.Letters as rows
 use Rattle.ml_word_automaton.specs.Letters.{Automaton, HasTransitions, HasTransitionsOf, IsAutomatonOf, letter_in}
 use Rattle.ml_word_automaton.specs.Words.{Letter, SatisfiedBy, word_path, word_structure}
-use Rattle.ml_word_automaton.proofs.RowsAccept.{rows_accept}
+use Rattle.ml_word_automaton.proofs.RowsAccept.{lead_to_states, rows_accept}
+use Rattle.ml_realize.specs.Laws.{FoundAreRight}
 use Rattle.ml_realize.specs.Realizing.{Defeats, IsRight, Realizes, inputs_of, outputs_of, word_of}
 use Rattle.ml_realize.specs.TaskGame.{IsRowOf, valuations}
 use Rattle.ml_realize.proofs.GameImages.{valuation_low}
@@ -182,3 +184,10 @@ module _ (t : Task) (ok : IsTask t) (a : Automaton) (row : List (List Transition
   pub right : (r : Outcome) → IsOutcome i o (neutral (length a.states)) moves r → IsRight t r
   right (outcome.Made table) made = made_right table made
   right (outcome.Defeated table) defeat = defeat_right table defeat
+
+pub found_right : FoundAreRight
+found_right t n r ok f =
+    let a = f.reading.automaton in
+    let is = f.reading.is_automaton in
+    let some = (lead_to_states a is.states).has_state in
+    right t ok a f.reading.row f.moves is f.reading.is_row some f.are_numbered r f.is_outcome
