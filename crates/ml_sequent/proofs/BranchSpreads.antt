@@ -1,6 +1,7 @@
 -- Branches: what a choice keeps.
 --
 --   kept_before == behind a choice the spread that was before stands first among the spreads before
+--   grown_twice == what stands in front of the front stands in front
 --   kept_ok     == the same of an answer
 use Rattle.std.proofs.Common.{ℕ, ◌≡◌, ◌≤◌, List, [], ◌∷◌, ◌++◌, length, take, drop, reverse, sym, ap, ◌∙◌, arith, Result, Ok, Err, OnOk}
 use Rattle.std.proofs.lemmas.List.{reverse-append, take-append-drop, take-append-le, length-take}
@@ -23,7 +24,7 @@ kept_before nodes nodes2 c c2 taken taken2 t is first grown choice =
     ∙ ap (λ d. spread_at nodes d ∷ earlier nodes d (reverse taken)) choice
 
 -- what stands in front of the front stands in front
-grown_twice : (first nodes nodes2 : List ℕ) → IsGrown first nodes → IsGrown nodes nodes2 → IsGrown first nodes2
+pub grown_twice : (first nodes nodes2 : List ℕ) → IsGrown first nodes → IsGrown nodes nodes2 → IsGrown first nodes2
 grown_twice first nodes nodes2 one two =
     let fits : length first ≤ length nodes = omega (arith, ap length one, length-take (length first) nodes) in
     let split = sym (take-append-drop (length nodes) nodes2) ∙ ap (λ xs. xs ++ drop (length nodes) nodes2) two in
@@ -36,9 +37,9 @@ pub kept_ok : {T E : Type 0} → (ks nodes start nodes2 : List ℕ) (c c2 : List
     → t.first ≡ length nodes
     → IsJoined ks nodes start
     → without t.place c2 ≡ c
-    → OnOk answer (IsGrown start nodes2)
+    → IsGrown start nodes2
     → OnOk answer (earlier nodes2 c2 (reverse taken2) ≡ spread_at nodes c ∷ earlier nodes c (reverse taken))
 kept_ok ks nodes start nodes2 c c2 taken taken2 t (Ok u) is first joined choice grown =
     kept_before nodes nodes2 c c2 taken taken2 t is first
     (grown_twice nodes start nodes2 (grown_more ks nodes nodes start (grown_same nodes) joined) grown) choice
-kept_ok ks nodes start nodes2 c c2 taken taken2 t (Err e) is first joined choice grown = grown
+kept_ok ks nodes start nodes2 c c2 taken taken2 t (Err e) is first joined choice grown = tt

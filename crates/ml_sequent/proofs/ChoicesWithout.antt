@@ -4,10 +4,13 @@
 --   without_past     == no entry is removed behind the end
 --   without_inserted == what was inserted is removed
 --   without_is_choice == a choice without a side is a choice
-use Rattle.std.proofs.Common.{ℕ, zero, suc, ◌≡◌, ◌≤◌, List, [], ◌∷◌, ◌++◌, length, take, drop, map, inl, inr, ap, refl, arith}
+--   side_without == where it has no side, the choice had none, or the one that was taken back
+use Rattle.std.proofs.Common.{ℕ, zero, suc, ◌≡◌, ◌<◌, ◌≤◌, ◌==◌, ◌⊎◌, true, false, List, [], ◌∷◌, ◌++◌, length, get_or, take, drop, map, Some, None, inl, inr, ap, refl, ◌∙◌, arith}
+use Rattle.std.proofs.lemmas.Bool.{cases_Bool, cond-false, eqb-true}
+use Rattle.ml_lists.proofs.Entries.{cond-none}
 use Rattle.ml_lists.specs.Member.{IsMember}
 use Rattle.ml_sequent.specs.declared.choice.Side.{Side}
-use Rattle.ml_sequent.specs.Choice.{IsChoice}
+use Rattle.ml_sequent.specs.Choice.{IsChoice, side_of}
 use Rattle.ml_sequent.specs.private.Trails.{without}
 
 -- an entry is removed
@@ -44,3 +47,24 @@ without_is_choice zero [] is = is
 without_is_choice (suc i) [] is = is
 without_is_choice zero (p ∷ c) is = is.1
 without_is_choice (suc i) (p ∷ c) is = ((λ m h. is.0 m (without_member i m c h)), without_is_choice i c is.1)
+
+-- where it has no side, the choice had none, or the one that was taken back
+pub side_without : (i : ℕ) (c : List (ℕ × Side)) (d : ℕ × Side) (n : ℕ) → i < length c → side_of (without i c) n ≡ None
+    → (side_of c n ≡ None) ⊎ ((get_or c i d).0 ≡ n)
+side_without i [] d n low none = absurd (omega arith)
+side_without zero (p ∷ c) d n low none = by_test (cases_Bool (p.0 == n))
+  where
+    by_test : ((p.0 == n) ≡ true) ⊎ ((p.0 == n) ≡ false) → (side_of (p ∷ c) n ≡ None) ⊎ (p.0 ≡ n)
+    by_test (inl test) = inr (eqb-true p.0 n test)
+    by_test (inr test) = inl (cond-false (p.0 == n) (Some p.1) (side_of c n) test ∙ none)
+side_without (suc i) (p ∷ c) d n low none =
+    by_first (cond-none (p.0 == n) p.1 (side_of (without i c) n) none) (λ later. side_without i c d n (omega arith) later)
+  where
+    by_first : ((p.0 == n) ≡ false) × (side_of (without i c) n ≡ None)
+        → (side_of (without i c) n ≡ None → (side_of c n ≡ None) ⊎ ((get_or c i d).0 ≡ n))
+        → (side_of (p ∷ c) n ≡ None) ⊎ ((get_or c i d).0 ≡ n)
+    by_first (test, later) rest = of (rest later)
+      where
+        of : (side_of c n ≡ None) ⊎ ((get_or c i d).0 ≡ n) → (side_of (p ∷ c) n ≡ None) ⊎ ((get_or c i d).0 ≡ n)
+        of (inl before) = inl (cond-false (p.0 == n) (Some p.1) (side_of c n) test ∙ before)
+        of (inr here) = inr here

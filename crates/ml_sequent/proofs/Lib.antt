@@ -54,3 +54,6 @@ pub mod ChoicesWithout
 pub mod BranchSpreads
 -- what is asked of a branch is told by its trail
 pub mod BranchQuestions
+pub mod Tournaments
+pub mod NotedPlaces
+pub mod NotedClashes

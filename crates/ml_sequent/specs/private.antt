@@ -10,3 +10,9 @@ pub mod Exits
 pub mod ConnectedParts
 -- the nodes that a branch reached, and how it is taken back
 pub mod Trails
+-- the least of numbers that come and go
+pub mod Tournament
+-- ranks that fall along local walks
+pub mod Descents
+-- what is noted of the nodes of a trail
+pub mod Notes

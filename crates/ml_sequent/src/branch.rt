@@ -4,17 +4,20 @@ ghost use Rattle.ml_graph.specs.Graph.{size, node_at};
 ghost use Rattle.ml_lists.specs.Member.{IsMember};
 ghost use Rattle.ml_sequent.specs.Branch.{undone};
 ghost use Rattle.ml_sequent.specs.Choice.{with_side};
-ghost use Rattle.ml_sequent.specs.Spread.{IsSpread, IsSpreadOf, IsCause, IsOpenOr};
+ghost use Rattle.ml_sequent.specs.Spread.{IsSpread, IsSpreadOf, IsCause, IsFirstCause, IsOpenOr, IsLeastOpenOr, is_diamond};
 ghost use Rattle.ml_sequent.specs.Step.{IsDiamondOf, IsStep};
+ghost use Rattle.ml_sequent.specs.declared.clashes.ClashCause.{ClashCause};
 ghost use Rattle.ml_sequent.specs.declared.clashes.ClashCause.TheVariants.{False, Pair};
 
 use crate::checking::is_pair;
 use crate::choice::{Choice, Side};
 use crate::clashes::{ClashCause, is_false};
+use crate::descent::Descent;
 use crate::extending::child_at;
 use crate::growing::{grow, reach_nodes};
+use crate::notes::Notes;
 use crate::phase::LocalPhase;
-use crate::questions::{is_diamond, is_open};
+use crate::questions::{diamonds_on, is_diamond, is_open};
 use crate::sequent::Sequent;
 use crate::spreads::Spread;
 use crate::taken::Taken;
@@ -36,6 +39,8 @@ pub struct Branch<'a> {
     choice: Choice,
     trail: Trail,
     taken: Vec<Taken>,
+    descent: Descent,
+    notes: Notes,
     alloc: Global,
 }
 
@@ -43,6 +48,8 @@ impl<'a> Model for Branch<'a> {
     ghost use Rattle.std.specs.Prelude.{reverse};
     ghost use Rattle.ml_sequent.specs.Branch.{BranchList};
     ghost use Rattle.ml_sequent.specs.private.Trails.{HasPlaces, spread_at, earlier};
+    ghost use Rattle.ml_sequent.specs.private.Descents.{Falls};
+    ghost use Rattle.ml_sequent.specs.private.Notes.{KeepsNotes};
 
     ghost Value = { BranchList };
 
@@ -53,7 +60,11 @@ impl<'a> Model for Branch<'a> {
       before = earlier a.trail.nodes a.choice (reverse a.taken.items);
     } };
 
-    ghost invariant = { λ a. HasPlaces a.phase a.trail };
+    ghost invariant = { λ a. record {
+      places : HasPlaces a.phase a.trail;
+      falls : Falls a.phase a.descent;
+      notes : KeepsNotes a.phase a.descent a.choice a.trail.nodes a.notes;
+    } };
 }
 
 impl<'a> Branch<'a> {
@@ -69,12 +80,16 @@ impl<'a> Branch<'a> {
     {
         let phase = LocalPhase::new(alloc, graph)?;
         let trail = Trail::new(alloc, graph.size())?;
+        let descent = Descent::of(alloc, graph)?;
+        let notes = Notes::new(alloc, graph)?;
         Ok(Branch {
             phase,
             sequent: Sequent::of(alloc, &[])?,
             choice: Choice::empty(alloc),
             trail,
             taken: Vec::new(alloc),
+            descent,
+            notes,
             alloc,
         })
     }
@@ -97,6 +112,7 @@ impl<'a> Branch<'a> {
         let _size = graph.size();
         self.taken.clear();
         self.trail.back_to(0);
+        self.notes.cut(0);
         self.choice = Choice::empty(self.alloc);
         self.sequent = sequent;
         reach_nodes(self.sequent.values(), &mut self.trail)?;
@@ -137,8 +153,12 @@ impl<'a> Branch<'a> {
         ensures { self.new ≡ undone self.old }
     {
         if let Some(last) = self.taken.pop() {
-            self.choice.leave(last.place);
+            let node = self.choice.leave(last.place);
             self.trail.back_to(last.first);
+            self.notes.cut(last.first);
+            if let Some(node) = node {
+                self.notes.reopen(node);
+            }
         }
     }
 
@@ -194,6 +214,98 @@ impl<'a> Branch<'a> {
         ensures { IsTrue result ↔ IsDiamondOf self.now.graph self.now.spread node }
     {
         self.trail.contains(node) && is_diamond(*self.phase.graph().node(node))
+    }
+
+    /// Why the spread clashes: the first cause in the order of variants, and in each by the numbers; `None` exactly where it
+    /// doesn't clash.
+    ///
+    /// # Errors
+    /// `NoMemory` alone.
+    ///
+    /// Cost: linear in the nodes that are new since this or another question was asked. Where the spread clashes, or has a
+    /// node of odd priority that may lie on a closed local walk, that of the spread and of its clash.
+    pub fn clash(&mut self) -> Result<Option<ClashCause>, NoMemory>
+        requires { IsSpread self.old.graph self.old.spread }
+        ensures same { self.new ≡ self.old }
+        ensures cause { IfOk result (λ found. MatchOption
+            found
+            ((x : ClashCause) → ¬ (IsCause self.old.graph self.old.spread x))
+            (IsFirstCause self.old.graph self.old.spread)) }
+    {
+        if self.is_calm() {
+            return Ok(None);
+        }
+        let spread = self.spread()?;
+        self.phase.clash(&spread)
+    }
+
+    /// Does the spread clash?
+    ///
+    /// # Errors
+    /// `NoMemory` alone.
+    ///
+    /// Cost: linear in the nodes that are new since this or another question was asked. Where the spread has a node of odd
+    /// priority that may lie on a closed local walk, and neither False nor both literals of a proposition, that of the
+    /// spread and of its clash.
+    pub fn is_clashing(&mut self) -> Result<bool, NoMemory>
+        requires { IsSpread self.old.graph self.old.spread }
+        ensures same { self.new ≡ self.old }
+        ensures yes { IfOk result (λ b. IsTrue b → (x : ClashCause) × IsCause self.old.graph self.old.spread x) }
+        ensures no { IfOk result (λ b. (x : ClashCause) → IsCause self.old.graph self.old.spread x → IsTrue b) }
+    {
+        if self.is_calm() {
+            return Ok(false);
+        }
+        if self.notes.has_conflict() {
+            return Ok(true);
+        }
+        let spread = self.spread()?;
+        Ok(self.phase.clash(&spread)?.is_some())
+    }
+
+    // is it plain from what is noted of the nodes that nothing clashes?
+    fn is_calm(&mut self) -> bool
+        ensures same { self.new ≡ self.old }
+        ensures calm { IsTrue result → (x : ClashCause) → ¬ (IsCause self.old.graph self.old.spread x) }
+    {
+        let graph = self.phase.graph();
+        self.notes.note_all(graph, &self.descent, &self.trail);
+        if self.notes.has_conflict() {
+            return false;
+        }
+        !self.notes.has_suspect()
+    }
+
+    /// The least or-node of the spread for which no side was chosen; `None` exactly where there is none.
+    ///
+    /// Cost: linear in the nodes that are new since this or another question was asked, and logarithmic in the graph for
+    /// each or-node that was chosen or taken back since.
+    pub fn open_or(&mut self) -> Option<u32>
+        requires { IsSpread self.old.graph self.old.spread }
+        ensures same { self.new ≡ self.old }
+        ensures least { MatchOption
+            result
+            ((n : ℕ) → ¬ (IsOpenOr self.old.graph self.old.spread n))
+            (IsLeastOpenOr self.old.graph self.old.spread) }
+    {
+        let graph = self.phase.graph();
+        let _size = graph.size();
+        self.notes.note_all(graph, &self.descent, &self.trail);
+        self.notes.least_open(graph, &self.choice, &self.trail)
+    }
+
+    /// The diamonds of the spread, ascending.
+    ///
+    /// # Errors
+    /// `NoMemory` alone.
+    ///
+    /// Cost: linear in the spread, and `n log n` in the diamonds.
+    pub fn diamonds(&self) -> Result<Vec<u32>, NoMemory>
+        requires { IsSpread self.now.graph self.now.spread }
+        ensures { IfOk result (λ diamonds. diamonds.items
+            ≡ filter (λ n. is_diamond (node_at self.now.graph n)) self.now.spread.nodes) }
+    {
+        diamonds_on(self.alloc, self.phase.graph(), &self.trail)
     }
 
     /// Is this a cause of a clash in the spread? Its numbers may be any.

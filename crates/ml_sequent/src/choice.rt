@@ -1,5 +1,5 @@
 // Which child is taken at an or-node.
-ghost use Rattle.std.specs.Prelude.{◌≡◌, ◌≤◌, ◌↔◌, [], ◌∷◌, ◌++◌, None, IsTrue, IfOk, length, take, drop};
+ghost use Rattle.std.specs.Prelude.{◌≡◌, ◌≤◌, ◌⊎◌, ◌↔◌, ℕ, [], ◌∷◌, ◌++◌, None, Some, IsTrue, IfOk, OnErr, length, take, drop};
 ghost use Rattle.ml_sequent.specs.declared.choice.Side.{Side};
 ghost use Rattle.ml_sequent.specs.Choice.{IsChoice, side_of, with_side};
 ghost use Rattle.ml_sequent.specs.private.Trails.{without};
@@ -85,20 +85,25 @@ impl Choice {
         requires { side_of self.old node ≡ None }
         ensures taken { IfOk result (λ place. self.new ≡ with_side self.old node side) }
         ensures place { IfOk result (λ place. without place self.new ≡ self.old) }
+        ensures same { OnErr result (self.new ≡ self.old) }
     {
         let place = place_behind(&self.pairs, node);
         self.pairs.insert(place, (node, side))?;
         Ok(place)
     }
 
-    /// Takes the side at this place back, if one stands there.
+    /// Takes the side at this place back, if one stands there, and says at which node.
     ///
     /// Cost: linear in the sides behind it.
-    pub(crate) fn leave(&mut self, place: usize)
-        ensures { self.new ≡ without place self.old }
+    pub(crate) fn leave(&mut self, place: usize) -> Option<u32>
+        ensures left { self.new ≡ without place self.old }
+        ensures others { (n : ℕ) → side_of self.new n ≡ None → (side_of self.old n ≡ None) ⊎ (result ≡ Some n) }
     {
         if place < self.pairs.len() {
-            let _ = self.pairs.remove(place);
+            let (node, _) = self.pairs.remove(place);
+            Some(node)
+        } else {
+            None
         }
     }
 

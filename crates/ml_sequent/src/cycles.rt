@@ -109,7 +109,7 @@ fn is_cyclic(graph: &ModalGraph, choice: &Choice, part: &[u32]) -> bool
 }
 
 /// The lesser of two numbers, where there are two.
-fn lesser(one: Option<u32>, other: Option<u32>) -> Option<u32>
+pub(crate) fn lesser(one: Option<u32>, other: Option<u32>) -> Option<u32>
     ensures { result ≡ lesser one other }
 {
     match one {

@@ -21,6 +21,7 @@ fn reach_children(
     requires room { trail.old.room ≡ size graph.now }
     ensures room { trail.new.room ≡ trail.old.room }
     ensures joined { OnOk result (IsJoined (children graph.now choice.now node) trail.old.nodes trail.new.nodes) }
+    ensures grown { IsGrown trail.old.nodes trail.new.nodes }
 {
     match children(graph, choice, node) {
         LocalChildren::Leaf => Ok(()),
@@ -53,7 +54,7 @@ pub(crate) fn grow(
 ) -> Result<(), NoMemory>
     requires { trail.old.room ≡ size graph.now }
     ensures room { trail.new.room ≡ trail.old.room }
-    ensures grown { OnOk result (IsGrown trail.old.nodes trail.new.nodes) }
+    ensures grown { IsGrown trail.old.nodes trail.new.nodes }
     ensures spread { OnOk result ((C : List ℕ) → IsUnderway graph.now choice.now C done trail.old.nodes
         → HasSpread graph.now choice.now C trail.new.nodes) }
 {

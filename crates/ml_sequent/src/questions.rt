@@ -1,10 +1,13 @@
 // What is asked of a spread that doesn't clash: where a side is still to be chosen, and which diamonds lead on.
 ghost use Rattle.std.specs.Prelude.{◌≡◌, ◌<◌, ◌↔◌, ℕ, IfOk, IsTrue, MatchOption, filter};
 ghost use Rattle.ml_graph.specs.Graph.{size, node_at};
+ghost use Rattle.ml_lists.specs.Ascending.{ascending};
 ghost use Rattle.ml_sequent.specs.Spread.{IsSpread, IsOpenOr, IsLeastOpenOr, IsOpenNode, is_diamond};
 
 use crate::choice::Choice;
+use crate::sets::ascending;
 use crate::spreads::Spread;
+use crate::trail::Trail;
 use ml_base::NoMemory;
 use ml_graph::{ModalGraph, Node};
 use std::alloc::Global;
@@ -59,4 +62,26 @@ pub fn diamonds(alloc: Global, graph: &ModalGraph, spread: &Spread) -> Result<Ve
         }
     }
     Ok(diamonds)
+}
+
+/// The diamonds of a trail, ascending.
+///
+/// Cost: linear in the trail, and `n log n` in its diamonds.
+pub(crate) fn diamonds_on(
+    alloc: Global,
+    graph: &ModalGraph,
+    trail: &Trail,
+) -> Result<Vec<u32>, NoMemory>
+    requires { trail.now.room ≡ size graph.now }
+    ensures { IfOk result (λ diamonds. diamonds.items
+        ≡ filter (λ n. is_diamond (node_at graph.now n)) (ascending trail.now.nodes)) }
+{
+    let mut diamonds = Vec::new(alloc);
+    for place in 0..trail.len() {
+        let node = trail.node(place);
+        if is_diamond(*graph.node(node)) {
+            diamonds.push(node)?;
+        }
+    }
+    Ok(ascending(diamonds))
 }

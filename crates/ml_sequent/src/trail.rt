@@ -4,7 +4,7 @@
 ghost use Rattle.std.specs.Prelude.{◌≡◌, ◌<◌, ◌≤◌, ◌↔◌, [], ◌∷◌, IfOk, OnOk, IsTrue, length, get_or, take};
 ghost use Rattle.ml_lists.specs.Ascending.{ascending};
 ghost use Rattle.ml_lists.specs.Member.{IsMember};
-ghost use Rattle.ml_sequent.specs.private.Trails.{IsJoined};
+ghost use Rattle.ml_sequent.specs.private.Trails.{IsJoined, IsGrown};
 
 use crate::sets::ascending;
 use ml_base::NoMemory;
@@ -83,6 +83,7 @@ impl Trail {
         requires { node < self.old.room }
         ensures room { self.new.room ≡ self.old.room }
         ensures joined { OnOk result (IsJoined (node ∷ []) self.old.nodes self.new.nodes) }
+        ensures grown { IsGrown self.old.nodes self.new.nodes }
     {
         if !self.contains(node) {
             let place = self.nodes.len();
