@@ -32,3 +32,5 @@ pub mod Numbering
 pub mod Turning
 -- the end of an exploration
 pub mod Ended
+-- an exploration that is under way
+pub mod Underway

@@ -6,22 +6,28 @@
 --   settled     == where there is nothing to do, it is won
 --   unchosen_at == no side is chosen at the least open or-node
 --   chosen_becomes, chosen_passed, chosen_turned == a side is chosen there, and then the other
+--   new_place   == a number that is new belongs to the position that was added
+--   both_opened == only the positions with these sides are new
 --   still_chosen == the position is where it was, when the first side was chosen
 --   along       == the turn of a position with diamonds
---   cause_of    == where a call finds a cause, there is one
+--   steps_unchosen == no side is chosen behind a diamond
+--   led_unchosen == so none is at what is new
 --   led_becomes, led_vertices, led_passed, all_led == the positions behind diamonds get numbers, one behind the other
-use Rattle.std.proofs.Common.{ℕ, ◌≡◌, ◌+◌, ◌<◌, inl, inr, List, [], ◌∷◌, ◌++◌, length, length-append, map, slice_get, true, is_some, Option, Some, None, MatchOption, refl, sym, ap, ◌∙◌, subst, arith}
+use Rattle.std.proofs.Common.{ℕ, ◌≡◌, ◌+◌, ◌<◌, ◌≤◌, ◌⊎◌, inl, inr, List, [], ◌∷◌, ◌++◌, length, length-append, map, slice_get, Some, None, refl, sym, ap, ◌∙◌, subst, arith}
 use Rattle.std.proofs.lemmas.List.{map_push}
-use Rattle.std.proofs.lemmas.Option.{slice_get-get_or}
+use Rattle.std.proofs.lemmas.Bool.{cases_lt}
+use Rattle.std.proofs.lemmas.Option.{slice_get-get_or, get_or_from_slice_get}
 use Rattle.std.specs.Global.{Vec}
+use Rattle.ml_lists.specs.Added.{IsAdded}
 use Rattle.ml_lists.specs.Member.{IsMember}
-use Rattle.ml_lists.proofs.Member.{place-member, member-map, member-append_right}
+use Rattle.ml_lists.proofs.Added.{last_or}
+use Rattle.ml_lists.proofs.Member.{place-member, member-map, member-append_right, member_of_get}
 use Rattle.ml_graph.specs.Graph.{Graph}
 use Rattle.ml_sequent.specs.declared.choice.Side.{Side}
 use Rattle.ml_sequent.specs.declared.choice.Side.TheVariants.{Left, Right}
 use Rattle.ml_sequent.specs.declared.clashes.ClashCause.{ClashCause}
 use Rattle.ml_sequent.specs.Choice.{side_of, with_side}
-use Rattle.ml_sequent.specs.Spread.{SpreadList, IsSpreadOf, IsSpread, IsCause, IsFirstCause, IsLeastOpenOr}
+use Rattle.ml_sequent.specs.Spread.{SpreadList, IsSpreadOf, IsSpread, IsCause, IsLeastOpenOr}
 use Rattle.ml_sequent.proofs.OwnSpreads.{own_spread}
 use Rattle.ml_product.specs.Position.{Position, start_of, with_chosen, neutral}
 use Rattle.ml_product.specs.DecisionGame.{Verdict, Clashing, Open, Leading, Settled, Target, To, Lost, Won, AreSteps, AreMoves}
@@ -31,7 +37,7 @@ use Rattle.ml_product.specs.declared.pool.Pool.{Pool}
 use Rattle.ml_product.specs.declared.recorded.Recorded.TheVariants as recorded
 use Rattle.ml_product.specs.private.Pools.{positions_of, position_of, beside}
 use Rattle.ml_product.specs.private.Recorded.{AreVerticesAt, IsRecorded}
-use Rattle.ml_product.specs.private.Exploring.{IsNumbered, HasNoRoom, IsLonger, at_place, target_of, Becomes, IsAt, IsLed, IsTurned}
+use Rattle.ml_product.specs.private.Exploring.{IsNumbered, HasNoRoom, IsLonger, at_place, target_of, Becomes, IsAt, AddsUnchosen, IsLed, IsTurned, IsEnded, IsOpened}
 use Rattle.ml_product.proofs.ArenaGame.{same_entry}
 use Rattle.ml_product.proofs.Explored.{passed, joined}
 use Rattle.ml_product.proofs.Vertices.{longer_get, longer_place, longer_self, longer_both, vertices_more, vertices_later}
@@ -85,26 +91,37 @@ module _ (g : Graph) (limit : ℕ) (b : Pool) (v : ℕ) (sp : SpreadList) (at : 
   stays : Becomes g limit (positions_of b) b
   stays = record { explores = at.explores; longer = longer_self ps }
 
+  none_new : AddsUnchosen g (positions_of b) b
+  none_new w high low = absurd (omega arith)
+
   -- where the spread clashes, the position is lost
-  pub clashed : (x : ClashCause) → IsCause g sp x → IsTurned g limit (positions_of b) v b recorded.Lost
+  pub clashed : (x : ClashCause) → IsCause g sp x → IsEnded g limit (positions_of b) v b recorded.Lost
   clashed x is = record {
-    becomes = stays;
-    recorded = record {
-      turn = turn_of Clashing (Lost ∷ []) (x, is) refl;
-      owner_is = refl;
-      moves_are = λ n. (n, [], refl, refl, refl);
+    turned = record {
+      becomes = stays;
+      recorded = record {
+        turn = turn_of Clashing (Lost ∷ []) (x, is) refl;
+        owner_is = refl;
+        moves_are = λ n. (n, [], refl, refl, refl);
+      };
     };
+    is_found = λ e. cc;
+    unchosen = none_new;
   }
 
   -- where there is nothing to do, it is won
-  pub settled : IsResolved g sp → diamonds_of g sp ≡ [] → IsTurned g limit (positions_of b) v b recorded.Won
+  pub settled : IsResolved g sp → diamonds_of g sp ≡ [] → IsEnded g limit (positions_of b) v b recorded.Won
   settled is none = record {
-    becomes = stays;
-    recorded = record {
-      turn = turn_of Settled (Won ∷ []) (is, none) refl;
-      owner_is = refl;
-      moves_are = λ n. (n + 1, [], refl, refl, refl);
+    turned = record {
+      becomes = stays;
+      recorded = record {
+        turn = turn_of Settled (Won ∷ []) (is, none) refl;
+        owner_is = refl;
+        moves_are = λ n. (n + 1, [], refl, refl, refl);
+      };
     };
+    is_found = λ e. cc;
+    unchosen = none_new;
   }
 
   -- the turn of a position with diamonds
@@ -219,7 +236,90 @@ chosen_turned g limit b d e v sp k o l r at k_is no_clash least first second =
           ∙ ap (λ (p : Position). Some (with_chosen g p o Right)) same);
     }
 
+-- ---- what is new
+
+-- a number that is new belongs to the position that was added
+pub new_place : (g : Graph) (ps qs : List Position) (p : Position) (n w : ℕ) → IsAdded ps p qs n → length ps ≤ w → w < length qs
+    → (w ≡ n) × (at_place g qs w ≡ p)
+new_place g ps qs p n w added high low = by_kind added.grown
+  where
+    by_place : (qs ≡ ps ++ p ∷ []) → ¬ (IsMember p ps) → (slice_get ps n ≡ Some p) ⊎ ((n ≡ length ps) × (p ≡ p))
+        → (w ≡ n) × (at_place g qs w ≡ p)
+    by_place whole new (inl there) = absurd (new (member_of_get ps n p there))
+    by_place whole new (inr end) =
+        let long = ap length whole ∙ length-append ps (p ∷ []) in
+        let last = end.0 in
+        let here : w ≡ n = omega arith in
+        (here, ap (at_place g qs) here ∙ get_or_from_slice_get qs n p (start_of g) added.stands)
+
+    by_kind : (qs ≡ ps) ⊎ ((qs ≡ ps ++ p ∷ []) × ¬ (IsMember p ps)) → (w ≡ n) × (at_place g qs w ≡ p)
+    by_kind (inl old) = let long = ap length old in absurd (omega arith)
+    by_kind (inr new) =
+        by_place new.0 new.1 (last_or ps p p n (subst (λ xs. slice_get xs n ≡ Some p) new.0 added.stands))
+
+-- only the positions with these sides are new
+pub both_opened : (g : Graph) (limit : ℕ) (b d e : Pool) (v : ℕ) (sp : SpreadList) (k o l r : ℕ)
+    → IsAt g limit b v sp
+    → k ≡ neutral g
+    → ((x : ClashCause) → ¬ (IsCause g sp x))
+    → IsLeastOpenOr g sp o
+    → ((q : Position) → slice_get (positions_of b) v ≡ Some q
+    → IsNumbered limit (positions_of b) (beside q k (with_side q.choice o Left)) d l)
+    → ((q : Position) → slice_get (positions_of d) v ≡ Some q
+    → IsNumbered limit (positions_of d) (beside q k (with_side q.choice o Right)) e r)
+    → IsOpened g limit (positions_of b) v sp e o l r
+both_opened g limit b d e v sp k o l r at k_is no_clash least first second =
+    let here = at_place g (positions_of b) v in
+    let left = first here (stands_at g limit b v sp at) in
+    let once = chosen_becomes g limit b v sp at k k_is o no_clash least Left d l left in
+    let then_at = still_at g limit b v sp at d once in
+    let there = at_place g (positions_of d) v in
+    let same : there ≡ here = longer_place g (positions_of b) (positions_of d) once.longer v at.number in
+    let right = second there (stands_at g limit d v sp then_at) in
+    let twice = chosen_becomes g limit d v sp then_at k k_is o no_clash least Right e r right in
+    record {
+      turned = chosen_turned g limit b d e v sp k o l r at k_is no_clash least first second;
+      is_open = least.is_open;
+      left = longer_get (positions_of d) (positions_of e) twice.longer l (with_chosen g here o Left)
+          (chosen_stands g limit b v sp at k k_is o no_clash least Left d l left);
+      right = chosen_stands g limit d v sp then_at k k_is o no_clash least Right e r right
+          ∙ ap (λ (p : Position). Some (with_chosen g p o Right)) same;
+      only = λ w high low. by_part w high low left right (cases_lt w (length (positions_of d)));
+    }
+  where
+    by_part : (w : ℕ) → length (positions_of b) ≤ w → w < length (positions_of e)
+        → {p q : Position}
+        → IsNumbered limit (positions_of b) p d l
+        → IsNumbered limit (positions_of d) q e r
+        → (w < length (positions_of d)) ⊎ (length (positions_of d) ≤ w)
+        → (w ≡ l) ⊎ (w ≡ r)
+    by_part w high low {p} {q} one two (inl early) =
+        inl ((new_place g (positions_of b) (positions_of d) p l w one.added high early).0)
+    by_part w high low {p} {q} one two (inr late) =
+        inr ((new_place g (positions_of d) (positions_of e) q r w two.added late low).0)
+
 -- ---- diamonds, one behind the other
+
+-- no side is chosen behind a diamond
+pub steps_unchosen : (g : Graph) (p : Position) (sp : SpreadList) (ds : List ℕ) (made : List Fresh) (x : Fresh)
+    → AreSteps g p sp ds (map target_of made)
+    → IsMember x made
+    → (position_of x).choice ≡ []
+steps_unchosen g p sp ds [] x steps none = absurd none
+steps_unchosen g p sp [] (y ∷ made) x steps m = let none = ap length steps in absurd (omega arith)
+steps_unchosen g p sp (d ∷ ds) (y ∷ made) x (q, others, follows, rest, is) m =
+    by_place m (λ i. steps_unchosen g p sp ds made x (subst (AreSteps g p sp ds) (sym behind) rest) i)
+  where
+    first : position_of y ≡ q
+    first = cc
+
+    behind : map target_of made ≡ others
+    behind = cc
+
+    by_place : (x ≡ y) ⊎ IsMember x made → (IsMember x made → (position_of x).choice ≡ []) → (position_of x).choice ≡ []
+    by_place (inl same) later =
+        ap (λ (z : Fresh). (position_of z).choice) same ∙ ap (λ (z : Position). z.choice) first ∙ follows.unchosen
+    by_place (inr i) later = later i
 
 module _ (g : Graph) (limit : ℕ) (a : Pool) (v : ℕ) (sp : SpreadList) (at : IsAt g limit a v sp) (ds : List ℕ) (made : List Fresh)
     (resolved : IsResolved g sp) (are : ds ≡ diamonds_of g sp) (some : 0 < length ds)
@@ -264,6 +364,28 @@ module _ (g : Graph) (limit : ℕ) (a : Pool) (v : ℕ) (sp : SpreadList) (at : 
       (vertices_later n (positions_of b) (positions_of d) now.longer (map target_of xs) vs vertices)
       numbered.added.stands))
 
+  -- no side is chosen at it
+  pub led_unchosen : (xs rest : List Fresh) (x : Fresh) (b d : Pool) (w : ℕ)
+      → xs ++ x ∷ rest ≡ made
+      → Becomes g limit (positions_of a) b
+      → IsNumbered limit (positions_of b) (position_of x) d w
+      → AddsUnchosen g (positions_of a) b
+      → AddsUnchosen g (positions_of a) d
+  led_unchosen xs rest x b d w is was numbered before = λ k high low. new_at k high low (cases_lt k (length (positions_of b)))
+    where
+      longer : IsLonger (positions_of b) (positions_of d)
+      longer = (joined g limit b was.explores (position_of x) (made_reached x (among xs rest x is)) d w numbered).longer
+
+      new_at : (k : ℕ) → length (positions_of a) ≤ k → k < length (positions_of d)
+          → (k < length (positions_of b)) ⊎ (length (positions_of b) ≤ k)
+          → (at_place g (positions_of d) k).choice ≡ []
+      new_at k high low (inl early) =
+          ap (λ (p : Position). p.choice) (longer_place g (positions_of b) (positions_of d) longer k early) ∙ before k high early
+      new_at k high low (inr late) =
+          let new = new_place g (positions_of b) (positions_of d) (position_of x) w k numbered.added late low in
+          ap (λ (p : Position). p.choice) new.1
+          ∙ steps_unchosen g (at_place g (positions_of a) v) sp ds made x steps (among xs rest x is)
+
   -- one of them found no room
   pub led_passed : (xs rest : List Fresh) (x : Fresh) (b : Pool)
       → xs ++ x ∷ rest ≡ made
@@ -278,20 +400,14 @@ module _ (g : Graph) (limit : ℕ) (a : Pool) (v : ℕ) (sp : SpreadList) (at : 
       → xs ≡ made
       → Becomes g limit (positions_of a) b
       → ((n : ℕ) → AreVerticesAt n (positions_of b) (map target_of xs) vs.items)
+      → AddsUnchosen g (positions_of a) b
       → IsLed g limit (positions_of a) v b vs
-  all_led xs b vs is was vertices = record {
+  all_led xs b vs is was vertices none = record {
     becomes = was;
+    unchosen = none;
     recorded = record {
       turn = led_turn;
       owner_is = refl;
       moves_are = λ n. subst (λ ts. AreVerticesAt n (positions_of b) ts vs.items) (ap (map target_of) is) (vertices n);
     };
   }
-
--- where a call finds a cause, there is one
-pub cause_of : (g : Graph) (sp : SpreadList) (o : Option ClashCause) (A : Type 0)
-    → is_some o ≡ true
-    → MatchOption o A (IsFirstCause g sp)
-    → (x : ClashCause) × IsCause g sp x
-cause_of g sp None A is found = cc
-cause_of g sp (Some x) A is found = (x, found.is_cause)

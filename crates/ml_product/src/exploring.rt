@@ -9,19 +9,20 @@ ghost use Rattle.ml_product.specs.declared.refusals.ExploreRefusal.TheVariants a
 ghost use Rattle.ml_product.specs.private.Shared.{IsHeld};
 ghost use Rattle.ml_product.specs.private.Pools.{positions_of};
 ghost use Rattle.ml_product.specs.private.Recorded.{owner_of, moves_of};
-ghost use Rattle.ml_product.specs.private.Exploring.{AreTerms, IsStarted, AreTurned, arena_of};
+ghost use Rattle.ml_product.specs.private.Exploring.{AreTerms, IsStarted, IsUnderway, AreWaiting, AreTurned, arena_of};
 
 use crate::arena::Arena;
+use crate::deciding::explore_from;
 use crate::following::Terms;
 use crate::pool::{Fresh, Pool};
 use crate::recorded::Recorded;
+use crate::recording::Turns;
 use crate::refusals::ExploreRefusal;
-use crate::turns::turn;
 use ml_base::NoMemory;
 use ml_graph::ModalGraph;
 use ml_history::History;
 use ml_parity::Player;
-use ml_sequent::{Choice, LocalPhase, Sequent};
+use ml_sequent::{Branch, Choice, Sequent};
 use ml_trace::{AutomatonState, STATE_LIMIT, number};
 use std::alloc::Global;
 
@@ -74,25 +75,48 @@ fn started(alloc: Global, graph: &ModalGraph, terms: &Terms) -> Result<Pool, NoM
 // what is done at each position, until there are no new ones
 fn turns(
     alloc: Global,
-    phase: &mut LocalPhase,
+    branch: &mut Branch,
     terms: &Terms,
     pool: &mut Pool,
     limit: u32,
 ) -> Result<Vec<Recorded>, ExploreRefusal>
-    requires is_graph { IsGraph phase.old }
-    requires small { automaton_states phase.old ≤ 2 ^ 30 }
-    requires terms { AreTerms phase.old terms.now }
-    requires turned { AreTurned phase.old limit pool.old [] }
-    ensures turned { IfOk result (λ turns. AreTurned phase.old limit pool.new turns.items) }
+    requires is_graph { IsGraph branch.old.graph }
+    requires small { automaton_states branch.old.graph ≤ 2 ^ 30 }
+    requires terms { AreTerms branch.old.graph terms.now }
+    requires underway { IsUnderway branch.old.graph limit pool.old [] }
+    requires waiting { AreWaiting branch.old.graph pool.old [] [] }
+    ensures turned { IfOk result (λ turns. AreTurned branch.old.graph limit pool.new turns.items) }
     ensures whole { IfOk result (λ turns. length turns.items ≡ length (positions_of pool.new)) }
-    ensures passed { IsErrOf result refusal.Passed → HasMoreThan phase.old limit }
+    ensures passed { IsErrOf result refusal.Passed → HasMoreThan branch.old.graph limit }
 {
-    let mut turns = Vec::new(alloc);
-    while turns.len() < pool.len() {
-        let turn = turn(alloc, phase, terms, pool, limit, turns.len() as u32)?;
-        turns.push(turn)?;
+    let mut turns = Turns::new(alloc);
+    let mut v = 0;
+    while v < pool.len() {
+        explore_from(alloc, branch, terms, pool, &mut turns, limit, v as u32)?;
+        v += 1;
     }
-    Ok(turns)
+    Ok(turns.into_vec())
+}
+
+// the same, with a branch of the graph
+fn turns_in(
+    alloc: Global,
+    graph: &ModalGraph,
+    terms: &Terms,
+    pool: &mut Pool,
+    limit: u32,
+) -> Result<Vec<Recorded>, ExploreRefusal>
+    requires is_graph { IsGraph graph.now }
+    requires small { automaton_states graph.now ≤ 2 ^ 30 }
+    requires terms { AreTerms graph.now terms.now }
+    requires underway { IsUnderway graph.now limit pool.old [] }
+    requires waiting { AreWaiting graph.now pool.old [] [] }
+    ensures turned { IfOk result (λ turns. AreTurned graph.now limit pool.new turns.items) }
+    ensures whole { IfOk result (λ turns. length turns.items ≡ length (positions_of pool.new)) }
+    ensures passed { IsErrOf result refusal.Passed → HasMoreThan graph.now limit }
+{
+    let mut branch = Branch::new(alloc, graph)?;
+    turns(alloc, &mut branch, terms, pool, limit)
 }
 
 // who moves at each position
@@ -150,7 +174,6 @@ pub fn explore(alloc: Global, graph: &ModalGraph, limit: u32) -> Result<Arena, E
     let _size = graph.size();
     let terms = terms_of(graph)?;
     let mut pool = started(alloc, graph, &terms)?;
-    let mut phase = LocalPhase::new(alloc, graph)?;
-    let turns = turns(alloc, &mut phase, &terms, &mut pool, limit)?;
+    let turns = turns_in(alloc, graph, &terms, &mut pool, limit)?;
     Ok(closed(alloc, pool, turns)?)
 }

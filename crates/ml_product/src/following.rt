@@ -14,7 +14,7 @@ use crate::pool::Fresh;
 use crate::view::View;
 use ml_base::NoMemory;
 use ml_history::Mark;
-use ml_sequent::{Choice, LocalPhase, Spread};
+use ml_sequent::{Branch, Choice};
 use ml_trace::letter_of;
 use std::alloc::Global;
 
@@ -40,22 +40,23 @@ fn priority_of(mark: Mark, neutral: u32) -> u32
 // the position to which the step along a diamond leads
 pub(crate) fn follow(
     alloc: Global,
-    phase: &mut LocalPhase,
+    branch: &mut Branch,
     terms: &Terms,
     view: View,
-    spread: &Spread,
     diamond: u32,
 ) -> Result<Fresh, NoMemory>
-    requires is_graph { IsGraph phase.old }
-    requires small { automaton_states phase.old ≤ 2 ^ 30 }
-    requires terms { AreTerms phase.old terms.now }
-    requires reached { IsReached phase.old (viewed view) }
-    requires spread { IsSpreadOf phase.old view.sequent.now view.choice.now spread.now }
-    requires diamond { IsDiamondOf phase.old spread.now diamond }
-    ensures graph { phase.new ≡ phase.old }
-    ensures follows { IfOk result (λ fresh. Follows phase.old (viewed view.entry) spread.now diamond (position_of fresh)) }
+    requires is_graph { IsGraph branch.old.graph }
+    requires small { automaton_states branch.old.graph ≤ 2 ^ 30 }
+    requires terms { AreTerms branch.old.graph terms.now }
+    requires reached { IsReached branch.old.graph (viewed view) }
+    requires sequent { branch.old.sequent ≡ view.sequent.now }
+    requires spread { IsSpreadOf branch.old.graph view.sequent.now view.choice.now branch.old.spread }
+    requires diamond { IsDiamondOf branch.old.graph branch.old.spread diamond }
+    ensures same { branch.new ≡ branch.old }
+    ensures follows { IfOk result (λ fresh.
+        Follows branch.old.graph (viewed view.entry) branch.old.spread diamond (position_of fresh)) }
 {
-    let (sequent, traces) = phase.step(view.sequent, spread, diamond)?;
+    let (sequent, traces) = branch.step(diamond)?;
     let letter = letter_of(alloc, &traces, &terms.odds)?;
     let (history, mark) = view.history.step(&letter)?;
     Ok(Fresh {

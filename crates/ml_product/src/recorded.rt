@@ -6,9 +6,11 @@ use ml_base::NoMemory;
 use ml_parity::Player;
 use std::alloc::Global;
 
-/// What was found at a position: that it is lost, or won, or the numbers of the positions to which its moves lead.
+/// What was found at a position: nothing yet, that it is lost, or won, or the numbers of the positions to which its moves
+/// lead.
 #[derive(Debug, Drop)]
 pub(crate) enum Recorded {
+    Waiting,
     Lost,
     Won,
     Chosen { left: u32, right: u32 },
@@ -32,6 +34,7 @@ impl Recorded {
         ensures { IfOk result (λ moves. moves.items ≡ moves_of size self) }
     {
         match self {
+            Recorded::Waiting => Ok(Vec::new(alloc)),
             Recorded::Lost => Ok(Vec::from_slice(alloc, &[size])?),
             Recorded::Won => Ok(Vec::from_slice(alloc, &[size + 1])?),
             Recorded::Chosen { left, right } => {

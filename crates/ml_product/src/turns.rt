@@ -2,14 +2,14 @@
 ghost use Rattle.std.specs.Prelude.{◌≡◌, ◌<◌, ◌≤◌, ◌^◌, ℕ, None, Some, IfOk, OnOk, IfSome, IfNone, IsErrOf, length, map, slice_get};
 ghost use Rattle.ml_graph.specs.Graph.{IsGraph};
 ghost use Rattle.ml_sequent.specs.Choice.{side_of, with_side};
-ghost use Rattle.ml_sequent.specs.Spread.{IsSpreadOf, IsSpread, IsCause, IsOpenOr};
+ghost use Rattle.ml_sequent.specs.Spread.{IsSpreadOf, IsCause, IsLeastOpenOr};
 ghost use Rattle.ml_sequent.specs.declared.clashes.ClashCause.{ClashCause};
 ghost use Rattle.ml_product.specs.declared.refusals.ExploreRefusal.TheVariants as refusal;
 ghost use Rattle.ml_product.specs.Position.{Position, automaton_states};
 ghost use Rattle.ml_product.specs.DecisionGame.{IsReached, HasMoreThan, IsResolved, AreSteps, diamonds_of};
 ghost use Rattle.ml_product.specs.View.{viewed};
 ghost use Rattle.ml_product.specs.private.Pools.{positions_of, position_of, KeepsPool, beside};
-ghost use Rattle.ml_product.specs.private.Exploring.{AreTerms, Explores, IsNumbered, HasNoRoom, at_place, target_of, IsAt, IsLed, IsTurned};
+ghost use Rattle.ml_product.specs.private.Exploring.{AreTerms, IsNumbered, HasNoRoom, at_place, target_of, IsAt, IsLed, IsTurnOf};
 
 use crate::following::{Terms, follow};
 use crate::pool::{Fresh, Pool};
@@ -17,8 +17,16 @@ use crate::recorded::Recorded;
 use crate::refusals::ExploreRefusal;
 use crate::view::View;
 use ml_base::NoMemory;
-use ml_sequent::{Choice, LocalPhase, Side, Spread};
+use ml_sequent::{Branch, Choice, Side};
 use std::alloc::Global;
+
+/// What is done at a position: nothing more than is recorded of it, or a side is chosen at an or-node, which leads to these
+/// numbers.
+#[derive(Debug, Drop)]
+pub(crate) enum Turn {
+    Ended(Recorded),
+    Open { node: u32, left: u32, right: u32 },
+}
 
 // the number, if that many positions are allowed
 fn within(number: usize, limit: u32) -> Result<u32, ExploreRefusal>
@@ -87,50 +95,47 @@ fn chosen(
 
 // where an or-node is open: the positions with a side chosen at the least one
 fn choose(
-    phase: &LocalPhase,
+    branch: &Branch,
     terms: &Terms,
     pool: &mut Pool,
     limit: u32,
     v: u32,
-    spread: &Spread,
-) -> Result<Option<Recorded>, ExploreRefusal>
-    requires terms { AreTerms phase.now terms.now }
-    requires at { IsAt phase.now limit pool.old v spread.now }
-    requires no_clash { (x : ClashCause) → ¬ (IsCause phase.now spread.now x) }
-    ensures some { IfOk result (λ found. IfSome found (IsTurned phase.now limit (positions_of pool.old) v pool.new)) }
-    ensures none { IfOk result (λ found. IfNone found (((n : ℕ) → ¬ (IsOpenOr phase.now spread.now n)) × (pool.new ≡ pool.old))) }
-    ensures passed { IsErrOf result refusal.Passed → HasMoreThan phase.now limit }
+    node: u32,
+) -> Result<Turn, ExploreRefusal>
+    requires terms { AreTerms branch.now.graph terms.now }
+    requires at { IsAt branch.now.graph limit pool.old v branch.now.spread }
+    requires no_clash { (x : ClashCause) → ¬ (IsCause branch.now.graph branch.now.spread x) }
+    requires least { IsLeastOpenOr branch.now.graph branch.now.spread node }
+    ensures turned { IfOk result (IsTurnOf branch.now.graph limit (positions_of pool.old) v branch.now.spread pool.new) }
+    ensures passed { IsErrOf result refusal.Passed → HasMoreThan branch.now.graph limit }
 {
-    let Some(node) = phase.open_or(spread) else {
-        return Ok(None);
-    };
     let left = chosen(pool, limit, v, terms.neutral, node, Side::Left)?;
     let right = chosen(pool, limit, v, terms.neutral, node, Side::Right)?;
-    Ok(Some(Recorded::Chosen { left, right }))
+    Ok(Turn::Open { node, left, right })
 }
 
 // the positions to which the steps along the diamonds lead
 fn follow_all(
     alloc: Global,
-    phase: &mut LocalPhase,
+    branch: &mut Branch,
     terms: &Terms,
     view: View,
-    spread: &Spread,
     diamonds: &[u32],
 ) -> Result<Vec<Fresh>, NoMemory>
-    requires is_graph { IsGraph phase.old }
-    requires small { automaton_states phase.old ≤ 2 ^ 30 }
-    requires terms { AreTerms phase.old terms.now }
-    requires reached { IsReached phase.old (viewed view) }
-    requires spread { IsSpreadOf phase.old view.sequent.now view.choice.now spread.now }
-    requires diamonds { diamonds.now ≡ diamonds_of phase.old spread.now }
-    ensures graph { phase.new ≡ phase.old }
+    requires is_graph { IsGraph branch.old.graph }
+    requires small { automaton_states branch.old.graph ≤ 2 ^ 30 }
+    requires terms { AreTerms branch.old.graph terms.now }
+    requires reached { IsReached branch.old.graph (viewed view) }
+    requires sequent { branch.old.sequent ≡ view.sequent.now }
+    requires spread { IsSpreadOf branch.old.graph view.sequent.now view.choice.now branch.old.spread }
+    requires diamonds { diamonds.now ≡ diamonds_of branch.old.graph branch.old.spread }
+    ensures same { branch.new ≡ branch.old }
     ensures steps { IfOk result (λ made.
-        AreSteps phase.old (viewed view.entry) spread.now diamonds.now (map target_of made.items)) }
+        AreSteps branch.old.graph (viewed view.entry) branch.old.spread diamonds.now (map target_of made.items)) }
 {
     let mut made = Vec::with_capacity(alloc, diamonds.len())?;
     for diamond in diamonds {
-        made.push(follow(alloc, phase, terms, view, spread, *diamond)?)?;
+        made.push(follow(alloc, branch, terms, view, *diamond)?)?;
     }
     Ok(made)
 }
@@ -138,27 +143,27 @@ fn follow_all(
 // the numbers of the positions to which the steps along the diamonds lead
 fn lead(
     alloc: Global,
-    phase: &mut LocalPhase,
+    branch: &mut Branch,
     terms: &Terms,
     pool: &mut Pool,
     limit: u32,
     v: u32,
-    spread: &Spread,
     diamonds: &[u32],
 ) -> Result<Vec<u64>, ExploreRefusal>
-    requires is_graph { IsGraph phase.old }
-    requires small { automaton_states phase.old ≤ 2 ^ 30 }
-    requires terms { AreTerms phase.old terms.now }
-    requires at { IsAt phase.old limit pool.old v spread.now }
-    requires resolved { IsResolved phase.old spread.now }
-    requires diamonds { diamonds.now ≡ diamonds_of phase.old spread.now }
+    requires is_graph { IsGraph branch.old.graph }
+    requires small { automaton_states branch.old.graph ≤ 2 ^ 30 }
+    requires terms { AreTerms branch.old.graph terms.now }
+    requires at { IsAt branch.old.graph limit pool.old v branch.old.spread }
+    requires sequent { branch.old.sequent ≡ (at_place branch.old.graph (positions_of pool.old) v).sequent }
+    requires resolved { IsResolved branch.old.graph branch.old.spread }
+    requires diamonds { diamonds.now ≡ diamonds_of branch.old.graph branch.old.spread }
     requires some { 0 < length diamonds.now }
-    ensures graph { phase.new ≡ phase.old }
-    ensures led { IfOk result (IsLed phase.old limit (positions_of pool.old) v pool.new) }
-    ensures passed { IsErrOf result refusal.Passed → HasMoreThan phase.old limit }
+    ensures same { branch.new ≡ branch.old }
+    ensures led { IfOk result (IsLed branch.old.graph limit (positions_of pool.old) v pool.new) }
+    ensures passed { IsErrOf result refusal.Passed → HasMoreThan branch.old.graph limit }
 {
     let view = pool.view(v as usize);
-    let made = follow_all(alloc, phase, terms, view, spread, diamonds)?;
+    let made = follow_all(alloc, branch, terms, view, diamonds)?;
     let mut moves = Vec::with_capacity(alloc, made.len())?;
     for fresh in made {
         let number = number(pool, limit, fresh)?;
@@ -170,69 +175,53 @@ fn lead(
 // where nothing clashes and no or-node is open
 fn go_on(
     alloc: Global,
-    phase: &mut LocalPhase,
+    branch: &mut Branch,
     terms: &Terms,
     pool: &mut Pool,
     limit: u32,
     v: u32,
-    spread: &Spread,
-) -> Result<Recorded, ExploreRefusal>
-    requires is_graph { IsGraph phase.old }
-    requires small { automaton_states phase.old ≤ 2 ^ 30 }
-    requires terms { AreTerms phase.old terms.now }
-    requires at { IsAt phase.old limit pool.old v spread.now }
-    requires resolved { IsResolved phase.old spread.now }
-    ensures graph { phase.new ≡ phase.old }
-    ensures turned { IfOk result (IsTurned phase.old limit (positions_of pool.old) v pool.new) }
-    ensures passed { IsErrOf result refusal.Passed → HasMoreThan phase.old limit }
+) -> Result<Turn, ExploreRefusal>
+    requires is_graph { IsGraph branch.old.graph }
+    requires small { automaton_states branch.old.graph ≤ 2 ^ 30 }
+    requires terms { AreTerms branch.old.graph terms.now }
+    requires at { IsAt branch.old.graph limit pool.old v branch.old.spread }
+    requires sequent { branch.old.sequent ≡ (at_place branch.old.graph (positions_of pool.old) v).sequent }
+    requires resolved { IsResolved branch.old.graph branch.old.spread }
+    ensures same { branch.new ≡ branch.old }
+    ensures turned { IfOk result (IsTurnOf branch.old.graph limit (positions_of pool.old) v branch.old.spread pool.new) }
+    ensures passed { IsErrOf result refusal.Passed → HasMoreThan branch.old.graph limit }
 {
-    let diamonds = phase.diamonds(spread)?;
+    let diamonds = branch.diamonds()?;
     if diamonds.is_empty() {
-        return Ok(Recorded::Won);
+        return Ok(Turn::Ended(Recorded::Won));
     }
-    let moves = lead(alloc, phase, terms, pool, limit, v, spread, &diamonds)?;
-    Ok(Recorded::Led(moves))
+    let moves = lead(alloc, branch, terms, pool, limit, v, &diamonds)?;
+    Ok(Turn::Ended(Recorded::Led(moves)))
 }
 
-// the spread of a position
-fn spread_at(phase: &mut LocalPhase, pool: &Pool, v: u32) -> Result<Spread, NoMemory>
-    requires is_graph { IsGraph phase.old }
-    requires pool { KeepsPool pool.now }
-    requires number { v < length (positions_of pool.now) }
-    requires reached { IsReached phase.old (at_place phase.old (positions_of pool.now) v) }
-    ensures graph { phase.new ≡ phase.old }
-    ensures of { IfOk result (IsSpreadOf phase.old (at_place phase.old (positions_of pool.now) v).sequent
-        (at_place phase.old (positions_of pool.now) v).choice) }
-    ensures is_spread { IfOk result (IsSpread phase.old) }
-{
-    let view = pool.view(v as usize);
-    phase.spread(view.sequent, view.choice)
-}
-
-// what is done at a position
-pub(crate) fn turn(
+// what is done at the position at which the branch stands
+pub(crate) fn take_turn(
     alloc: Global,
-    phase: &mut LocalPhase,
+    branch: &mut Branch,
     terms: &Terms,
     pool: &mut Pool,
     limit: u32,
     v: u32,
-) -> Result<Recorded, ExploreRefusal>
-    requires is_graph { IsGraph phase.old }
-    requires small { automaton_states phase.old ≤ 2 ^ 30 }
-    requires terms { AreTerms phase.old terms.now }
-    requires explores { Explores phase.old limit pool.old }
-    requires number { v < length (positions_of pool.old) }
-    ensures graph { phase.new ≡ phase.old }
-    ensures turned { IfOk result (IsTurned phase.old limit (positions_of pool.old) v pool.new) }
-    ensures passed { IsErrOf result refusal.Passed → HasMoreThan phase.old limit }
+) -> Result<Turn, ExploreRefusal>
+    requires is_graph { IsGraph branch.old.graph }
+    requires small { automaton_states branch.old.graph ≤ 2 ^ 30 }
+    requires terms { AreTerms branch.old.graph terms.now }
+    requires at { IsAt branch.old.graph limit pool.old v branch.old.spread }
+    requires sequent { branch.old.sequent ≡ (at_place branch.old.graph (positions_of pool.old) v).sequent }
+    ensures same { branch.new ≡ branch.old }
+    ensures turned { IfOk result (IsTurnOf branch.old.graph limit (positions_of pool.old) v branch.old.spread pool.new) }
+    ensures passed { IsErrOf result refusal.Passed → HasMoreThan branch.old.graph limit }
 {
-    let spread = spread_at(phase, pool, v)?;
-    if phase.clash(&spread)?.is_some() {
-        return Ok(Recorded::Lost);
+    if branch.is_clashing()? {
+        return Ok(Turn::Ended(Recorded::Lost));
     }
-    if let Some(turn) = choose(phase, terms, pool, limit, v, &spread)? {
-        return Ok(turn);
+    match branch.open_or() {
+        Some(node) => choose(branch, terms, pool, limit, v, node),
+        None => go_on(alloc, branch, terms, pool, limit, v),
     }
-    go_on(alloc, phase, terms, pool, limit, v, &spread)
 }

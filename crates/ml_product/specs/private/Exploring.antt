@@ -11,15 +11,25 @@
 --   target_of x        == the target that is the position made as x
 --   IsLed              == the vertices are those of the moves from the position at v, along diamonds
 --   IsTurned           == the pool that was has become that which is, and what is found at the position at v was recorded
+--   AddsUnchosen g ps b == no side is chosen at the positions that are new
+--   IsEnded, IsOpened  == so it was, and no side is chosen next, or one is at this or-node, which leads to these numbers
+--   IsTurnOf           == the one or the other
+--   IsWaiting rs v     == nothing was recorded yet of the position at v
+--   Records rs v r ts  == ts is rs with r recorded at v
+--   IsUnderway g limit b rs == what was recorded so far is right
+--   AreWaiting g b rs ws == a position of which nothing was recorded is one of ws, or has no choice
+--   IsExplored g limit b rs v d ts == the exploration went on from the position at v, until nothing waits behind it but
+--                         positions without a choice
 --   IsStarted g b      == the pool has the start alone
 --   arena_of b rs      == the arena of the pool with what was recorded
 --   AreTurned          == so it was for all positions with numbers below that of what was recorded
-use Rattle.std.specs.Prelude.{ℕ, ◌≡◌, ◌<◌, ◌≤◌, List, [], ◌∷◌, ◌++◌, length, map, slice_get, get_or, Some}
+use Rattle.std.specs.Prelude.{ℕ, ◌≡◌, ◌<◌, ◌≤◌, ◌⊎◌, List, [], ◌∷◌, ◌++◌, length, map, slice_get, get_or, Some}
 use Rattle.std.specs.Global.{Vec}
 use Rattle.ml_lists.specs.Member.{IsMember}
 use Rattle.ml_graph.specs.Graph.{Graph, odd_priorities}
-use Rattle.ml_sequent.specs.Spread.{SpreadList, IsSpreadOf}
-use Rattle.ml_product.specs.Position.{Position, start_of, neutral}
+use Rattle.ml_sequent.specs.declared.choice.Side.TheVariants.{Left, Right}
+use Rattle.ml_sequent.specs.Spread.{SpreadList, IsSpreadOf, IsOpenOr}
+use Rattle.ml_product.specs.Position.{Position, start_of, neutral, with_chosen}
 use Rattle.ml_product.specs.DecisionGame.{Target, To, IsReached}
 use Rattle.ml_product.specs.Arena.{Arena}
 use Rattle.ml_product.specs.declared.following.Terms.{Terms}
@@ -27,6 +37,8 @@ use Rattle.ml_product.specs.declared.pool.Fresh.{Fresh}
 use Rattle.ml_product.specs.declared.pool.Pool.{Pool}
 use Rattle.ml_product.specs.declared.recorded.Recorded.{Recorded}
 use Rattle.ml_product.specs.declared.recorded.Recorded.TheVariants as recorded
+use Rattle.ml_product.specs.declared.turns.Turn.{Turn}
+use Rattle.ml_product.specs.declared.turns.Turn.TheVariants as turn
 use Rattle.ml_product.specs.private.Pools.{positions_of, position_of, KeepsPool}
 use Rattle.ml_lists.specs.Added.{IsAdded}
 use Rattle.ml_product.specs.private.Recorded.{owner_of, moves_of, IsRecorded}
@@ -77,15 +89,70 @@ pub record IsAt (g : Graph) (limit : ℕ) (b : Pool) (v : ℕ) (sp : SpreadList)
 abbrev pub target_of : Fresh → Target
 target_of x = To (position_of x)
 
+-- no side is chosen at the positions that are new
+abbrev pub AddsUnchosen : Graph → List Position → Pool → Type 0
+AddsUnchosen g ps b = (w : ℕ) → length ps ≤ w → w < length (positions_of b) → (at_place g (positions_of b) w).choice ≡ []
+
 -- and the vertices are those of the moves from the position at v, along diamonds
 pub record IsLed (g : Graph) (limit : ℕ) (ps : List Position) (v : ℕ) (b : Pool) (vs : Vec ℕ) : Type 0 where
   pub becomes : Becomes g limit ps b
   pub recorded : IsRecorded g (positions_of b) (at_place g ps v) (recorded.Led vs)
+  pub unchosen : AddsUnchosen g ps b
 
 -- and what is found at the position at v was recorded
 pub record IsTurned (g : Graph) (limit : ℕ) (ps : List Position) (v : ℕ) (b : Pool) (r : Recorded) : Type 0 where
   pub becomes : Becomes g limit ps b
   pub recorded : IsRecorded g (positions_of b) (at_place g ps v) r
+
+-- and no side is chosen next
+pub record IsEnded (g : Graph) (limit : ℕ) (ps : List Position) (v : ℕ) (b : Pool) (r : Recorded) : Type 0 where
+  pub turned : IsTurned g limit ps v b r
+  pub is_found : r ≡ recorded.Waiting → ⊥
+  pub unchosen : AddsUnchosen g ps b
+
+-- or a side is chosen at this or-node, which leads to these numbers
+pub record IsOpened (g : Graph) (limit : ℕ) (ps : List Position) (v : ℕ) (sp : SpreadList) (b : Pool) (node l r : ℕ) : Type 0 where
+  pub turned : IsTurned g limit ps v b (recorded.Chosen l r)
+  pub is_open : IsOpenOr g sp node
+  pub left : slice_get (positions_of b) l ≡ Some (with_chosen g (at_place g ps v) node Left)
+  pub right : slice_get (positions_of b) r ≡ Some (with_chosen g (at_place g ps v) node Right)
+  pub only : (w : ℕ) → length ps ≤ w → w < length (positions_of b) → (w ≡ l) ⊎ (w ≡ r)
+
+-- the one or the other
+abbrev pub IsTurnOf : Graph → ℕ → List Position → ℕ → SpreadList → Pool → Turn → Type 0
+IsTurnOf g limit ps v sp b (turn.Ended r) = IsEnded g limit ps v b r
+IsTurnOf g limit ps v sp b (turn.Open node l r) = IsOpened g limit ps v sp b node l r
+
+-- nothing was recorded yet of the position at v
+abbrev pub IsWaiting : List Recorded → ℕ → Type 0
+IsWaiting rs v = get_or rs v recorded.Waiting ≡ recorded.Waiting
+
+-- ts is rs with r recorded at v
+pub record Records (rs : List Recorded) (v : ℕ) (r : Recorded) (ts : List Recorded) : Type 0 where
+  pub here : get_or ts v recorded.Waiting ≡ r
+  pub others : (w : ℕ) → (w ≡ v → ⊥) → get_or ts w recorded.Waiting ≡ get_or rs w recorded.Waiting
+  pub few : (n : ℕ) → length rs ≤ n → v < n → length ts ≤ n
+
+-- what was recorded so far is right
+pub record IsUnderway (g : Graph) (limit : ℕ) (b : Pool) (rs : List Recorded) : Type 0 where
+  pub explores : Explores g limit b
+  pub starts : slice_get (positions_of b) 0 ≡ Some (start_of g)
+  pub within : length rs ≤ length (positions_of b)
+  pub recorded : (v : ℕ) → (IsWaiting rs v → ⊥)
+      → IsRecorded g (positions_of b) (at_place g (positions_of b) v) (get_or rs v recorded.Waiting)
+
+-- a position of which nothing was recorded is one of ws, or has no choice
+abbrev pub AreWaiting : Graph → Pool → List Recorded → List ℕ → Type 0
+AreWaiting g b rs ws = (v : ℕ) → v < length (positions_of b) → IsWaiting rs v
+    → IsMember v ws ⊎ ((at_place g (positions_of b) v).choice ≡ [])
+
+-- the exploration went on from the position at v
+pub record IsExplored (g : Graph) (limit : ℕ) (b : Pool) (rs : List Recorded) (v : ℕ) (d : Pool) (ts : List Recorded) : Type 0 where
+  pub underway : IsUnderway g limit d ts
+  pub longer : IsLonger (positions_of b) (positions_of d)
+  pub kept : (w : ℕ) → (IsWaiting rs w → ⊥) → IsWaiting ts w → ⊥
+  pub done : IsWaiting ts v → ⊥
+  pub waiting : (ws : List ℕ) → AreWaiting g b rs (v ∷ ws) → AreWaiting g d ts ws
 
 -- so it was for all positions with numbers below that of what was recorded
 pub record AreTurned (g : Graph) (limit : ℕ) (b : Pool) (rs : List Recorded) : Type 0 where

@@ -19,6 +19,7 @@ use Rattle.ml_product.specs.DecisionGame.{Target, To, Lost, Won, Turn, mover}
 
 -- who moves
 abbrev pub owner_of : Recorded → Player
+owner_of recorded.Waiting = Even
 owner_of recorded.Lost = Even
 owner_of recorded.Won = Even
 owner_of (recorded.Chosen l r) = Even
@@ -26,6 +27,7 @@ owner_of (recorded.Led moves) = Odd
 
 -- the moves, where there are n positions
 abbrev pub moves_of : ℕ → Recorded → List ℕ
+moves_of n recorded.Waiting = []
 moves_of n recorded.Lost = n ∷ []
 moves_of n recorded.Won = (n + 1) ∷ []
 moves_of n (recorded.Chosen l r) = l ∷ r ∷ []

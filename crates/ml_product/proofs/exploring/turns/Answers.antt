@@ -1,25 +1,38 @@
--- One position more for which what was found is recorded.
-use Rattle.std.proofs.Common.{◌≡◌, ◌<◌, length, sym, ◌∙◌, subst, arith}
+-- One number more is explored, and at the end all are.
+use Rattle.std.proofs.Common.{ℕ, ◌<◌, length, sym, ap, ◌∙◌, subst, arith}
 use Rattle.std.proofs.lemmas.List.{length-map}
+use Rattle.ml_graph.specs.Graph.{Graph}
 use Rattle.ml_product.specs.private.Shared.{seen}
 use Rattle.ml_product.specs.private.Pools.{positions_of}
-use Rattle.ml_product.specs.private.Exploring.{AreTurned, IsTurned}
-use Rattle.ml_product.proofs.Ended.{turned_more}
+use Rattle.ml_product.specs.private.Exploring.{AreTurned, IsExplored, IsWaiting}
+use Rattle.ml_product.proofs.Underway.{explored_next, explored_waiting, all_long, all_turned}
 use Rattle.ml_product.proofs.exploring.turns.Goals as goal
 
-pub loop-alloc-preserved : goal.loop-alloc-preserved
-loop-alloc-preserved c =
-    let g = c.args.phase.now in
-    let l = c.loop-alloc in
-    let rs = l.turns.items in
-    let many : length rs ≡ c.len-in-loop-alloc-2.result = sym (c.len-in-loop-alloc-2.ensures ∙ l.turns.ok.0) in
-    let long = length-map l.pool.positions.keys (seen l.pool.sequents.keys l.pool.histories.keys) in
-    let low : length rs < length (positions_of l.pool) = omega (arith, long, many) in
-    let at : IsTurned g c.args.limit (positions_of l.pool) (length rs) c.turn.new.pool c.in_ok-turn.turn =
-    subst (λ n. IsTurned g c.args.limit (positions_of l.pool) n c.turn.new.pool c.in_ok-turn.turn) (sym many)
-    (subst (λ h. IsTurned h c.args.limit (positions_of l.pool) c.len-in-loop-alloc-2.result c.turn.new.pool
-    c.in_ok-turn.turn) l.invariant.0 c.in_ok-turn.ensures.turned) in (
-      c.in_ok-turn.ensures.graph ∙ l.invariant.0,
-      subst (AreTurned g c.args.limit c.turn.new.pool) (sym c.in_ok-push.ensures.items)
-          (turned_more g c.args.limit l.pool c.turn.new.pool rs c.in_ok-turn.turn l.invariant.1 low at),
-    )
+pub loop-v-preserved : goal.loop-v-preserved
+loop-v-preserved c =
+    let g = c.args.branch.now.graph in
+    let l = c.loop-v in
+    let explored = subst (λ (h : Graph). IsExplored h c.args.limit l.pool l.turns l.v c.explore_from.new.pool c.explore_from.new.turns)
+    l.invariant.graph c.in_ok-explore_from.ensures.explored in
+    record {
+      graph = c.in_ok-explore_from.ensures.graph ∙ l.invariant.graph;
+      underway = explored.underway;
+      waiting = explored_waiting g c.args.limit l.pool c.explore_from.new.pool l.turns c.explore_from.new.turns l.v explored l.invariant.waiting;
+      done = explored_next g c.args.limit l.pool c.explore_from.new.pool l.turns c.explore_from.new.turns l.v explored l.invariant.done;
+    }
+
+all_done : (c : goal.After-into_vec) → (v : ℕ) → v < length (positions_of c.loop-v.pool) → IsWaiting c.loop-v.turns v → ⊥
+all_done c v low =
+    let pool = c.loop-v.pool in
+    let long = length-map pool.positions.keys (seen pool.sequents.keys pool.histories.keys) in
+    c.loop-v.invariant.done v (omega (arith, long, low, c.len.ensures, c.loop-v-test.false))
+
+pub returns-clause-turned : goal.returns-clause-turned
+returns-clause-turned c =
+    subst (AreTurned c.args.branch.now.graph c.args.limit c.loop-v.pool) (sym c.into_vec.ensures)
+    (all_turned c.args.branch.now.graph c.args.limit c.loop-v.pool c.loop-v.turns c.loop-v.invariant.underway (all_done c))
+
+pub returns-clause-whole : goal.returns-clause-whole
+returns-clause-whole c =
+    ap length c.into_vec.ensures
+    ∙ all_long c.args.branch.now.graph c.args.limit c.loop-v.pool c.loop-v.turns c.loop-v.invariant.underway (all_done c)

@@ -1,9 +1,14 @@
-use Rattle.std.proofs.Common.{◌≡◌, ◌-◌, length}
-use Rattle.ml_product.specs.private.Exploring.{AreTurned}
+use Rattle.std.proofs.Common.{ℕ, ◌≡◌, ◌<◌, ◌-◌, []}
+use Rattle.ml_product.specs.private.Exploring.{IsUnderway, IsWaiting, AreWaiting}
 use Rattle.ml_product.proofs.exploring.turns.Given as goal
 
-abbrev pub invariant-loop-alloc : goal.invariant-loop-alloc
-invariant-loop-alloc l = (l.phase ≡ l.fn.phase) × AreTurned l.fn.phase l.limit l.pool l.turns.items
+abbrev pub invariant-loop-v : goal.invariant-loop-v
+invariant-loop-v l = record {
+  graph : l.branch.graph ≡ l.fn.branch.graph;
+  underway : IsUnderway l.fn.branch.graph l.limit l.pool l.turns;
+  waiting : AreWaiting l.fn.branch.graph l.pool l.turns [];
+  done : (w : ℕ) → w < l.v → IsWaiting l.turns w → ⊥;
+}
 
-abbrev pub decreases-loop-alloc : goal.decreases-loop-alloc
-decreases-loop-alloc l = l.limit - length l.turns.items
+abbrev pub decreases-loop-v : goal.decreases-loop-v
+decreases-loop-v l = l.limit - l.v

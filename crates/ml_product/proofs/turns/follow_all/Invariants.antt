@@ -5,5 +5,5 @@ use Rattle.ml_product.specs.private.Exploring.{target_of}
 use Rattle.ml_product.proofs.turns.follow_all.Given as goal
 
 abbrev pub invariant-loop-diamond : goal.invariant-loop-diamond
-invariant-loop-diamond l = (l.phase ≡ l.fn.phase)
-    × AreSteps l.fn.phase (viewed l.view) l.spread (take l.diamond-index l.diamonds) (map target_of l.made.items)
+invariant-loop-diamond l = (l.branch ≡ l.fn.branch)
+    × AreSteps l.fn.branch.graph (viewed l.view) l.fn.branch.spread (take l.diamond-index l.diamonds) (map target_of l.made.items)

@@ -1,0 +1,324 @@
+-- An exploration that is under way.
+--
+--   recorded_underway == what was found at a position is recorded
+--   ended_explored  == where no side is chosen next, the exploration went on from it
+--   opened_waiting  == where one is, only the positions with a side more wait
+--   explored_both   == both of them are explored, one behind the other
+--   explored_before == from a position that was met before there is nothing to do
+--   explored_next, explored_waiting == so it is for all numbers up to this one, and what waits has no choice
+--   side_at         == with a side more the branch stands at the position with it
+--   begun_at        == a branch that was begun stands at a position without a choice
+--   fewer_sides     == a side more is left for fewer
+--   started_underway, started_waiting == the start alone
+--   all_turned      == where nothing waits, all positions are turned
+use Rattle.std.proofs.Common.{ℕ, ◌≡◌, ◌+◌, ◌-◌, ◌*◌, ◌<◌, ◌≤◌, ◌⊎◌, inl, inr, List, [], ◌∷◌, length, length-append, slice_get, get_or, Some, refl, sym, ap, ◌∙◌, subst, arith}
+use Rattle.std.proofs.lemmas.Bool.{cases_lt}
+use Rattle.std.proofs.lemmas.List.{get_or_past, get_or_default}
+use Rattle.std.proofs.lemmas.Option.{slice_get_within, get_or_from_slice_get}
+use Rattle.ml_lists.specs.Member.{IsMember}
+use Rattle.ml_lists.proofs.Member.{place-member}
+use Rattle.ml_graph.specs.Graph.{Graph, size}
+use Rattle.ml_sequent.specs.declared.choice.Side.{Side}
+use Rattle.ml_sequent.specs.Choice.{with_side}
+use Rattle.ml_sequent.specs.Spread.{SpreadList, IsSpreadOf}
+use Rattle.ml_product.specs.Position.{Position, start_of, with_chosen}
+use Rattle.ml_product.specs.DecisionGame.{IsReached}
+use Rattle.ml_product.specs.declared.pool.Pool.{Pool}
+use Rattle.ml_product.specs.declared.recorded.Recorded.{Recorded}
+use Rattle.ml_product.specs.declared.recorded.Recorded.TheVariants as recorded
+use Rattle.ml_product.specs.private.Pools.{positions_of}
+use Rattle.ml_product.specs.private.Recorded.{IsRecorded}
+use Rattle.ml_product.specs.private.Exploring.{Explores, IsLonger, at_place, IsAt, IsStarted, IsTurned, IsEnded, IsOpened, IsWaiting, Records, IsUnderway, AreWaiting, IsExplored, AreTurned}
+use Rattle.ml_product.proofs.Ended.{started_explores}
+use Rattle.ml_product.proofs.ReachedChoices.{with_side_length, chosen_few}
+use Rattle.ml_product.proofs.Vertices.{longer_get, longer_place, longer_self, longer_both, recorded_later}
+
+-- one list is at most as long as the other
+longer_long : (ps qs : List Position) → IsLonger ps qs → length ps ≤ length qs
+longer_long ps qs is = let e = ap length is.is in omega (arith, length-append ps is.more)
+
+-- what is recorded stands within the list
+found_within : (rs : List Recorded) (v : ℕ) → (IsWaiting rs v → ⊥) → v < length rs
+found_within rs v found = by_place (cases_lt v (length rs))
+  where
+    by_place : (v < length rs) ⊎ (length rs ≤ v) → v < length rs
+    by_place (inl low) = low
+    by_place (inr past) = absurd (found (get_or_past rs v recorded.Waiting past))
+
+-- a number is one or another one
+apart : (v w : ℕ) → (w ≡ v) ⊎ (w ≡ v → ⊥)
+apart v w = by_order (cases_lt v w) (cases_lt w v)
+  where
+    by_order : (v < w) ⊎ (w ≤ v) → (w < v) ⊎ (v ≤ w) → (w ≡ v) ⊎ (w ≡ v → ⊥)
+    by_order (inl more) second = inr (λ e. omega arith)
+    by_order (inr less) (inl below) = inr (λ e. omega arith)
+    by_order (inr less) (inr more) = inl (omega arith)
+
+-- what was found at a position is recorded
+module _ (g : Graph) (limit : ℕ) (b d : Pool) (rs ts : List Recorded) (v : ℕ) (r : Recorded)
+    (u : IsUnderway g limit b rs) (low : v < length (positions_of b))
+    (is : IsTurned g limit (positions_of b) v d r) (records : Records rs v r ts) where
+  longer : IsLonger (positions_of b) (positions_of d)
+  longer = is.becomes.longer
+
+  pub recorded_underway : IsUnderway g limit d ts
+  recorded_underway = record {
+    explores = is.becomes.explores;
+    starts = longer_get (positions_of b) (positions_of d) longer 0 (start_of g) u.starts;
+    within = records.few (length (positions_of d)) (omega (arith, u.within, longer_long (positions_of b) (positions_of d) longer))
+        (omega (arith, low, longer_long (positions_of b) (positions_of d) longer));
+    recorded = λ w found. at_number w found (apart v w);
+  }
+    where
+      at_number : (w : ℕ) → (IsWaiting ts w → ⊥) → (w ≡ v) ⊎ (w ≡ v → ⊥)
+          → IsRecorded g (positions_of d) (at_place g (positions_of d) w) (get_or ts w recorded.Waiting)
+      at_number w found (inl here) =
+          let place : at_place g (positions_of b) v ≡ at_place g (positions_of d) w =
+          sym (ap (at_place g (positions_of d)) here ∙ longer_place g (positions_of b) (positions_of d) longer v low) in
+          let what : r ≡ get_or ts w recorded.Waiting = sym (ap (λ k. get_or ts k recorded.Waiting) here ∙ records.here) in
+          subst (IsRecorded g (positions_of d) (at_place g (positions_of d) w)) what
+          (subst (λ p. IsRecorded g (positions_of d) p r) place is.recorded)
+      at_number w found (inr other) =
+          let same = records.others w other in
+          let before : IsWaiting rs w → ⊥ = λ waits. found (same ∙ waits) in
+          let w_low : w < length (positions_of b) = omega (arith, found_within rs w before, u.within) in
+          subst (IsRecorded g (positions_of d) (at_place g (positions_of d) w)) (sym same)
+          (subst (λ p. IsRecorded g (positions_of d) p (get_or rs w recorded.Waiting))
+          (sym (longer_place g (positions_of b) (positions_of d) longer w w_low))
+          (recorded_later g (positions_of b) (positions_of d) longer (at_place g (positions_of b) w)
+          (get_or rs w recorded.Waiting) (u.recorded w before)))
+
+  pub recorded_kept : (r ≡ recorded.Waiting → ⊥) → (w : ℕ) → (IsWaiting rs w → ⊥) → IsWaiting ts w → ⊥
+  recorded_kept real w found waits = at_number (apart v w)
+    where
+      at_number : (w ≡ v) ⊎ (w ≡ v → ⊥) → ⊥
+      at_number (inl here) = real (sym (ap (λ k. get_or ts k recorded.Waiting) here ∙ records.here) ∙ waits)
+      at_number (inr other) = found (sym (records.others w other) ∙ waits)
+
+  pub recorded_done : (r ≡ recorded.Waiting → ⊥) → IsWaiting ts v → ⊥
+  recorded_done real waits = real (sym records.here ∙ waits)
+
+  -- what waits still waited before, or is new
+  pub still_waiting : (ws : List ℕ) → (r ≡ recorded.Waiting → ⊥) → AreWaiting g b rs (v ∷ ws)
+      → (w : ℕ) → w < length (positions_of d) → IsWaiting ts w
+      → (IsMember w ws ⊎ ((at_place g (positions_of d) w).choice ≡ [])) ⊎ (length (positions_of b) ≤ w)
+  still_waiting ws real before w w_low waits = by_place (cases_lt w (length (positions_of b)))
+    where
+      other : w ≡ v → ⊥
+      other here = real (sym (ap (λ k. get_or ts k recorded.Waiting) here ∙ records.here) ∙ waits)
+
+      by_list : w < length (positions_of b)
+          → IsMember w (v ∷ ws) ⊎ ((at_place g (positions_of b) w).choice ≡ [])
+          → IsMember w ws ⊎ ((at_place g (positions_of d) w).choice ≡ [])
+      by_list early (inl (inl here)) = absurd (other here)
+      by_list early (inl (inr m)) = inl m
+      by_list early (inr none) =
+          inr (ap (λ (p : Position). p.choice) (longer_place g (positions_of b) (positions_of d) longer w early) ∙ none)
+
+      by_place : (w < length (positions_of b)) ⊎ (length (positions_of b) ≤ w)
+          → (IsMember w ws ⊎ ((at_place g (positions_of d) w).choice ≡ [])) ⊎ (length (positions_of b) ≤ w)
+      by_place (inl early) = inl (by_list early (before w early (sym (records.others w other) ∙ waits)))
+      by_place (inr late) = inr late
+
+-- where no side is chosen next, the exploration went on from it
+pub ended_explored : (g : Graph) (limit : ℕ) (b d : Pool) (rs ts : List Recorded) (v : ℕ) (r : Recorded)
+    → IsUnderway g limit b rs
+    → v < length (positions_of b)
+    → IsEnded g limit (positions_of b) v d r
+    → Records rs v r ts
+    → IsExplored g limit b rs v d ts
+ended_explored g limit b d rs ts v r u low is records = record {
+  underway = recorded_underway g limit b d rs ts v r u low is.turned records;
+  longer = is.turned.becomes.longer;
+  kept = recorded_kept g limit b d rs ts v r u low is.turned records is.is_found;
+  done = recorded_done g limit b d rs ts v r u low is.turned records is.is_found;
+  waiting = λ ws before w w_low waits.
+      new_or_old w w_low (still_waiting g limit b d rs ts v r u low is.turned records ws is.is_found before w w_low waits);
+}
+  where
+    new_or_old : {A : Type 0} (w : ℕ) → w < length (positions_of d)
+        → (A ⊎ ((at_place g (positions_of d) w).choice ≡ [])) ⊎ (length (positions_of b) ≤ w)
+        → A ⊎ ((at_place g (positions_of d) w).choice ≡ [])
+    new_or_old w w_low (inl old) = old
+    new_or_old w w_low (inr late) = inr (is.unchosen w late w_low)
+
+-- where one is, only the positions with a side more wait
+pub opened_waiting : (g : Graph) (limit : ℕ) (b d : Pool) (rs ts : List Recorded) (v : ℕ) (sp : SpreadList) (node l r : ℕ)
+    → IsUnderway g limit b rs
+    → v < length (positions_of b)
+    → IsOpened g limit (positions_of b) v sp d node l r
+    → Records rs v (recorded.Chosen l r) ts
+    → (ws : List ℕ)
+    → AreWaiting g b rs (v ∷ ws)
+    → AreWaiting g d ts (l ∷ r ∷ ws)
+opened_waiting g limit b d rs ts v sp node l r u low is records ws before w w_low waits =
+    by_kind (still_waiting g limit b d rs ts v (recorded.Chosen l r) u low is.turned records ws (λ e. cc) before w w_low waits)
+  where
+    by_kind : (IsMember w ws ⊎ ((at_place g (positions_of d) w).choice ≡ [])) ⊎ (length (positions_of b) ≤ w)
+        → IsMember w (l ∷ r ∷ ws) ⊎ ((at_place g (positions_of d) w).choice ≡ [])
+    by_kind (inl (inl m)) = inl (inr (inr m))
+    by_kind (inl (inr none)) = inr none
+    by_kind (inr late) = new (is.only w late w_low)
+      where
+        new : (w ≡ l) ⊎ (w ≡ r) → IsMember w (l ∷ r ∷ ws) ⊎ ((at_place g (positions_of d) w).choice ≡ [])
+        new (inl left) = inl (inl left)
+        new (inr right) = inl (inr (inl right))
+
+-- both of them are explored, one behind the other
+pub explored_both : (g : Graph) (limit : ℕ) (b d e f : Pool) (rs ts us xs : List Recorded) (v : ℕ) (sp : SpreadList) (node l r : ℕ)
+    → IsUnderway g limit b rs
+    → v < length (positions_of b)
+    → IsOpened g limit (positions_of b) v sp d node l r
+    → Records rs v (recorded.Chosen l r) ts
+    → IsExplored g limit d ts l e us
+    → IsExplored g limit e us r f xs
+    → IsExplored g limit b rs v f xs
+explored_both g limit b d e f rs ts us xs v sp node l r u low is records one two = record {
+  underway = two.underway;
+  longer = longer_both (positions_of b) (positions_of e) (positions_of f)
+      (longer_both (positions_of b) (positions_of d) (positions_of e) is.turned.becomes.longer one.longer) two.longer;
+  kept = λ w found. two.kept w (one.kept w
+      (recorded_kept g limit b d rs ts v (recorded.Chosen l r) u low is.turned records (λ x. cc) w found));
+  done = two.kept v (one.kept v (recorded_done g limit b d rs ts v (recorded.Chosen l r) u low is.turned records (λ x. cc)));
+  waiting = λ ws before. two.waiting ws (one.waiting (r ∷ ws)
+      (opened_waiting g limit b d rs ts v sp node l r u low is records ws before));
+}
+
+-- from a position that was met before there is nothing to do
+pub explored_before : (g : Graph) (limit : ℕ) (b : Pool) (rs : List Recorded) (v : ℕ)
+    → IsUnderway g limit b rs
+    → (IsWaiting rs v → ⊥)
+    → IsExplored g limit b rs v b rs
+explored_before g limit b rs v u found = record {
+  underway = u;
+  longer = longer_self (positions_of b);
+  kept = λ w there. there;
+  done = found;
+  waiting = λ ws before w low waits. other ws w waits (before w low waits);
+}
+  where
+    other : (ws : List ℕ) (w : ℕ) → IsWaiting rs w
+        → IsMember w (v ∷ ws) ⊎ ((at_place g (positions_of b) w).choice ≡ [])
+        → IsMember w ws ⊎ ((at_place g (positions_of b) w).choice ≡ [])
+    other ws w waits (inl (inl here)) = absurd (found (subst (IsWaiting rs) here waits))
+    other ws w waits (inl (inr m)) = inl m
+    other ws w waits (inr none) = inr none
+
+-- so it is for all numbers up to this one
+pub explored_next : (g : Graph) (limit : ℕ) (b d : Pool) (rs ts : List Recorded) (v : ℕ)
+    → IsExplored g limit b rs v d ts
+    → ((w : ℕ) → w < v → IsWaiting rs w → ⊥)
+    → (w : ℕ) → w < v + 1 → IsWaiting ts w → ⊥
+explored_next g limit b d rs ts v is before w low waits = by_number (apart v w)
+  where
+    by_number : (w ≡ v) ⊎ (w ≡ v → ⊥) → ⊥
+    by_number (inl here) = is.done (subst (IsWaiting ts) here waits)
+    by_number (inr other) = is.kept w (before w (below (cases_lt w v))) waits
+      where
+        below : (w < v) ⊎ (v ≤ w) → w < v
+        below (inl less) = less
+        below (inr more) = absurd (other (omega arith))
+
+-- and what waits has no choice
+pub explored_waiting : (g : Graph) (limit : ℕ) (b d : Pool) (rs ts : List Recorded) (v : ℕ)
+    → IsExplored g limit b rs v d ts
+    → AreWaiting g b rs []
+    → AreWaiting g d ts []
+explored_waiting g limit b d rs ts v is before = is.waiting [] (λ w low waits. more w (before w low waits))
+  where
+    more : (w : ℕ) → ⊥ ⊎ ((at_place g (positions_of b) w).choice ≡ [])
+        → IsMember w (v ∷ []) ⊎ ((at_place g (positions_of b) w).choice ≡ [])
+    more w (inl none) = absurd none
+    more w (inr none) = inr none
+
+-- ---- branches
+
+-- with a side more the branch stands at the position with it
+pub side_at : (g : Graph) (limit : ℕ) (b : Pool) (v w o : ℕ) (s : Side) (sp sp2 : SpreadList)
+    → IsAt g limit b v sp
+    → slice_get (positions_of b) w ≡ Some (with_chosen g (at_place g (positions_of b) v) o s)
+    → ((C : List ℕ) → IsSpreadOf g C sp.choice sp → IsSpreadOf g C (with_side sp.choice o s) sp2)
+    → IsAt g limit b w sp2 × ((at_place g (positions_of b) v).sequent ≡ (at_place g (positions_of b) w).sequent)
+side_at g limit b v w o s sp sp2 at there longer =
+    let here = at_place g (positions_of b) v in
+    let place : at_place g (positions_of b) w ≡ with_chosen g here o s =
+    get_or_from_slice_get (positions_of b) w (with_chosen g here o s) (start_of g) there in
+    let spread = longer here.sequent (subst (λ c. IsSpreadOf g here.sequent c sp) (sym at.is_spread.choice) at.is_spread) in
+    let chosen = subst (λ c. IsSpreadOf g here.sequent (with_side c o s) sp2) at.is_spread.choice spread in (
+      record {
+        explores = at.explores;
+        number = slice_get_within (positions_of b) w (with_chosen g here o s) there;
+        is_spread = subst (λ (p : Position). IsSpreadOf g p.sequent p.choice sp2) (sym place) chosen;
+      },
+      ap (λ (p : Position). p.sequent) (sym place),
+    )
+
+-- a branch that was begun stands at a position without a choice
+pub begun_at : (g : Graph) (limit : ℕ) (b : Pool) (v : ℕ) (C : List ℕ) (sp : SpreadList)
+    → Explores g limit b
+    → v < length (positions_of b)
+    → (at_place g (positions_of b) v).choice ≡ []
+    → C ≡ (at_place g (positions_of b) v).sequent
+    → IsSpreadOf g C [] sp
+    → IsAt g limit b v sp
+begun_at g limit b v C sp explores low none sequent is = record {
+  explores = explores;
+  number = low;
+  is_spread = subst (λ c. IsSpreadOf g (at_place g (positions_of b) v).sequent c sp) (sym none)
+      (subst (λ ns. IsSpreadOf g ns [] sp) sequent is);
+}
+
+-- a side more is left for fewer
+pub fewer_sides : (g : Graph) (limit : ℕ) (b : Pool) (v w o : ℕ) (s : Side) (sp sp2 : SpreadList)
+    → IsAt g limit b v sp
+    → IsAt g limit b w sp2
+    → slice_get (positions_of b) w ≡ Some (with_chosen g (at_place g (positions_of b) v) o s)
+    → 2 * (size g - length sp2.choice) + 1 < 2 * (size g - length sp.choice)
+fewer_sides g limit b v w o s sp sp2 at at2 there =
+    let here = at_place g (positions_of b) v in
+    let place : at_place g (positions_of b) w ≡ with_chosen g here o s =
+    get_or_from_slice_get (positions_of b) w (with_chosen g here o s) (start_of g) there in
+    let reached = subst (IsReached g) place (at2.explores.are_reached (at_place g (positions_of b) w)
+    (place-member (positions_of b) w (start_of g) at2.number)) in
+    let few = chosen_few g (with_chosen g here o s) reached in
+    let long = with_side_length here.choice o s in
+    let first = ap length at.is_spread.choice in
+    let second = ap length (at2.is_spread.choice ∙ ap (λ (p : Position). p.choice) place) in
+    omega arith
+
+-- ---- the beginning and the end
+
+-- the start alone
+pub started_underway : (g : Graph) (limit : ℕ) (b : Pool) → 1 ≤ limit → IsStarted g b → IsUnderway g limit b []
+started_underway g limit b some is = record {
+  explores = started_explores g limit b some is;
+  starts = ap (λ ps. slice_get ps 0) is.alone;
+  within = omega arith;
+  recorded = λ v found. absurd (found refl);
+}
+
+pub started_waiting : (g : Graph) (b : Pool) → IsStarted g b → AreWaiting g b [] []
+started_waiting g b is v low waits =
+    let long = ap length is.alone in
+    let first : v ≡ 0 = omega arith in
+    inr (ap (λ (p : Position). p.choice) (ap (at_place g (positions_of b)) first ∙ ap (λ ps. at_place g ps 0) is.alone))
+
+-- where nothing waits, all positions are turned
+module _ (g : Graph) (limit : ℕ) (b : Pool) (rs : List Recorded) (u : IsUnderway g limit b rs)
+    (all : (v : ℕ) → v < length (positions_of b) → IsWaiting rs v → ⊥) where
+  pub all_long : length rs ≡ length (positions_of b)
+  all_long = by_order (cases_lt (length rs) (length (positions_of b)))
+    where
+      by_order : (length rs < length (positions_of b)) ⊎ (length (positions_of b) ≤ length rs) → length rs ≡ length (positions_of b)
+      by_order (inl less) = absurd (all (length rs) less (get_or_past rs (length rs) recorded.Waiting (omega arith)))
+      by_order (inr more) = omega (arith, u.within)
+
+  pub all_turned : AreTurned g limit b rs
+  all_turned = record {
+    explores = u.explores;
+    starts = u.starts;
+    within = u.within;
+    recorded = λ v low. subst (IsRecorded g (positions_of b) (at_place g (positions_of b) v))
+        (get_or_default rs v recorded.Waiting recorded.Lost low)
+        (u.recorded v (all v (omega (arith, u.within))));
+  }

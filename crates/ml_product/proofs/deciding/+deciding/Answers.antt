@@ -1,0 +1,184 @@
+-- The position is turned, its sides are explored one behind the other, and the branch is as before.
+use Rattle.std.proofs.Common.{◌≡◌, ◌<◌, ◌≤◌, ◌+◌, ◌-◌, ◌*◌, ◌^◌, Some, length, slice_get, Result, Ok, Err, OnOk, sym, ap, ◌∙◌, subst, arith}
+use Rattle.ml_graph.specs.Graph.{Graph, IsGraph, size}
+use Rattle.ml_sequent.specs.declared.choice.Side.TheVariants.{Left, Right}
+use Rattle.ml_sequent.specs.Branch.{BranchList}
+use Rattle.ml_sequent.specs.Spread.{IsOpenOr}
+use Rattle.ml_product.specs.Position.{Position, automaton_states, with_chosen}
+use Rattle.ml_product.specs.declared.recorded.Recorded.TheVariants as recorded
+use Rattle.ml_product.specs.private.Pools.{positions_of}
+use Rattle.ml_product.specs.private.Exploring.{AreTerms, at_place, Becomes, IsAt, IsEnded, IsOpened, IsTurnOf, IsUnderway, IsExplored}
+use Rattle.ml_product.proofs.Turning.{spread_of, still_at}
+use Rattle.ml_product.proofs.Underway.{recorded_underway, ended_explored, explored_both, side_at, fewer_sides}
+use Rattle.ml_product.proofs.Vertices.{longer_get, longer_place}
+use Rattle.ml_product.proofs.deciding.+deciding.Goals as goal
+
+pub explore_at-explore_side-requires : goal.explore_at-explore_side-requires
+explore_at-explore_side-requires t c =
+    let g = c.args.branch.now.graph in
+    let limit = c.args.limit in
+    let b = c.args.pool.now in
+    let d = c.take_turn.new.pool in
+    let v = c.args.v in
+    let sp = c.args.branch.now.spread in
+    let node = c.in-Open.node in
+    let opened : IsOpened g limit (positions_of b) v sp d node c.in-Open.left c.in-Open.right =
+    subst (IsTurnOf g limit (positions_of b) v sp d) c.in-Open.is c.in_ok-found.ensures.turned in
+    let place = longer_place g (positions_of b) (positions_of d) opened.turned.becomes.longer v c.requires.at.number in
+    subst (λ (x : BranchList). (2 * (size x.graph - length x.spread.choice) < t)
+    × (IsGraph x.graph × ((automaton_states x.graph ≤ 2 ^ 30) × (AreTerms x.graph c.args.terms.now
+    × (IsUnderway x.graph limit d c.record-in-Open.new.self × (IsAt x.graph limit d v x.spread
+    × ((x.sequent ≡ (at_place x.graph (positions_of d) v).sequent) × (IsOpenOr x.graph x.spread node
+    × (slice_get (positions_of d) c.in-Open.left ≡ Some (with_chosen x.graph (at_place x.graph (positions_of d) v) node Left))))))))))
+    (sym c.in_ok-found.ensures.same) (
+      omega (arith, c.decreases),
+      (
+        c.requires.is_graph,
+        (
+          c.requires.small,
+          (
+            c.requires.terms,
+            (
+              recorded_underway g limit b d c.args.turns.now c.record-in-Open.new.self v (recorded.Chosen c.in-Open.left c.in-Open.right)
+                  c.requires.underway c.requires.at.number opened.turned c.in_ok-record-in-Open.ensures,
+              (
+                still_at g limit b v sp c.requires.at d opened.turned.becomes,
+                (
+                  c.requires.sequent ∙ ap (λ (p : Position). p.sequent) (sym place),
+                  (opened.is_open, opened.left ∙ ap (λ p. Some (with_chosen g p node Left)) (sym place)),
+                ),
+              ),
+            ),
+          ),
+        ),
+      ),
+    )
+
+pub explore_at-explore_side-requires-in-Open : goal.explore_at-explore_side-requires-in-Open
+explore_at-explore_side-requires-in-Open t c =
+    let g = c.args.branch.now.graph in
+    let limit = c.args.limit in
+    let b = c.args.pool.now in
+    let d = c.take_turn.new.pool in
+    let e = c.explore_side.new.pool in
+    let v = c.args.v in
+    let sp = c.args.branch.now.spread in
+    let node = c.in-Open.node in
+    let opened : IsOpened g limit (positions_of b) v sp d node c.in-Open.left c.in-Open.right =
+    subst (IsTurnOf g limit (positions_of b) v sp d) c.in-Open.is c.in_ok-found.ensures.turned in
+    let one : IsExplored g limit d c.record-in-Open.new.self c.in-Open.left e c.explore_side.new.turns =
+    subst (λ (x : BranchList). IsExplored x.graph limit d c.record-in-Open.new.self c.in-Open.left e c.explore_side.new.turns)
+    c.in_ok-found.ensures.same c.in_ok-explore_side-in-Open.ensures.explored in
+    let at_d = still_at g limit b v sp c.requires.at d opened.turned.becomes in
+    let becomes : Becomes g limit (positions_of d) e = record { explores = one.underway.explores; longer = one.longer } in
+    let place = longer_place g (positions_of b) (positions_of d) opened.turned.becomes.longer v c.requires.at.number in
+    let place_e = longer_place g (positions_of d) (positions_of e) one.longer v at_d.number ∙ place in
+    subst (λ (x : BranchList). (2 * (size x.graph - length x.spread.choice) < t)
+    × (IsGraph x.graph × ((automaton_states x.graph ≤ 2 ^ 30) × (AreTerms x.graph c.args.terms.now
+    × (IsUnderway x.graph limit e c.explore_side.new.turns × (IsAt x.graph limit e v x.spread
+    × ((x.sequent ≡ (at_place x.graph (positions_of e) v).sequent) × (IsOpenOr x.graph x.spread node
+    × (slice_get (positions_of e) c.in-Open.right ≡ Some (with_chosen x.graph (at_place x.graph (positions_of e) v) node Right))))))))))
+    (sym (c.in_ok-explore_side-in-Open.ensures.same ∙ c.in_ok-found.ensures.same)) (
+      omega (arith, c.decreases),
+      (
+        c.requires.is_graph,
+        (
+          c.requires.small,
+          (
+            c.requires.terms,
+            (
+              one.underway,
+              (
+                still_at g limit d v sp at_d e becomes,
+                (
+                  c.requires.sequent ∙ ap (λ (p : Position). p.sequent) (sym place_e),
+                  (
+                    opened.is_open,
+                    longer_get (positions_of d) (positions_of e) one.longer c.in-Open.right
+                        (with_chosen g (at_place g (positions_of b) v) node Right) opened.right
+                        ∙ ap (λ p. Some (with_chosen g p node Right)) (sym place_e),
+                  ),
+                ),
+              ),
+            ),
+          ),
+        ),
+      ),
+    )
+
+pub explore_at-returns-in_ok-record-in-Ended-clause-explored : goal.explore_at-returns-in_ok-record-in-Ended-clause-explored
+explore_at-returns-in_ok-record-in-Ended-clause-explored t c =
+    let g = c.args.branch.now.graph in
+    let b = c.args.pool.now in
+    let d = c.take_turn.new.pool in
+    let ended : IsEnded g c.args.limit (positions_of b) c.args.v d c.in-Ended.found =
+    subst (IsTurnOf g c.args.limit (positions_of b) c.args.v c.args.branch.now.spread d) c.in-Ended.is
+    c.in_ok-found.ensures.turned in
+    ended_explored g c.args.limit b d c.args.turns.now c.record.new.self c.args.v c.in-Ended.found c.requires.underway
+    c.requires.at.number ended c.in_ok-record-in-Ended.ensures
+
+on_ok : {T E : Type 0} {P Q : Type 0} (r : Result T E) → (P → Q) → OnOk r P → OnOk r Q
+on_ok (Ok x) f h = f h
+on_ok (Err e) f h = h
+
+pub explore_at-returns-in_ok-explore_side-in-Open-clause-explored : goal.explore_at-returns-in_ok-explore_side-in-Open-clause-explored
+explore_at-returns-in_ok-explore_side-in-Open-clause-explored t c =
+    let g = c.args.branch.now.graph in
+    let limit = c.args.limit in
+    let b = c.args.pool.now in
+    let d = c.take_turn.new.pool in
+    let e = c.explore_side.new.pool in
+    let v = c.args.v in
+    let sp = c.args.branch.now.spread in
+    let ts = c.record-in-Open.new.self in
+    let us = c.explore_side.new.turns in
+    let f = c.explore_side-in-Open.new.pool in
+    let xs = c.explore_side-in-Open.new.turns in
+    let opened : IsOpened g limit (positions_of b) v sp d c.in-Open.node c.in-Open.left c.in-Open.right =
+    subst (IsTurnOf g limit (positions_of b) v sp d) c.in-Open.is c.in_ok-found.ensures.turned in
+    let one : IsExplored g limit d ts c.in-Open.left e us =
+    subst (λ (x : BranchList). IsExplored x.graph limit d ts c.in-Open.left e us) c.in_ok-found.ensures.same
+    c.in_ok-explore_side-in-Open.ensures.explored in
+    on_ok c.explore_side-in-Open.result
+    (λ two. explored_both g limit b d e f c.args.turns.now ts us xs v sp c.in-Open.node c.in-Open.left c.in-Open.right
+    c.requires.underway c.requires.at.number opened c.in_ok-record-in-Open.ensures one
+    (subst (λ (x : BranchList). IsExplored x.graph limit e us c.in-Open.right f xs)
+    (c.in_ok-explore_side-in-Open.ensures.same ∙ c.in_ok-found.ensures.same) two))
+    c.explore_side-in-Open.ensures.explored
+
+pub explore_side-choose-requires-clause-spread : goal.explore_side-choose-requires-clause-spread
+explore_side-choose-requires-clause-spread t c =
+    spread_of c.args.branch.now.graph c.args.limit c.args.pool.now c.args.v c.args.branch.now.spread c.requires.at
+
+pub explore_side-explore_at-requires : goal.explore_side-explore_at-requires
+explore_side-explore_at-requires t c =
+    let g = c.args.branch.now.graph in
+    let b = c.args.pool.now in
+    let sp = c.args.branch.now.spread in
+    let sp2 = c.choose.new.self.spread in
+    let side = side_at g c.args.limit b c.args.v c.args.w c.args.node c.args.side sp sp2 c.requires.at c.requires.side
+    c.in_ok-choose.ensures.of in
+    let less = fewer_sides g c.args.limit b c.args.v c.args.w c.args.node c.args.side sp sp2 c.requires.at side.0 c.requires.side in
+    subst (λ (h : Graph). (2 * (size h - length sp2.choice) + 1 < t)
+    × (IsGraph h × ((automaton_states h ≤ 2 ^ 30) × (AreTerms h c.args.terms.now
+    × (IsUnderway h c.args.limit b c.args.turns.now × (IsAt h c.args.limit b c.args.w sp2
+    × (c.choose.new.self.sequent ≡ (at_place h (positions_of b) c.args.w).sequent)))))))
+    (sym c.choose.ensures.graph) (
+      omega (arith, less, c.decreases),
+      (
+        c.requires.is_graph,
+        (
+          c.requires.small,
+          (
+            c.requires.terms,
+            (
+              c.requires.underway,
+              (
+                side.0,
+                c.choose.ensures.sequent ∙ c.requires.sequent ∙ side.1,
+              ),
+            ),
+          ),
+        ),
+      ),
+    )

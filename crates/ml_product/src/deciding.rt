@@ -1,0 +1,150 @@
+// The exploration of a decision: from a position without a choice along both sides of each open or-node, with one branch.
+ghost use Rattle.std.specs.Prelude.{◌≡◌, ◌<◌, ◌≤◌, ◌^◌, ℕ, [], Some, OnOk, IsErrOf, length, slice_get};
+ghost use Rattle.ml_graph.specs.Graph.{IsGraph};
+ghost use Rattle.ml_sequent.specs.Spread.{IsOpenOr};
+ghost use Rattle.ml_product.specs.declared.refusals.ExploreRefusal.TheVariants as refusal;
+ghost use Rattle.ml_product.specs.Position.{automaton_states, with_chosen};
+ghost use Rattle.ml_product.specs.DecisionGame.{HasMoreThan};
+ghost use Rattle.ml_product.specs.private.Pools.{positions_of};
+ghost use Rattle.ml_product.specs.private.Exploring.{AreTerms, Explores, at_place, IsAt, IsUnderway, IsWaiting, IsExplored};
+
+use crate::following::Terms;
+use crate::pool::Pool;
+use crate::recorded::Recorded;
+use crate::recording::Turns;
+use crate::refusals::ExploreRefusal;
+use crate::turns::{Turn, take_turn};
+use ml_base::NoMemory;
+use ml_sequent::{Branch, Side};
+use std::alloc::Global;
+
+// from the position at which the branch stands; the branch is as before then
+#[cycle(deciding)]
+fn explore_at(
+    alloc: Global,
+    branch: &mut Branch,
+    terms: &Terms,
+    pool: &mut Pool,
+    turns: &mut Turns,
+    limit: u32,
+    v: u32,
+) -> Result<(), ExploreRefusal>
+    requires is_graph { IsGraph branch.old.graph }
+    requires small { automaton_states branch.old.graph ≤ 2 ^ 30 }
+    requires terms { AreTerms branch.old.graph terms.now }
+    requires underway { IsUnderway branch.old.graph limit pool.old turns.old }
+    requires at { IsAt branch.old.graph limit pool.old v branch.old.spread }
+    requires sequent { branch.old.sequent ≡ (at_place branch.old.graph (positions_of pool.old) v).sequent }
+    ensures same { OnOk result (branch.new ≡ branch.old) }
+    ensures explored { OnOk result (IsExplored branch.old.graph limit pool.old turns.old v pool.new turns.new) }
+    ensures passed { IsErrOf result refusal.Passed → HasMoreThan branch.old.graph limit }
+{
+    match take_turn(alloc, branch, terms, pool, limit, v)? {
+        Turn::Ended(found) => Ok(turns.record(v, found)?),
+        Turn::Open { node, left, right } => {
+            turns.record(v, Recorded::Chosen { left, right })?;
+            explore_side(
+                alloc,
+                branch,
+                terms,
+                pool,
+                turns,
+                limit,
+                v,
+                node,
+                Side::Left,
+                left,
+            )?;
+            explore_side(
+                alloc,
+                branch,
+                terms,
+                pool,
+                turns,
+                limit,
+                v,
+                node,
+                Side::Right,
+                right,
+            )
+        }
+    }
+}
+
+// the same from the position with a side more, unless it was met before
+#[cycle(deciding)]
+fn explore_side(
+    alloc: Global,
+    branch: &mut Branch,
+    terms: &Terms,
+    pool: &mut Pool,
+    turns: &mut Turns,
+    limit: u32,
+    v: u32,
+    node: u32,
+    side: Side,
+    w: u32,
+) -> Result<(), ExploreRefusal>
+    requires is_graph { IsGraph branch.old.graph }
+    requires small { automaton_states branch.old.graph ≤ 2 ^ 30 }
+    requires terms { AreTerms branch.old.graph terms.now }
+    requires underway { IsUnderway branch.old.graph limit pool.old turns.old }
+    requires at { IsAt branch.old.graph limit pool.old v branch.old.spread }
+    requires sequent { branch.old.sequent ≡ (at_place branch.old.graph (positions_of pool.old) v).sequent }
+    requires node { IsOpenOr branch.old.graph branch.old.spread node }
+    requires side { slice_get (positions_of pool.old) w
+        ≡ Some (with_chosen branch.old.graph (at_place branch.old.graph (positions_of pool.old) v) node side) }
+    ensures same { OnOk result (branch.new ≡ branch.old) }
+    ensures explored { OnOk result (IsExplored branch.old.graph limit pool.old turns.old w pool.new turns.new) }
+    ensures passed { IsErrOf result refusal.Passed → HasMoreThan branch.old.graph limit }
+{
+    if !turns.is_waiting(w) {
+        return Ok(());
+    }
+    branch.choose(node, side)?;
+    explore_at(alloc, branch, terms, pool, turns, limit, w)?;
+    branch.undo();
+    Ok(())
+}
+
+// begins at the sequent of a position without a choice
+fn begin_at(branch: &mut Branch, pool: &Pool, limit: u32, v: u32) -> Result<(), NoMemory>
+    requires is_graph { IsGraph branch.old.graph }
+    requires explores { Explores branch.old.graph limit pool.now }
+    requires number { v < length (positions_of pool.now) }
+    requires unchosen { (at_place branch.old.graph (positions_of pool.now) v).choice ≡ [] }
+    ensures graph { branch.new.graph ≡ branch.old.graph }
+    ensures at { OnOk result (IsAt branch.old.graph limit pool.now v branch.new.spread) }
+    ensures sequent { OnOk result
+        (branch.new.sequent ≡ (at_place branch.old.graph (positions_of pool.now) v).sequent) }
+{
+    let view = pool.view(v as usize);
+    branch.begin(view.sequent.copy()?)
+}
+
+// from a position without a choice, unless it was met before
+pub(crate) fn explore_from(
+    alloc: Global,
+    branch: &mut Branch,
+    terms: &Terms,
+    pool: &mut Pool,
+    turns: &mut Turns,
+    limit: u32,
+    v: u32,
+) -> Result<(), ExploreRefusal>
+    requires is_graph { IsGraph branch.old.graph }
+    requires small { automaton_states branch.old.graph ≤ 2 ^ 30 }
+    requires terms { AreTerms branch.old.graph terms.now }
+    requires underway { IsUnderway branch.old.graph limit pool.old turns.old }
+    requires number { v < length (positions_of pool.old) }
+    requires unchosen { IsWaiting turns.old v → (at_place branch.old.graph (positions_of pool.old) v).choice ≡ [] }
+    ensures graph { OnOk result (branch.new.graph ≡ branch.old.graph) }
+    ensures explored { OnOk result (IsExplored branch.old.graph limit pool.old turns.old v pool.new turns.new) }
+    ensures passed { IsErrOf result refusal.Passed → HasMoreThan branch.old.graph limit }
+{
+    if !turns.is_waiting(v) {
+        return Ok(());
+    }
+    begin_at(branch, pool, limit, v)?;
+    explore_at(alloc, branch, terms, pool, turns, limit, v)
+}
