@@ -34,6 +34,8 @@ pub mod LiftedMeasures
 pub mod CutLevels
 -- a vertex as the program lifts it
 pub mod LiftSteps
+-- the measure with which lifting begins
+pub mod FirstTables
 -- a measure that rises, while vertices wait
 pub mod RisingMeasures
 -- moves that progress, as the program tests them

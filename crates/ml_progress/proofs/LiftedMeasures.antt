@@ -2,13 +2,14 @@
 --
 --   low_fits        == the entry of a vertex fits in a low measure
 --   zeros_low       == the measure of zeros is low
+--   set_low         == it stays low with a value at a vertex that no progress measure is below there
 --   lift_keeps      == a lifted measure is low
 --   lift_settles    == a vertex that did not rise is settled
 --   stays_settled   == after a rise each vertex without a move to the one that rose is settled, if it was, or rose itself
 --   top_settled     == a vertex with the top is settled
 --   room_falls      == there is less room after a rise
 --   settled_least   == a low measure in which all vertices are settled is the least progress measure
-use Rattle.std.proofs.Common.{ℕ, zero, suc, ◌≡◌, ◌-◌, ◌<◌, ◌≤◌, ◌⊎◌, inl, inr, ⊎_elim, arith, Bool, true, false, List, length, get_or, replicate, Option, Some, None, refl, sym, ap, ◌∙◌, subst, length-set}
+use Rattle.std.proofs.Common.{ℕ, zero, suc, ◌≡◌, ◌-◌, ◌<◌, ◌≤◌, ◌⊎◌, inl, inr, ⊎_elim, arith, Bool, true, false, List, length, get_or, replicate, set, Option, Some, None, refl, sym, ap, ◌∙◌, subst, length-set}
 use Rattle.std.proofs.lemmas.Bool.{cases_eq, cases_lt}
 use Rattle.std.proofs.lemmas.List.{get_or-set_same, get_or-set_other, get_or-replicate, length-replicate}
 use Rattle.ml_parity.specs.declared.players.Player.{Player}
@@ -70,12 +71,42 @@ module _ (g : ParityGame) (ok : IsGame g) (p : Player) where
     within : v < length m
     within = omega (arith, low.vertices)
 
+    module _ (o : Option (List ℕ)) (is : n ≡ set m v o) where
+      set_here : measure_at n v ≡ o
+      set_here = ap (λ k. measure_at k v) is ∙ get_or-set_same m v o None within
+
+      set_there : (u : ℕ) → (u ≡ v → ⊥) → measure_at n u ≡ measure_at m u
+      set_there u differs = ap (λ k. measure_at k u) is ∙ get_or-set_other m v u o None differs
+
+      -- with a value that no progress measure is below, a measure stays low
+      pub set_low : FitsIn bs o
+          → ((k : Measure) → IsProgressMeasure g p k → level bs o ≤ level_of g p k v)
+          → IsLow g p n
+      set_low fits under = record {
+        vertices = ap length is ∙ length-set m v o ∙ low.vertices;
+        fits = λ u less. fits_at u (omega (arith, ap length is, length-set m v o, low.vertices)) (cases_eq u v);
+        low = λ k progress u less. low_at k progress u less (cases_eq u v);
+      }
+        where
+          fits_at : (u : ℕ) → u < size g → (u ≡ v) ⊎ (u ≡ v → ⊥) → FitsIn bs (measure_at n u)
+          fits_at u less (inl same) = subst (FitsIn bs) (sym (ap (measure_at n) same ∙ set_here)) fits
+          fits_at u less (inr differs) = subst (FitsIn bs) (sym (set_there u differs)) (low_fits g p m low u less)
+
+          low_at : (k : Measure) → IsProgressMeasure g p k → (u : ℕ) → u < size g → (u ≡ v) ⊎ (u ≡ v → ⊥)
+              → level_of g p n u ≤ level_of g p k u
+          low_at k progress u less (inl same) =
+              let here = ap (λ a. level bs a) (ap (measure_at n) same ∙ set_here) in
+              let there = ap (level_of g p k) same in
+              omega (arith, under k progress)
+          low_at k progress u less (inr differs) =
+              let e = ap (level bs) (set_there u differs) in omega (arith, low.low k progress u less)
+
     module _ (l : IsLifted g p m n v true) where
       risen_here : measure_at n v ≡ l.target
-      risen_here = ap (λ k. measure_at k v) l.raised.1 ∙ get_or-set_same m v l.target None within
+      risen_here = set_here l.target l.raised.1
 
       risen_there : (u : ℕ) → (u ≡ v → ⊥) → measure_at n u ≡ measure_at m u
-      risen_there u differs = ap (λ k. measure_at k u) l.raised.1 ∙ get_or-set_other m v u l.target None differs
+      risen_there = set_there l.target l.raised.1
 
       risen_fits : FitsIn bs l.target
       risen_fits =
@@ -111,28 +142,6 @@ module _ (g : ParityGame) (ok : IsGame g) (p : Player) where
 
           own : SomeProgress g p k v → owner_of g v ≡ p → level bs l.target ≤ level_of g p k v
           own some mine = at some.to some.progresses some.move (l.own mine some.to some.move)
-
-      risen_low : IsLow g p n
-      risen_low = record {
-        vertices = ap length l.raised.1 ∙ length-set m v l.target ∙ low.vertices;
-        fits = λ u less. fits_at u (omega (arith, ap length l.raised.1, length-set m v l.target, low.vertices))
-            (cases_eq u v);
-        low = λ k progress u less. low_at k progress u less (cases_eq u v);
-      }
-        where
-          fits_at : (u : ℕ) → u < size g → (u ≡ v) ⊎ (u ≡ v → ⊥) → FitsIn bs (measure_at n u)
-          fits_at u less (inl same) =
-              subst (FitsIn bs) (sym (ap (measure_at n) same ∙ risen_here)) risen_fits
-          fits_at u less (inr differs) = subst (FitsIn bs) (sym (risen_there u differs)) (low_fits g p m low u less)
-
-          low_at : (k : Measure) → IsProgressMeasure g p k → (u : ℕ) → u < size g → (u ≡ v) ⊎ (u ≡ v → ⊥)
-              → level_of g p n u ≤ level_of g p k u
-          low_at k progress u less (inl same) =
-              let here = ap (λ o. level bs o) (ap (measure_at n) same ∙ risen_here) in
-              let there = ap (level_of g p k) same in
-              omega (arith, target_low k progress)
-          low_at k progress u less (inr differs) =
-              let e = ap (level bs) (risen_there u differs) in omega (arith, low.low k progress u less)
 
       -- a vertex without a move to the one that rose stays settled; the one that rose is settled then
       pub stays_settled : (u : ℕ)
@@ -179,7 +188,7 @@ module _ (g : ParityGame) (ok : IsGame g) (p : Player) where
 
     -- a lifted measure is low
     pub lift_keeps : (r : Bool) → IsLifted g p m n v r → IsLow g p n
-    lift_keeps true l = risen_low l
+    lift_keeps true l = set_low l.target l.raised.1 (risen_fits l) (target_low l)
     lift_keeps false l = subst (IsLow g p) (sym l.raised.1) low
 
     -- a vertex that did not rise is settled

@@ -1,12 +1,12 @@
 -- A measure that rises, while vertices wait.
 --
 --   Rising          == the measure is low, and each vertex is settled or waits
---   rising_begins   == so it begins, where all vertices wait
+--   rising_begins   == so it begins, where the measure is low and all vertices wait
 --   rising_stays    == a vertex was taken, and did not rise
 --   rising_rises    == a vertex was taken and rose, and those with a move to it wait
 --   less_to_rise    == there is less to be done then
 --   rising_ends     == where no vertex waits it is the least progress measure
-use Rattle.std.proofs.Common.{ℕ, ◌≡◌, ◌+◌, ◌*◌, ◌<◌, ◌≤◌, ◌⊎◌, inl, inr, arith, Bool, true, false, List, [], ◌∷◌, length, get_or, set, replicate, Some, None, sym, ap, ◌∙◌, subst}
+use Rattle.std.proofs.Common.{ℕ, ◌≡◌, ◌+◌, ◌*◌, ◌<◌, ◌≤◌, ◌⊎◌, inl, inr, arith, Bool, true, false, List, [], ◌∷◌, length, get_or, set, None, sym, ap, ◌∙◌, subst}
 use Rattle.std.proofs.Math.Nat.{mul-le-mul_right, add-mul}
 use Rattle.std.proofs.lemmas.Bool.{cases_eq}
 use Rattle.std.proofs.lemmas.List.{get_or-set_other}
@@ -19,9 +19,8 @@ use Rattle.ml_parity.specs.Game.{ParityGame, IsGame, HasMove, moves_of, size}
 use Rattle.ml_progress.specs.Measure.{Measure, IsLeastMeasure, measure_at}
 use Rattle.ml_progress.specs.declared.predecessors.Arrow.{Arrow}
 use Rattle.ml_progress.specs.private.Lifting.{IsLow, IsSettled, IsLifted, SettledOrFlagged, room}
-use Rattle.ml_progress.specs.private.Scales.{IsScale}
 use Rattle.ml_progress.specs.private.Waits.{InChain, ChainsUpTo, IsWaiting, Woken}
-use Rattle.ml_progress.proofs.LiftedMeasures.{zeros_low, lift_keeps, lift_settles, stays_settled, top_settled, room_falls, settled_least}
+use Rattle.ml_progress.proofs.LiftedMeasures.{lift_keeps, lift_settles, stays_settled, top_settled, room_falls, settled_least}
 
 -- the measure is low, and each vertex is settled or waits
 pub record Rising (g : ParityGame) (p : Player) (m : Measure) (flags : List Bool) (queue : List ℕ) : Type 0 where
@@ -31,21 +30,19 @@ pub record Rising (g : ParityGame) (p : Player) (m : Measure) (flags : List Bool
   pub settled : SettledOrFlagged g p m flags
 
 module _ (g : ParityGame) (ok : IsGame g) (p : Player) where
-  -- so it begins, where all vertices wait
-  pub rising_begins : (n w : ℕ) (bounds cuts : List ℕ) (m : Measure) (flags : List Bool) (queue : List ℕ)
+  -- so it begins, where the measure is low and all vertices wait
+  pub rising_begins : (n : ℕ) (m : Measure) (flags : List Bool) (queue : List ℕ)
       → n ≡ size g
-      → IsScale g p bounds cuts
-      → w ≡ length bounds
-      → m ≡ replicate n (Some (replicate {A = ℕ} w 0))
+      → IsLow g p m
       → IsWaiting flags queue
       → length flags ≡ n
       → ((v : ℕ) → v < n → get_or flags v false ≡ true)
       → Rising g p m flags queue
-  rising_begins n w bounds cuts m flags queue count scale wide zeros waiting long all = record {
-    low = zeros_low g ok p n w m count (wide ∙ ap length scale.bounds_are) zeros;
+  rising_begins n m flags queue count low waiting long all = record {
+    low = low;
     waiting = waiting;
     long = long ∙ count;
-    settled = λ v low. inl (all v (omega arith));
+    settled = λ v below. inl (all v (omega arith));
   }
 
   module _ (m n : Measure) (flags : List Bool) (queue rest : List ℕ) (v : ℕ) (rising : Rising g p m flags queue)

@@ -4,12 +4,12 @@ ghost use Rattle.std.specs.Prelude.{◌≡◌, ◌<◌, ◌≤◌, ◌↔◌, �
 ghost use Rattle.ml_parity.specs.Game.{IsGame, size};
 ghost use Rattle.ml_progress.specs.Measure.{IsLeastMeasure, measure_at};
 ghost use Rattle.ml_progress.specs.private.Codes.{cut_level};
-ghost use Rattle.ml_progress.specs.private.Lifting.{AreFitting, IsExtreme, IsFurther, IsLifted, IsLow};
+ghost use Rattle.ml_progress.specs.private.Lifting.{AreFitting, IsExtreme, IsFurther, IsLifted, IsLow, NamesWinners};
 ghost use Rattle.ml_progress.specs.private.Sides.{HasChains, HasScale, HasSide};
 
 use crate::order::{comes_before, least_progress};
 use crate::predecessors::Predecessors;
-use crate::reading::{is_bad, is_owned_by, moves_at, priority_at};
+use crate::reading::{is_bad, is_owned_by, is_won_by, moves_at, priority_at};
 use crate::scale::{Scale, scale_of};
 use crate::table::Table;
 use crate::waiting::Waiting;
@@ -92,20 +92,43 @@ fn lift(game: &Game, scale: &Scale, table: &mut Table, next: &mut [u64], vertex:
     }
 }
 
+/// Where lifting begins: zeros where the player wins, and the top elsewhere, since no progress measure has a list there.
+fn first_table(
+    alloc: Global,
+    game: &Game,
+    scale: &Scale,
+    winner: &[Player],
+) -> Result<Table, NoMemory>
+    requires scale { HasScale game.now scale.now }
+    requires winner { NamesWinners game.now winner.now }
+    ensures wide { IfOk result (λ t. t.wide ≡ length scale.now.bounds.items) }
+    ensures low { IfOk result (λ t. IsLow game.now scale.now.player t.rows) }
+{
+    let mut table = Table::new(alloc, game.size(), scale.bounds.len())?;
+    for vertex in 0..winner.len() {
+        if !is_won_by(winner, vertex, scale.player) {
+            table.raise_to_top(vertex);
+        }
+    }
+    Ok(table)
+}
+
 /// The least progress measure of the player of a scale.
 fn least_measure(
     alloc: Global,
     game: &Game,
     predecessors: &Predecessors,
     scale: &Scale,
+    winner: &[Player],
 ) -> Result<Table, NoMemory>
     requires scale { HasScale game.now scale.now }
     requires chains { HasChains game.now predecessors.now }
+    requires winner { NamesWinners game.now winner.now }
     ensures wide { IfOk result (λ t. t.wide ≡ length scale.now.bounds.items) }
     ensures least { IfOk result (λ t. IsLeastMeasure game.now scale.now.player t.rows) }
 {
     let size = game.size();
-    let mut table = Table::new(alloc, size, scale.bounds.len())?;
+    let mut table = first_table(alloc, game, scale, winner)?;
     let mut next = vec![in alloc; 0; scale.bounds.len()]?;
     let mut waiting = Waiting::all(alloc, size)?;
     while let Some(vertex) = waiting.take() {
@@ -133,13 +156,15 @@ pub(crate) fn side_of(
     alloc: Global,
     game: &Game,
     predecessors: &Predecessors,
+    winner: &[Player],
     player: Player,
 ) -> Result<Side, NoMemory>
     requires game { IsGame game.now }
     requires chains { HasChains game.now predecessors.now }
+    requires winner { NamesWinners game.now winner.now }
     ensures { IfOk result (HasSide game.now player) }
 {
     let scale = scale_of(alloc, game, player)?;
-    let table = least_measure(alloc, game, predecessors, &scale)?;
+    let table = least_measure(alloc, game, predecessors, &scale, winner)?;
     Ok(Side { scale, table })
 }

@@ -2,6 +2,7 @@
 
 ghost use Rattle.std.specs.Prelude.{◌≡◌, ◌<◌, ◌↔◌, All, IsTrue, length};
 ghost use Rattle.ml_parity.specs.Game.{moves_of, owner_of, priority_of, size};
+ghost use Rattle.ml_parity.specs.Solution.{winner_at};
 ghost use Rattle.ml_progress.specs.Measure.{is_bad};
 
 use ml_parity::{Game, Player};
@@ -20,6 +21,14 @@ pub(crate) fn is_owned_by(game: &Game, vertex: usize, player: Player) -> bool
     ensures { IsTrue result ↔ (owner_of game.now vertex ≡ player) }
 {
     owner_at(game, vertex) == player
+}
+
+/// Whether a list of winners names a player at a vertex.
+pub(crate) fn is_won_by(winner: &[Player], vertex: usize, player: Player) -> bool
+    requires { vertex < length winner.now }
+    ensures { IsTrue result ↔ (winner_at winner.now vertex ≡ player) }
+{
+    winner[vertex] == player
 }
 
 /// The priority of a vertex.

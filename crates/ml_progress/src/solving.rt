@@ -15,7 +15,7 @@ use crate::lifting::{Side, side_of};
 use crate::predecessors::predecessors_of;
 use crate::table::Table;
 use ml_base::NoMemory;
-use ml_parity::{Game, Player, Solution};
+use ml_parity::{Game, Player, Solution, solve};
 use std::alloc::Global;
 
 /// What a vertex has, as a list of its own.
@@ -63,9 +63,9 @@ fn solution(alloc: Global, game: &Game, even: &Side, odd: &Side) -> Result<Solut
 /// # Errors
 /// `NoMemory` alone.
 ///
-/// Cost: memory for a number for each vertex and bad priority. Time is exponential in the number of priorities on some
-/// games: a vertex may rise as often as there are lists within the bounds, and its successors are looked at each time
-/// that one of them rose. Source: Jurdziński, Small progress measures for solving parity games (2000).
+/// Cost: that of `solve`, which tells at which vertices a measure begins with the top; memory for a number for each vertex
+/// and bad priority. Time is exponential in the number of priorities on some games: a vertex may rise as often as there are
+/// lists within the bounds, and its successors are looked at each time that one of them rose. Source: Jurdziński, Small progress measures for solving parity games (2000).
 pub fn measures(alloc: Global, game: &Game) -> Result<Measured, NoMemory>
     ensures even { IfOk result (λ m. IsLeastMeasure game.now Even m.even) }
     ensures odd { IfOk result (λ m. IsLeastMeasure game.now Odd m.odd) }
@@ -76,8 +76,9 @@ pub fn measures(alloc: Global, game: &Game) -> Result<Measured, NoMemory>
 {
     let size = game.size();
     let predecessors = predecessors_of(alloc, game)?;
-    let even = side_of(alloc, game, &predecessors, Player::Even)?;
-    let odd = side_of(alloc, game, &predecessors, Player::Odd)?;
+    let solved = solve(alloc, game)?;
+    let even = side_of(alloc, game, &predecessors, &solved.winner, Player::Even)?;
+    let odd = side_of(alloc, game, &predecessors, &solved.winner, Player::Odd)?;
     let solution = solution(alloc, game, &even, &odd)?;
     let even = entries(alloc, size, &even.table)?;
     let odd = entries(alloc, size, &odd.table)?;

@@ -7,6 +7,7 @@
 --   IsFurther least a b        == a is below b, or above b where `least` is false
 --   IsExtreme least c bs m w v == v has the least cut level of these vertices, or the greatest one
 --   IsLow g p m                == the measure is within its bounds, and at no vertex above any progress measure
+--   NamesWinners g winner      == the list names a winner of each vertex
 --   IsSettled g p m v          == the moves from v progress as they have to
 --   IsLifted g p m n v r       == n is m with v lifted, and r says whether v rose
 --   room g p m                 == how often vertices can still rise
@@ -14,6 +15,8 @@ use Rattle.std.specs.Prelude.{ℕ, zero, suc, ◌≡◌, ◌+◌, ◌-◌, ◌<�
 use Rattle.ml_parity.specs.declared.players.Player.{Player}
 use Rattle.ml_parity.specs.Player.{opponent}
 use Rattle.ml_parity.specs.Game.{ParityGame, HasMove, owner_of, priority_of, size}
+use Rattle.ml_parity.specs.Solution.{winner_at}
+use Rattle.ml_parity.specs.Winner.{Wins}
 use Rattle.ml_progress.specs.Measure.{Measure, IsProgressMeasure, is_bad, measure_at}
 use Rattle.ml_progress.specs.private.Bounds.{bounds_of, cut_length, level_of, StepsAlong}
 use Rattle.ml_progress.specs.private.Codes.{FitsIn, IsTarget, cut_level, space}
@@ -43,6 +46,11 @@ pub record IsLow (g : ParityGame) (p : Player) (m : Measure) : Type 0 where
   pub vertices : length m ≡ size g
   pub fits : AreFitting (bounds_of g p) m
   pub low : (n : Measure) → IsProgressMeasure g p n → (v : ℕ) → v < size g → level_of g p m v ≤ level_of g p n v
+
+-- the list names a winner of each vertex
+pub record NamesWinners (g : ParityGame) (winner : List Player) : Type 0 where
+  pub long : length winner ≡ size g
+  pub right : (v : ℕ) → v < size g → Wins g (winner_at winner v) v
 
 -- some move from v progresses
 pub record SomeStep (g : ParityGame) (p : Player) (m : Measure) (v : ℕ) : Type 0 where

@@ -1,4 +1,4 @@
--- The measure rises from zeros, until no vertex waits.
+-- The measure rises from where it begins, until no vertex waits.
 use Rattle.std.proofs.Common.{◌≡◌, ◌∙◌, ap, false, length, length-set, sym}
 use Rattle.ml_progress.proofs.HandedBack.{handed_back}
 use Rattle.ml_progress.proofs.RisingMeasures.{rising_begins, rising_stays, rising_rises, less_to_rise, rising_ends}
@@ -6,13 +6,11 @@ use Rattle.ml_progress.proofs.lifting.least_measure.Goals as goal
 
 pub loop-vertex-init : goal.loop-vertex-init
 loop-vertex-init c = record {
-  wide = c.in_ok-table.ensures.wide ∙ c.len.ensures ∙ c.args.scale.now.bounds.ok.0;
-  room = sym c.in_ok-next.next.ok.0 ∙ c.in_ok-next.ensures.len ∙ c.len-2.ensures ∙ c.args.scale.now.bounds.ok.0;
+  wide = c.in_ok-table.ensures.wide;
+  room = sym c.in_ok-next.next.ok.0 ∙ c.in_ok-next.ensures.len ∙ c.len.ensures ∙ c.args.scale.now.bounds.ok.0;
   rising = rising_begins c.args.game.now c.size-size.ensures.game c.args.scale.now.player c.size-size.result
-      c.len.result c.args.scale.now.bounds.items c.args.scale.now.cuts.items c.in_ok-table.table.rows
-      c.in_ok-waiting.waiting.flags.items c.in_ok-waiting.waiting.queue.items c.size-size.ensures.vertices
-      c.requires.scale
-      (c.len.ensures ∙ c.args.scale.now.bounds.ok.0) c.in_ok-table.ensures.zeros c.in_ok-waiting.ensures.waiting
+      c.in_ok-table.table.rows c.in_ok-waiting.waiting.flags.items c.in_ok-waiting.waiting.queue.items
+      c.size-size.ensures.vertices c.in_ok-table.ensures.low c.in_ok-waiting.ensures.waiting
       c.in_ok-waiting.ensures.long c.in_ok-waiting.ensures.all;
 }
 
