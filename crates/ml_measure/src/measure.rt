@@ -31,6 +31,8 @@ pub enum Measurement {
     Ladder,
     /// Solving a random game of so many vertices, three successors and two priorities by least progress measures.
     Measures,
+    /// Solving a random game of so many vertices, three successors and eight priorities by them.
+    MeasuresEight,
     /// Solving a game that is deep by them.
     MeasuresLadder,
     /// A hundred steps of a history along random letters over so many states, with ten transitions a state; as flat
@@ -61,6 +63,7 @@ impl Measurement {
             "games" => Some(Measurement::Games),
             "ladder" => Some(Measurement::Ladder),
             "measures" => Some(Measurement::Measures),
+            "measures-eight" => Some(Measurement::MeasuresEight),
             "measures-ladder" => Some(Measurement::MeasuresLadder),
             "histories" => Some(Measurement::Histories),
             "trees" => Some(Measurement::Trees),
@@ -325,6 +328,7 @@ pub(crate) fn measure<R: Print + Clock + AllocGlobal>(
         Measurement::Games => solve_random(rt, size, 8, Solver::Recursion, is_timed),
         Measurement::Ladder => solve_ladder(rt, size, Solver::Recursion, is_timed),
         Measurement::Measures => solve_random(rt, size, 2, Solver::Measures, is_timed),
+        Measurement::MeasuresEight => solve_random(rt, size, 8, Solver::Measures, is_timed),
         Measurement::MeasuresLadder => solve_ladder(rt, size, Solver::Measures, is_timed),
         Measurement::Histories => step_wide::<R, History>(rt, size, is_timed),
         Measurement::Trees => step_wide::<R, TreeHistory>(rt, size, is_timed),
@@ -345,6 +349,7 @@ pub(crate) fn measure_small<R: Print + Clock + AllocGlobal>(rt: &R) -> Result<()
         (Measurement::Games, 1000),
         (Measurement::Ladder, 1000),
         (Measurement::Measures, 1000),
+        (Measurement::MeasuresEight, 1000),
         (Measurement::MeasuresLadder, 10),
         (Measurement::Histories, 100),
         (Measurement::Trees, 100),
