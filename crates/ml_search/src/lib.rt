@@ -5,18 +5,16 @@
 //   limit: what the search alone doesn't find, the whole game decides.
 // - `seek` is the search alone, for tests and measurements.
 //
-// A search (`engine`) makes candidates, of which nothing is proved. A check lets them out: a structure by the checking game
-// (`checking_models`), a refutation by the rules of acceptance (`checking_refutations`). So whatever the engine does, an
-// answer is right (`specs/Found.antt`).
+// A search (`ml_search_engine`) makes candidates, of which nothing is proved. A check lets them out: a structure by the
+// checking game (`checking_models`), a refutation by the rules of acceptance (`checking_refutations`). So whatever the
+// engine does, an answer is right (`specs/Found.antt`).
 //
-// Below stand the decision game (`ml_product`) with what is made of it (`ml_extract`, `ml_refute`), graphs and the checking
-// game (`ml_graph`), histories (`ml_history`), and the checker of refutations (`ml_refute_check`).
+// Below stand the engine, the decision game (`ml_product`) with what is made of it (`ml_extract`, `ml_refute`), graphs and the
+// checking game (`ml_graph`), and the checker of refutations (`ml_refute_check`).
 #![tactic(auto)]
 
-mod candidate;
 mod checking_models;
 mod checking_refutations;
-mod engine;
 mod found;
 mod refusals;
 mod searching;

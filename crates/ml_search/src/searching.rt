@@ -6,15 +6,14 @@ ghost use Rattle.ml_product.specs.Position.{automaton_states};
 ghost use Rattle.ml_search.specs.Found.{IsFound};
 ghost use Rattle.ml_search.specs.declared.refusals.SearchRefusal.TheVariants as refusal;
 
-use crate::candidate::Candidate;
 use crate::checking_models::is_model;
 use crate::checking_refutations::accepted;
-use crate::engine::candidate;
 use crate::found::Found;
 use crate::refusals::SearchRefusal;
 use crate::whole_game::decided;
 use ml_base::NoMemory;
 use ml_graph::ModalGraph;
+use ml_search_engine::{Candidate, candidate};
 use std::alloc::Global;
 
 /// A candidate that passes its check; `None` where it doesn't.

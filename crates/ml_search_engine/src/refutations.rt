@@ -1,10 +1,10 @@
 // The refutation of Odd's moves.
-use crate::candidate::Candidate;
-use crate::engine::arrays::{NONE, small};
-use crate::engine::games::{Solved, Vertex};
-use crate::engine::positions::Positions;
-use crate::engine::terms::Terms;
-use crate::engine::trees::{Kind, Trees};
+use crate::candidates::Candidate;
+use crate::arrays::{NONE, small};
+use crate::games::{Solved, Vertex};
+use crate::positions::Positions;
+use crate::terms::Terms;
+use crate::trees::{Kind, Trees};
 use indexmap::IndexSet;
 use ml_base::NoMemory;
 use ml_parity::{Arc, OneSided, heights};

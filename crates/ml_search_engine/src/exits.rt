@@ -1,7 +1,7 @@
 // The local traces of a leaf, and the letters along its diamonds.
-use crate::engine::arrays::{NONE, flag, set_flag, small};
-use crate::engine::branches::Branch;
-use crate::engine::terms::Terms;
+use crate::arrays::{NONE, flag, set_flag, small};
+use crate::branches::Branch;
+use crate::terms::Terms;
 use ml_base::NoMemory;
 use ml_graph::Node;
 use ml_trace::{Letter, Transition};

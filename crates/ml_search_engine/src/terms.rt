@@ -1,5 +1,5 @@
 // What depends on the graph alone.
-use crate::engine::arrays::{NONE, flag, number, push_at, row, rows, set_flag, set_number, small};
+use crate::arrays::{NONE, flag, number, push_at, row, rows, set_flag, set_number, small};
 use ml_base::NoMemory;
 use ml_graph::{ModalGraph, Node};
 use std::alloc::Global;

@@ -1,12 +1,12 @@
 // Rounds: both games are solved, and what waits on Even's way is made.
-use crate::candidate::Candidate;
-use crate::engine::arrays::{NONE, flag, set_flag, small};
-use crate::engine::games::{Mood, Solved, Vertex, play, waits};
-use crate::engine::models::model;
-use crate::engine::positions::Positions;
-use crate::engine::refutations::refutation;
-use crate::engine::terms::Terms;
-use crate::engine::trees::Trees;
+use crate::candidates::Candidate;
+use crate::arrays::{NONE, flag, set_flag, small};
+use crate::games::{Mood, Solved, Vertex, play, waits};
+use crate::models::model;
+use crate::positions::Positions;
+use crate::refutations::refutation;
+use crate::terms::Terms;
+use crate::trees::Trees;
 use ml_base::NoMemory;
 use ml_graph::ModalGraph;
 use ml_history::History;

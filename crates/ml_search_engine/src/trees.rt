@@ -1,8 +1,8 @@
 // Trees of choices, one for each sequent, which grow on demand.
-use crate::engine::arrays::NONE;
-use crate::engine::branches::Branch;
-use crate::engine::exits::{Walks, letter, targets};
-use crate::engine::terms::{Terms, sides};
+use crate::arrays::NONE;
+use crate::branches::Branch;
+use crate::exits::{Walks, letter, targets};
+use crate::terms::{Terms, sides};
 use indexmap::IndexSet;
 use ml_base::NoMemory;
 use ml_graph::Node;

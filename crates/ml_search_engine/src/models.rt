@@ -1,10 +1,10 @@
 // The structure of Even's moves.
-use crate::candidate::Candidate;
-use crate::engine::arrays::small;
-use crate::engine::games::{Solved, Vertex};
-use crate::engine::positions::Positions;
-use crate::engine::terms::Terms;
-use crate::engine::trees::{Leaf, Trees};
+use crate::candidates::Candidate;
+use crate::arrays::small;
+use crate::games::{Solved, Vertex};
+use crate::positions::Positions;
+use crate::terms::Terms;
+use crate::trees::{Leaf, Trees};
 use indexmap::IndexSet;
 use ml_base::{Action, Edge, Name, NoMemory};
 use ml_graph::Node;

@@ -1,6 +1,6 @@
 // The spread along a branch of choices, which grows and is taken back.
-use crate::engine::arrays::{NONE, flag, number, row, set_flag, set_number, small};
-use crate::engine::terms::{Terms, sides};
+use crate::arrays::{NONE, flag, number, row, set_flag, set_number, small};
+use crate::terms::{Terms, sides};
 use ml_base::NoMemory;
 use ml_graph::Node;
 use ml_refutation::Cause;

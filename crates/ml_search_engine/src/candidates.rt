@@ -5,7 +5,7 @@ use ml_refutation::Entry;
 
 /// What may be an answer. Nothing is known of it.
 #[derive(Drop)]
-pub(crate) enum Candidate {
+pub enum Candidate {
     /// The graph may hold at the start of the model.
     Model(Model),
     /// The entries may be a refutation with so many names.

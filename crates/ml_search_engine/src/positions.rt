@@ -1,7 +1,7 @@
 // Positions: sequents with histories, linked to leaves of the sequents' trees.
-use crate::engine::arrays::NONE;
-use crate::engine::terms::Terms;
-use crate::engine::trees::Trees;
+use crate::arrays::NONE;
+use crate::terms::Terms;
+use crate::trees::Trees;
 use indexmap::IndexSet;
 use ml_base::NoMemory;
 use ml_history::History;

@@ -1,8 +1,8 @@
 // Parity games on what was made.
-use crate::engine::arrays::{NONE, number, set_number};
-use crate::engine::positions::Positions;
-use crate::engine::terms::Terms;
-use crate::engine::trees::Trees;
+use crate::arrays::{NONE, number, set_number};
+use crate::positions::Positions;
+use crate::terms::Terms;
+use crate::trees::Trees;
 use ml_base::NoMemory;
 use ml_parity::{Game, Player, Solution, solve};
 use ml_refutation::Step;
