@@ -6,7 +6,7 @@
 --   decided_matches      == which is decided
 --   table, table_joins   == a relation on the states as rows of truth values
 --   decided_bisimilar    == so bisimilarity is decided
-use Rattle.std.proofs.Common.{ℕ, ◌≡◌, ◌<◌, ◌==◌, ◌&&◌, Bool, true, false, nat_lt, List, [], map, get_or, Contains, IsTrue, refl, sym, ap, ◌∙◌, subst, arith, lt-ltb}
+use Rattle.std.proofs.Common.{ℕ, ◌≡◌, ◌<◌, ◌&&◌, Bool, true, false, nat_lt, List, [], map, get_or, Contains, IsTrue, refl, sym, ap, ◌∙◌, subst, arith, lt-ltb}
 use Rattle.std.specs.List.{range_with_len}
 use Rattle.std.proofs.lemmas.Bool.{and_parts, and_from}
 use Rattle.std.proofs.lemmas.Bool.Decides.{nat_tests}
@@ -17,11 +17,11 @@ use Rattle.ml_lists.specs.Member.{IsMember}
 use Rattle.ml_lists.proofs.Decided.{Decided, decided_same, decided_both, decided_bytes, decided_number, decided_test}
 use Rattle.ml_lists.proofs.Deciding.{Having, decided_below, decided_if, decided_member, decided_members, some_member}
 use Rattle.ml_lists.proofs.Members.{member_of_contains, contains_of_member}
+use Rattle.ml_lists.proofs.Says.{same_truth}
 use Rattle.ml_bisim.specs.Bisimilar.{Bisimilar, HasEdge, IsBisimulation}
 use Rattle.ml_bisim.proofs.Classes.{edge_from, target_low}
 use Rattle.ml_bisim.proofs.FiniteSearch.{AreEach, mapped, some_bool, some_list}
 use Rattle.ml_bisim.proofs.Labels.{listed, row}
-use Rattle.ml_bisim.proofs.Merged.{same_truth}
 
 module _ (m : Structure) (ok : IsStructure m) where
   abbrev HasLabels : ℕ → ℕ → Type 0

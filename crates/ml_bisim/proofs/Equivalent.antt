@@ -3,7 +3,7 @@
 --   itself    == each state is bisimilar to itself
 --   turned    == bisimilar states are so either way
 --   through   == and so are those that are bisimilar to one state
-use Rattle.std.proofs.Common.{ℕ, ◌≡◌, ◌<◌, ◌&&◌, Bool, nat_eq, IsTrue, refl, sym, ap, ◌∙◌, subst}
+use Rattle.std.proofs.Common.{ℕ, ◌<◌, ◌&&◌, Bool, nat_eq, IsTrue, refl, sym, ap, ◌∙◌, subst}
 use Rattle.std.specs.List.{list_any, range_with_len}
 use Rattle.std.proofs.lemmas.Bool.{and_parts, and_from, eqb-true}
 use Rattle.ml_base.specs.Structure.{Structure, IsStructure, lists}

@@ -1,20 +1,20 @@
 -- The quotient, made of the classes of the states.
 --
 --   labels_more  == the labels of one state more, at its class
---   same_truth   == truth values that follow from each other are the same
 --   in_range     == labels and edges of classes are those of states of the quotient
 --   merged       == what is built from them is the quotient
 --   some_states, parts_in_range, quotient_is == the same, as the program has the classes
 --   few_classes, small_classes == classes are few, and their numbers small
-use Rattle.std.proofs.Common.{ℕ, ◌≡◌, ◌+◌, ◌^◌, ◌<◌, ◌≤◌, ◌↔◌, ◌⊎◌, inl, inr, ⊎_elim, Bool, true, false, nat_le, List, [], ◌∷◌, ◌++◌, find, map, None, All, Contains, refl, sym, ap, ◌∙◌, subst, arith}
+use Rattle.std.proofs.Common.{ℕ, ◌≡◌, ◌+◌, ◌^◌, ◌<◌, ◌≤◌, ◌↔◌, ◌⊎◌, inl, inr, ⊎_elim, true, List, [], ◌++◌, map, None, All, Contains, refl, sym, ap, ◌∙◌, subst, arith}
 use Rattle.std.specs.List.{flat_map}
-use Rattle.std.proofs.lemmas.Bool.{cases_eq, cond-false}
-use Rattle.std.proofs.lemmas.Bool.Decides.{nat_tests}
+use Rattle.std.proofs.lemmas.Bool.{cases_eq}
 use Rattle.ml_base.specs.declared.structure.Edge.{Edge}
 use Rattle.ml_base.specs.Structure.{Structure, IsStructure, lists}
 use Rattle.ml_lists.specs.Member.{IsMember}
+use Rattle.ml_lists.proofs.Entries.{find-none}
 use Rattle.ml_lists.proofs.Member.{member-append, member-append_left, member-append_right, member-map, Image, member-map_from, InList, member-flat_map_from, Place, member-place, member-All}
 use Rattle.ml_lists.proofs.Members.{member_of_contains, contains_of_member}
+use Rattle.ml_lists.proofs.Says.{same_truth}
 use Rattle.ml_kripke.specs.Ordered.{IsBuiltFrom, IsOrdered, ends, first_bad_state, named_states}
 use Rattle.ml_bisim.specs.Bisimilar.{HasEdge}
 use Rattle.ml_bisim.specs.Quotient.{AreClasses, IsQuotientOf, SomeEdge, class_of}
@@ -76,18 +76,6 @@ labels_more m class n labels more are is c p = (there, back)
             (subst (λ d. IsMember (d, p) (map (at_class (class_of class n)) (row m n))) classes
             (member-map (at_class (class_of class n)) p (row m n) (member_of_contains p (row m n) in_row)))
 
-pub same_truth : (a b : Bool) → (a ≡ true → b ≡ true) → (b ≡ true → a ≡ true) → a ≡ b
-same_truth true b there back = sym (there refl)
-same_truth false true there back = back refl
-same_truth false false there back = refl
-
-none_from : (n : ℕ) (xs : List ℕ) → ((x : ℕ) → IsMember x xs → x < n) → find (nat_le n) xs ≡ None
-none_from n [] all = refl
-none_from n (x ∷ xs) all =
-    let low = all x (inl refl) in
-    let fails : nat_le n x ≡ false = grind (arith, nat_tests) in
-    cond-false (nat_le n x) _ _ fails ∙ none_from n xs (λ y h. all y (inr h))
-
 module _ (m : Structure) (m_ok : IsStructure m) (class : List ℕ) (n : ℕ) (classes : AreClasses m n class)
     (labels : List (ℕ × List ℕ)) (are : AreClassLabels m class m.states labels) (edges : List Edge)
     (between : edges ≡ map (between_classes class) m.edges) where
@@ -102,7 +90,7 @@ module _ (m : Structure) (m_ok : IsStructure m) (class : List ℕ) (n : ℕ) (cl
   edge_of e h = member-map_from (between_classes class) e m.edges (subst (λ es. IsMember e es) between h)
 
   pub in_range : first_bad_state n labels edges ≡ None
-  in_range = none_from n (named_states labels edges) (λ x h.
+  in_range = find-none n (named_states labels edges) (λ x h.
       ⊎_elim (λ (l : IsMember x (map (λ (label : ℕ × List ℕ). label.0) labels)).
       of_label x (member-map_from (λ (label : ℕ × List ℕ). label.0) x labels l))
       (λ (e : IsMember x (flat_map ends edges)). of_edge x (member-flat_map_from ends x edges e))

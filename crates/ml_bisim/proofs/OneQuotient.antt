@@ -1,15 +1,13 @@
 -- A structure has one quotient.
 --
 --   one_quotient  == the law
-use Rattle.std.proofs.Common.{ℕ, ◌≡◌, ◌<◌, ◌≤◌, ◌⊎◌, ◌↔◌, ⊎_elim, true, List, [], length, get_or, Contains, sym, ◌∙◌, subst, arith}
+use Rattle.std.proofs.Common.{ℕ, ◌≡◌, ◌<◌, ◌≤◌, ◌↔◌, ⊎_elim, List, [], length, Contains, sym, ◌∙◌, subst, arith}
 use Rattle.std.proofs.lemmas.Bool.{cases_lt}
 use Rattle.std.proofs.lemmas.List.{get_or_past}
 use Rattle.ml_base.specs.declared.structure.Edge.{Edge}
 use Rattle.ml_base.specs.Structure.{Structure, IsStructure, lists}
 use Rattle.ml_lists.proofs.Members.{contains_none}
-use Rattle.ml_kripke.specs.Laws.{HasSame}
 use Rattle.ml_kripke.proofs.OneStructure.{one_structure}
-use Rattle.ml_bisim.specs.Bisimilar.{HasEdge}
 use Rattle.ml_bisim.specs.Laws.{OneQuotient}
 use Rattle.ml_bisim.specs.Quotient.{AreClasses, IsQuotientOf, class_of}
 use Rattle.ml_bisim.proofs.Labels.{listed, row}

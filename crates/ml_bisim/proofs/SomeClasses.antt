@@ -3,7 +3,7 @@
 --   NumberedTo k   == the first k states have numbers in turn, which are equal exactly if the states are bisimilar
 --   one_more       == with a state more, which has a number of its own exactly if none before it is bisimilar
 --   some_classes   == the law
-use Rattle.std.proofs.Common.{ℕ, zero, suc, ◌≡◌, ◌+◌, ◌<◌, ◌≤◌, ◌⊎◌, ◌↔◌, inl, inr, List, [], ◌∷◌, ◌++◌, length, get_or, refl, sym, ◌∙◌, subst, arith, length-append}
+use Rattle.std.proofs.Common.{ℕ, zero, suc, ◌≡◌, ◌+◌, ◌<◌, ◌≤◌, ◌⊎◌, ◌↔◌, inl, inr, List, [], ◌∷◌, ◌++◌, length, refl, sym, ◌∙◌, subst, arith, length-append}
 use Rattle.std.proofs.lemmas.Bool.{cases_eq}
 use Rattle.std.proofs.lemmas.List.{get_or_append_left, get_or_push}
 use Rattle.ml_base.specs.Structure.{Structure, IsStructure}
@@ -14,7 +14,7 @@ use Rattle.ml_lists.proofs.Deciding.{some_below}
 use Rattle.ml_lists.proofs.InTurn.{runs_append}
 use Rattle.ml_bisim.specs.Bisimilar.{Bisimilar}
 use Rattle.ml_bisim.specs.Laws.{SomeClasses}
-use Rattle.ml_bisim.specs.Quotient.{AreClasses, class_of}
+use Rattle.ml_bisim.specs.Quotient.{class_of}
 use Rattle.ml_bisim.proofs.DecidedBisimilar.{decided_bisimilar}
 use Rattle.ml_bisim.proofs.Equivalent.{itself, through, turned}
 use Rattle.ml_bisim.proofs.Turns.{runs_low}
