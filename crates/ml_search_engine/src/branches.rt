@@ -37,6 +37,8 @@ pub(crate) struct Branch {
     literals: Vec<usize>,
     trail: Vec<Change>,
     work: Vec<(usize, usize)>,
+    /// Memory for what is met or killed next; empty in between.
+    near: Vec<usize>,
     cause: Option<Cause>,
 }
 
@@ -55,6 +57,7 @@ impl Branch {
             literals: Vec::new(alloc),
             trail: Vec::new(alloc),
             work: Vec::new(alloc),
+            near: Vec::new(alloc),
             cause: None,
         };
         for (n, node) in terms.graph.nodes().iter().enumerate() {
@@ -216,9 +219,9 @@ impl Branch {
 
     /// A node holds whatever is chosen, and so do others because of it.
     fn meet(&mut self, terms: &Terms, first: usize) -> Result<(), NoMemory> {
-        let mut work = vec![in terms.alloc; first]?;
+        self.near.push(first)?;
         for _ in 0..u64::MAX {
-            let Some(n) = work.pop() else {
+            let Some(n) = self.near.pop() else {
                 break;
             };
             if flag(&self.met, n) {
@@ -228,10 +231,10 @@ impl Branch {
             self.trail.push(Change::Met(n))?;
             for p in row(&terms.parents, n) {
                 match terms.node(*p) {
-                    Node::Or { .. } => work.push(*p)?,
+                    Node::Or { .. } => self.near.push(*p)?,
                     Node::And { left, right } => {
                         if flag(&self.met, left as usize) && flag(&self.met, right as usize) {
-                            work.push(*p)?;
+                            self.near.push(*p)?;
                         }
                     }
                     _ => {}
@@ -243,9 +246,9 @@ impl Branch {
 
     /// A node can't hold, and so can't others because of it.
     fn kill(&mut self, terms: &Terms, first: usize) -> Result<(), NoMemory> {
-        let mut work = vec![in terms.alloc; first]?;
+        self.near.push(first)?;
         for _ in 0..u64::MAX {
-            let Some(n) = work.pop() else {
+            let Some(n) = self.near.pop() else {
                 break;
             };
             if flag(&self.dead, n) {
@@ -255,10 +258,10 @@ impl Branch {
             self.trail.push(Change::Dead(n))?;
             for p in row(&terms.parents, n) {
                 match terms.node(*p) {
-                    Node::And { .. } => work.push(*p)?,
+                    Node::And { .. } => self.near.push(*p)?,
                     Node::Or { left, right } => {
                         if flag(&self.dead, left as usize) && flag(&self.dead, right as usize) {
-                            work.push(*p)?;
+                            self.near.push(*p)?;
                         }
                     }
                     _ => {}
