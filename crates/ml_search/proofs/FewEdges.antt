@@ -2,22 +2,24 @@
 --
 --   once_each   == edges that ascend stand there once
 --   few_edges   == of each action each state of the model has at most as many edges as the graph has diamonds
-use Rattle.std.proofs.Common.{ℕ, ◌≡◌, ◌<◌, ◌≤◌, ◌==◌, ◌&&◌, ◌⊎◌, inl, inr, Bool, true, false, List, [], ◌∷◌, length, get_or, slice_get, Some, map, refl, sym, ap, subst, ◌∙◌, arith}
+use Rattle.std.proofs.Common.{ℕ, ◌≡◌, ◌<◌, ◌≤◌, ◌==◌, ◌&&◌, Bool, true, List, [], ◌∷◌, length, get_or, slice_get, Some, map, refl, sym, ap, subst, ◌∙◌, arith}
 use Rattle.std.specs.List.{flat_map, filter}
 use Rattle.std.specs.List.Sorted.{IsStrictlySortedBy}
 use Rattle.std.specs.Str.{bytes_eq}
 use Rattle.std.specs.declared.cmp.Ordering.TheVariants.{Less, Equal}
-use Rattle.std.proofs.lemmas.Bool.{cases_Bool, cond-true, cond-false, and_parts}
+use Rattle.std.proofs.lemmas.Bool.{and_parts}
 use Rattle.std.proofs.lemmas.Bool.Decides.{Decides-eqb}
 use Rattle.std.proofs.lemmas.Cmp.{tied_itself}
 use Rattle.std.proofs.lemmas.List.{length-map}
 use Rattle.std.proofs.lemmas.List.Elements.{All-contains}
+use Rattle.std.proofs.lemmas.List.Kept.{IsStrictlySortedBy-filter}
 use Rattle.std.proofs.lemmas.Map.Keys.{sorted_tail}
 use Rattle.std.proofs.lemmas.Map.Views.{All-after_first}
 use Rattle.std.proofs.lemmas.Slice.Eq.{bytes_eq-Decides}
 use Rattle.ml_base.specs.declared.structure.Edge.{Edge}
 use Rattle.ml_base.specs.EdgeOrder.{edge_cmp}
 use Rattle.ml_base.specs.Structure.{Structure}
+use Rattle.ml_base.proofs.Edges.{same_edge}
 use Rattle.ml_kripke.proofs.OneStructure.{edge_order}
 use Rattle.ml_lists.specs.Member.{IsMember}
 use Rattle.ml_lists.proofs.Ascending.{ascending-filter}
@@ -52,19 +54,6 @@ once_each (x ∷ xs) up = (
       (contains_of_member x xs inside))),
   once_each xs (sorted_tail edge_cmp x xs up),
 )
-
-apart-filter : {X : Type 0} (test : X → Bool) (xs : List X) → AreApart xs → AreApart (filter test xs)
-apart-filter test [] apart = tt
-apart-filter test (x ∷ xs) apart = by_test (apart-filter test xs apart.1) (cases_Bool (test x))
-  where
-    by_test : AreApart (filter test xs) → (test x ≡ true) ⊎ (test x ≡ false) → AreApart (filter test (x ∷ xs))
-    by_test rest (inl t) =
-        subst AreApart (sym (cond-true (test x) (x ∷ filter test xs) (filter test xs) t))
-        ((λ m. apart.0 (member-filter_from test x xs m).0), rest)
-    by_test rest (inr f) = subst AreApart (sym (cond-false (test x) (x ∷ filter test xs) (filter test xs) f)) rest
-
-same_edge : (e f : Edge) → e.source ≡ f.source → e.action ≡ f.action → e.target ≡ f.target → e ≡ f
-same_edge e f source action target = λ i. record { source = source i; action = action i; target = target i }
 
 -- ---- edges of one state and one action
 
@@ -148,7 +137,7 @@ module _ (g : Graph) (a : Arena) (s : GameSolution) (m : Structure) (start : ℕ
   few : (ascends : IsStrictlySortedBy edge_cmp m.edges) → length (filter leaves m.edges) ≤ length (passing (has_diamond g name) (size g))
   few ascends =
       let c =
-      chosen StandsFor (filter leaves m.edges) (apart-filter leaves m.edges (once_each m.edges ascends)) stands_for
+      chosen StandsFor (filter leaves m.edges) (once_each (filter leaves m.edges) (IsStrictlySortedBy-filter edge_cmp leaves m.edges ascends)) stands_for
       (λ e f d inside also. one_edge e f d) in
       let bound =
       different_within c.numbers (passing (has_diamond g name) (size g)) c.apart

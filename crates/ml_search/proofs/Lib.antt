@@ -4,6 +4,8 @@ pub mod Tested
 pub mod Passing
 -- models of Even's moves have few edges
 pub mod FewEdges
+-- entries of one key stand together
+pub mod Runs
 -- what few edges tell
 pub mod Edges
 -- states that are reached

@@ -1,12 +1,11 @@
 // Whether a structure with a state is a model of a graph, as a search may hand it out.
-ghost use Rattle.std.specs.Prelude.{◌≡◌, ◌<◌, ◌≤◌, ◌==◌, ◌&&◌, ℕ, true, false, length, filter, slice_index_or, IfOk, IsTrue};
-ghost use Rattle.std.specs.Str.{bytes_eq};
+ghost use Rattle.std.specs.Prelude.{◌≡◌, ◌+◌, ◌<◌, ◌≤◌, ℕ, true, false, length, slice_index_or, IfOk, IsTrue};
 ghost use Rattle.ml_lists.specs.Member.{IsMember};
 ghost use Rattle.ml_extract.specs.Extraction.{IsReachedFrom};
 ghost use Rattle.ml_graph.specs.CheckingGame.{Holds};
 ghost use Rattle.ml_graph.specs.Graph.{size};
 ghost use Rattle.ml_search.specs.Found.{IsModelFound, HasFewEdges, diamonds_with, has_diamond};
-ghost use Rattle.ml_search.specs.private.Checked.{AreReached};
+ghost use Rattle.ml_search.specs.private.Checked.{AreAlike, AreReached};
 
 use ml_base::{Action, Edge, NoMemory};
 use ml_graph::{ModalGraph, Node, checking_game};
@@ -41,23 +40,27 @@ fn diamonds_with(graph: &ModalGraph, action: &Action) -> usize
     many
 }
 
-/// How many of the edges leave the state with the action.
-fn edges_with(edges: &[Edge], source: u32, action: &Action) -> usize
-    ensures { result ≡ length (filter (λ e. (e.source == source) && bytes_eq e.action action.now) edges.now) }
+/// Has the edge so many places behind this one its source and its action?
+fn goes_on(edges: &[Edge], place: usize, many: usize) -> bool
+    requires { place < length edges.now }
+    ensures { result ≡ false → place + many < length edges.now → AreAlike edges.now place (place + many) → ⊥ }
 {
-    edges
-        .iter()
-        .filter(|edge| edge.source == source && edge.action == *action)
-        .count()
+    let edge = &edges[place];
+    match edges.get(place.saturating_add(many)) {
+        Some(other) => edge.source == other.source && edge.action == other.action,
+        None => false,
+    }
 }
 
-/// Has each state at most as many edges of each action as the graph has Diamonds of it?
+/// Has each state at most as many edges of each action as the graph has Diamonds of it? The edges of a state and an action
+/// stand together.
 fn has_few_edges(graph: &ModalGraph, structure: &Structure) -> bool
     ensures { IsTrue result → HasFewEdges graph.now structure.now }
 {
-    for edge in structure.edges() {
-        let many = edges_with(structure.edges(), edge.source, &edge.action);
-        if many > diamonds_with(graph, &edge.action) {
+    let _states = structure.states();
+    let edges = structure.edges();
+    for (place, edge) in edges.iter().enumerate() {
+        if goes_on(edges, place, diamonds_with(graph, &edge.action)) {
             return false;
         }
     }
@@ -136,7 +139,7 @@ fn holds(
 
 /// Is this a model of the graph, with no state, no action and no edge too many?
 ///
-/// Cost: that of the checking game and its solution; for each edge linear in the edges and the nodes.
+/// Cost: that of the checking game and its solution; for each edge linear in the nodes.
 pub(crate) fn is_model(alloc: Global, graph: &ModalGraph, model: &Model) -> Result<bool, NoMemory>
     ensures { IfOk result (λ b. IsTrue b → IsModelFound graph.now model.now.structure model.now.start) }
 {

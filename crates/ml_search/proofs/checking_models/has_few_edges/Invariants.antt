@@ -1,11 +1,7 @@
-use Rattle.std.proofs.Common.{ℕ, ◌<◌, ◌≤◌, get_or, length}
-use Rattle.ml_base.specs.declared.structure.Edge.{Edge}
-use Rattle.ml_graph.specs.CheckingGame.{targets}
-use Rattle.ml_search.specs.Found.{diamonds_with}
+-- At each place so far the edges of its source and action end soon.
+use Rattle.std.proofs.Common.{ℕ, ◌<◌}
+use Rattle.ml_search.specs.private.Checked.{EndsSoon}
 use Rattle.ml_search.proofs.checking_models.has_few_edges.Given as goal
 
-abbrev pub invariant-loop-edge : goal.invariant-loop-edge
-invariant-loop-edge l =
-    (k : ℕ) (d : Edge) → k < l.edge-index
-    → length (targets l.structure (get_or l.structure.edges k d).source (get_or l.structure.edges k d).action)
-    ≤ diamonds_with l.graph (get_or l.structure.edges k d).action
+abbrev pub invariant-loop-place : goal.invariant-loop-place
+invariant-loop-place l = (k : ℕ) → k < l.place → EndsSoon l.graph l.structure.edges k
