@@ -12,3 +12,7 @@ pub mod Found
 pub mod AlikeGraphs
 -- the games of the readings of a task
 pub mod OneGame
+-- each task has a reading
+pub mod SomeReadings
+-- some answer is due for each task
+pub mod SomeOutcomes
