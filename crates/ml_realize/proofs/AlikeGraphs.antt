@@ -4,10 +4,10 @@
 --   is_alike        == of a node of this form the other one is alike
 --   states_alike    == their states are the same
 --   leads_alike     == letters lead alike
-use Rattle.std.proofs.Common.{◌≡◌, ℕ, ◌<◌, ◌≤◌, ◌⊎◌, ◌==◌, Bool, inl, inr, ⊎_elim, refl, sym, ap, ◌∙◌, subst, arith}
+use Rattle.std.proofs.Common.{◌≡◌, ℕ, ◌<◌, ◌≤◌, ◌==◌, Bool, inl, inr, ⊎_elim, refl, sym, ap, ◌∙◌, subst, arith}
 use Rattle.std.proofs.lemmas.Bool.{cases_lt}
 use Rattle.std.proofs.lemmas.List.{get_or_past}
-use Rattle.ml_graph.specs.Graph.{Graph, node_at, prop_at, size}
+use Rattle.ml_graph.specs.Graph.{Graph, node_at, size}
 use Rattle.ml_graph.specs.declared.node.Node.{Node}
 use Rattle.ml_graph.specs.declared.node.Node.TheVariants as node
 use Rattle.ml_nodes.specs.AlikeNodes.{AreAlike, AreAlikeNodes}

@@ -5,7 +5,7 @@
 --   found    == an outcome that is made is found
 --   right    == and right
 --   passes   == a game that is too large is the task's
-use Rattle.std.proofs.Common.{ℕ, ◌≡◌, ◌<◌, ◌≤◌, true, List, length, sym, subst}
+use Rattle.std.proofs.Common.{ℕ, ◌≡◌, ◌<◌, ◌≤◌, true, List, length, subst}
 use Rattle.ml_graph.specs.Graph.{size}
 use Rattle.ml_synthesis.specs.declared.outcome.Outcome.{Outcome}
 use Rattle.ml_task.specs.Task.{IsTask, Task, names_of}

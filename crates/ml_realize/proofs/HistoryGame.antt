@@ -8,18 +8,16 @@
 --   is_accessible   == each of whose states is reached
 --   many_positions  == many histories make more positions
 --   starts_many     == the start is one
-use Rattle.std.proofs.Common.{ℕ, suc, zero, ◌≡◌, ◌+◌, ◌*◌, ◌/◌, ◌%◌, ◌^◌, ◌<◌, ◌≤◌, ◌⊎◌, List, [], ◌∷◌, ◌++◌, Some, All, length, map, get_or, inl, inr, refl, sym, ap, subst, ◌∙◌, arith, ⊎_elim}
-use Rattle.std.specs.List.{range_with_len, slice_get}
+use Rattle.std.proofs.Common.{ℕ, suc, ◌≡◌, ◌+◌, ◌*◌, ◌/◌, ◌%◌, ◌^◌, ◌<◌, ◌≤◌, List, [], ◌∷◌, ◌++◌, Some, All, length, get_or, sym, ap, subst, ◌∙◌, arith, ⊎_elim}
+use Rattle.std.specs.List.{slice_get}
 use Rattle.std.proofs.Math.Nat.{div-lt_iff_lt-mul, lt-mul-div-succ, mod-add-div, mod-lt, mul_comm, mul-le-mul_left, mul-mod_right}
-use Rattle.std.proofs.lemmas.List.{get_or-map, length-append, length-map}
+use Rattle.std.proofs.lemmas.List.{get_or-map, length-map}
 use Rattle.std.proofs.lemmas.List.Elements.{All-append, All-cons, All-nil}
-use Rattle.std.proofs.lemmas.List.FromFn.{length-range_with_len}
 use Rattle.std.proofs.lemmas.Nat.{pow-add, pow_pos}
 use Rattle.std.proofs.lemmas.Option.{get_or_from_slice_get, slice_get-get_or, slice_get_within}
 use Rattle.ml_lists.specs.Member.{IsMember}
-use Rattle.ml_lists.proofs.FirstEntries.{AreApart, apart_places, number, number_at, number_is, number_low, one_number}
-use Rattle.ml_lists.proofs.Member.{Image, Place, member-append, member-map_from, member-place, member_of_get, place-member}
-use Rattle.ml_trace.specs.Marks.{priority}
+use Rattle.ml_lists.proofs.FirstEntries.{AreApart, apart_places, number, number_at, number_is, one_number}
+use Rattle.ml_lists.proofs.Member.{Place, member-place, member_of_get, place-member}
 use Rattle.ml_trace.specs.Stack.{Item}
 use Rattle.ml_trace.specs.WordAutomata.{state_behind}
 use Rattle.ml_trace.specs.declared.letters.Transition.{Transition}
@@ -28,7 +26,7 @@ use Rattle.ml_history.specs.History.{start}
 use Rattle.ml_history.specs.HistoryOrder.{history_eq, history_eq-decides}
 use Rattle.ml_history.specs.HistoryStep.{step_mark, stepped}
 use Rattle.ml_determinise.specs.Histories.{StaysBelow, histories_of, letter_at, neutral}
-use Rattle.ml_determinise.specs.Numbering.{HasMoreThan, IsNumbered, IsReached, along, at_start, automaton_of, move_at, move_along, moves_from, moves_of}
+use Rattle.ml_determinise.specs.Numbering.{HasMoreThan, IsNumbered, IsReached, along, at_start, automaton_of, move_at, move_along, moves_from}
 use Rattle.ml_determinise.specs.declared.moves.DetMove.{DetMove}
 use Rattle.ml_determinise.proofs.NumberedWords as numbered
 use Rattle.ml_determinise.proofs.ReachedHistories.{reached_fits}

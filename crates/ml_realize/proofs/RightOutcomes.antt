@@ -6,7 +6,7 @@
 --   accepts           == the moves accept exactly the words that don't satisfy the formula
 --   right             == an outcome that is made for the moves is right
 --   found_right       == so one that is found is
-use Rattle.std.proofs.Common.{ℕ, suc, ◌≡◌, ◌+◌, ◌^◌, ◌<◌, ◌≤◌, ◌⊎◌, ◌↔◌, Bool, true, List, [], ◌∷◌, ◌++◌, All, length, map, get_or, inl, inr, refl, sym, ap, subst, ◌∙◌, arith, ⊎_elim}
+use Rattle.std.proofs.Common.{ℕ, ◌≡◌, ◌+◌, ◌^◌, ◌<◌, ◌≤◌, ◌⊎◌, ◌↔◌, true, List, [], ◌∷◌, All, length, map, get_or, inl, inr, refl, sym, ap, subst, ◌∙◌, arith}
 use Rattle.std.specs.List.{range_with_len}
 use Rattle.std.proofs.Math.ListN.{get_or-eq_default}
 use Rattle.std.proofs.lemmas.Bool.{and_parts, cases_lt}
@@ -20,7 +20,7 @@ use Rattle.ml_ctl.specs.Formula as plain
 use Rattle.ml_ctl.specs.Formula.{Formula, is_linear}
 use Rattle.ml_ctl.specs.Laws.{IsDecided}
 use Rattle.ml_determinise.specs.Histories.{IsBelow, StaysBelow, neutral}
-use Rattle.ml_determinise.specs.Numbering.{IsNumbered, IsWord, automaton_of}
+use Rattle.ml_determinise.specs.Numbering.{IsNumbered, automaton_of}
 use Rattle.ml_determinise.specs.declared.moves.DetMove.{DetMove}
 use Rattle.ml_determinise.proofs.NumberedWords.{numbered_same_words}
 use Rattle.ml_lists.specs.Lasso.{Lasso}

@@ -2,7 +2,7 @@
 --
 --   some_moves    == the histories of a row have a numbering
 --   some_outcome  == so the game over their numbers has too many positions, or an outcome
-use Rattle.std.proofs.Common.{◌≡◌, ℕ, ◌+◌, ◌^◌, ◌<◌, ◌≤◌, ◌⊎◌, true, List, length, inl, inr, ⊎_elim, refl, sym, ap, ◌∙◌, subst, arith, length-append}
+use Rattle.std.proofs.Common.{◌≡◌, ℕ, ◌+◌, ◌^◌, ◌<◌, ◌≤◌, ◌⊎◌, true, List, length, inl, inr, ⊎_elim, refl, ap, ◌∙◌, length-append}
 use Rattle.std.proofs.lemmas.Bool.{cases_lt}
 use Rattle.ml_graph.specs.Graph.{size}
 use Rattle.ml_trace.specs.Stack.{Item}
@@ -21,7 +21,7 @@ use Rattle.ml_word_automaton.proofs.BlockGraphs.{one_size}
 use Rattle.ml_word_automaton.proofs.RowsAccept.{lead_to_states}
 use Rattle.ml_realize.specs.Laws.{SomeOutcome}
 use Rattle.ml_realize.specs.Realizing.{inputs_of, outputs_of}
-use Rattle.ml_realize.specs.TaskGame.{IsFound, IsLarge, PassesLimit, Reading, most_nodes, states, valuations}
+use Rattle.ml_realize.specs.TaskGame.{IsFound, PassesLimit, Reading, most_nodes, states}
 use Rattle.ml_realize.proofs.HistoryGame.{is_accessible, is_automaton, to_histories, to_numbers}
 use Rattle.ml_realize.proofs.RightOutcomes.{stays_below}
 use Rattle.ml_realize.proofs.SomeReadings.{some_reading}
@@ -72,14 +72,17 @@ module _ (t : Task) (n : ℕ) (r : Reading t) (few : size r.automaton.graph ≤ 
         }))
         (λ (within : HasMorePositions (automaton_of moves) 0 (neutral (states r)) i o n → ⊥).
         let outcome = synthesis.some_outcome i o (neutral (states r)) moves automaton in
-        inr (outcome.0, record {
-          reading = r;
-          few = few;
-          within = λ more. within (to_numbers (states r) r.row i o one_each moves numbered n more);
-          moves = moves;
-          are_numbered = numbered;
-          is_outcome = outcome.1;
-        }))
+        inr (
+          outcome.0,
+          record {
+            reading = r;
+            few = few;
+            within = λ more. within (to_numbers (states r) r.row i o one_each moves numbered n more);
+            moves = moves;
+            are_numbered = numbered;
+            is_outcome = outcome.1;
+          },
+        ))
         (synthesis.more_or_few i o (neutral (states r)) moves n automaton
         (is_accessible (states r) r.row i o one_each moves numbered))
 

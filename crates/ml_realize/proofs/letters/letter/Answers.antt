@@ -1,4 +1,4 @@
-use Rattle.std.proofs.Common.{◌++◌, ap, subst}
+use Rattle.std.proofs.Common.{◌++◌, subst}
 use Rattle.ml_task.specs.NameSets.{members}
 use Rattle.ml_word_automaton.specs.Letters.{AreThoseIn}
 use Rattle.ml_realize.proofs.letters.letter.Goals as goal

@@ -1,8 +1,5 @@
 use Rattle.std.proofs.Common.{◌/◌, ◌∙◌, Err, ap, sym, subst}
-use Rattle.ml_determinise.specs.Histories.{neutral}
-use Rattle.ml_determinise.specs.Numbering.{HasMoreThan, IsNumbered, automaton_of, rows_of}
-use Rattle.ml_synthesis.specs.Game.{HasMorePositions}
-use Rattle.ml_synthesis.specs.Synthesis.{IsOutcome}
+use Rattle.ml_determinise.specs.Numbering.{HasMoreThan, IsNumbered, rows_of}
 use Rattle.ml_realize.proofs.HistoryGame.{is_accessible, is_automaton, many_positions, starts_many, to_histories, to_numbers}
 use Rattle.ml_realize.proofs.realizing.play.Goals as goal
 

@@ -1,4 +1,4 @@
-use Rattle.std.proofs.Common.{◌<◌, ◌++◌, ◌∙◌, Err, ap, length, sym, subst}
+use Rattle.std.proofs.Common.{◌<◌, ◌++◌, ◌∙◌, ap, length, sym, subst}
 use Rattle.ml_determinise.specs.Histories.{StaysBelow}
 use Rattle.ml_task.specs.Task.{names_of, task_of}
 use Rattle.ml_word_automaton.proofs.RowsAccept.{lead_to_states}
