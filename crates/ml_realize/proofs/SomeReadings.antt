@@ -82,7 +82,8 @@ transition p q b = record { from = p; to = q; accepting = b }
 -- the transitions between the first n states
 abbrev between : ℕ → List Transition
 between n =
-    flat_map (λ p. flat_map (λ q. transition p q true ∷ transition p q false ∷ []) (range_with_len 0 n)) (range_with_len 0 n)
+    flat_map (λ p. flat_map (λ q. transition p q true ∷ transition p q false ∷ []) (range_with_len 0 n))
+    (range_with_len 0 n)
 
 in_between : (n p q : ℕ) (b : Bool) → p < n → q < n → IsMember (transition p q b) (between n)
 in_between n p q b p_low q_low =
