@@ -5,7 +5,8 @@
 --   answered_more  == one set of outputs more
 --   answers_grown  == answers stay right when arrivals are added
 --   read_length, read_move == what is read of the moves
-use Rattle.std.proofs.Common.{ℕ, ◌≡◌, ◌+◌, ◌*◌, ◌<◌, ◌≤◌, ◌⊎◌, inl, inr, ⊎_elim, arith, List, [], ◌∷◌, ◌++◌, length, get_or}
+use Rattle.std.proofs.Common.{ℕ, ◌≡◌, ◌+◌, ◌*◌, ◌<◌, ◌≤◌, ◌⊎◌, inl, inr, ⊎_elim, arith, List, [], ◌∷◌, ◌++◌, length}
+use Rattle.std.proofs.Common.{get_or}
 use Rattle.std.proofs.Common.{slice_get, Some, refl, sym, ap, ◌∙◌, subst, length-append, append_assoc}
 use Rattle.std.specs.Global.{Vec}
 use Rattle.std.proofs.Math.Nat.{mul_comm}
@@ -80,7 +81,8 @@ module _ (n m base neutral : ℕ) (moves : List (List DetMove)) (ks : List Arriv
             (λ (last : outs ≤ k).
             let here : k ≡ outs = omega (arith, last, k_low) in
             let value = get_or_push vs (base + i) 0 k (is.answers.one_each ∙ sym here) in
-            subst (λ j. IsNumberOf base hs (arrival_of (move_at moves q (ins + n * j))) (get_or (vs ++ (base + i) ∷ []) k 0))
+            subst (λ j. IsNumberOf base hs (arrival_of (move_at moves q (ins + n * j)))
+            (get_or (vs ++ (base + i) ∷ []) k 0))
             (sym here) (record { place = i; is = value; stands = added.stands }))
             (cases_lt k outs)
 
@@ -118,16 +120,19 @@ module _ (n m base neutral : ℕ) (moves : List (List DetMove)) (ks : List Arriv
 
 -- ---- what the program reads
 
-module _ (all : List (Vec DetMove)) (v : ℕ) (row : Vec DetMove) (low : v < length all) (is : row ≡ get_or all v row) where
-  row_is : get_or (rows_of all) v [] ≡ row.items
-  row_is = get_or-map (λ (moves : Vec DetMove). moves.items) all v row [] low ∙ ap (λ (moves : Vec DetMove). moves.items) (sym is)
+module _ (all : List (Vec DetMove)) (v : ℕ) (row : Vec DetMove) (low : v < length all) (is : row ≡ get_or all v row)
+  where
+    row_is : get_or (rows_of all) v [] ≡ row.items
+    row_is = get_or-map (λ (moves : Vec DetMove). moves.items) all v row [] low ∙ ap
+        (λ (moves : Vec DetMove). moves.items) (sym is)
 
-  pub read_length : length (get_or (rows_of all) v []) ≡ length (get_or all v row).items
-  read_length = ap length row_is ∙ ap (λ (moves : Vec DetMove). length moves.items) is
+    pub read_length : length (get_or (rows_of all) v []) ≡ length (get_or all v row).items
+    read_length = ap length row_is ∙ ap (λ (moves : Vec DetMove). length moves.items) is
 
-  pub read_move : (i : ℕ) (x : DetMove) → i < length (get_or all v row).items → x ≡ get_or (get_or all v row).items i x
-      → move_at (rows_of all) v i ≡ x
-  read_move i x inside entry =
-      ap (λ (r : List DetMove). get_or r i (record { priority = 0; to = 0 })) (row_is ∙ ap (λ (moves : Vec DetMove). moves.items) is)
-      ∙ get_or_default (get_or all v row).items i (record { priority = 0; to = 0 }) x inside
-      ∙ sym entry
+    pub read_move : (i : ℕ) (x : DetMove) → i < length (get_or all v row).items → x ≡ get_or (get_or all v row).items i x
+        → move_at (rows_of all) v i ≡ x
+    read_move i x inside entry =
+        ap (λ (r : List DetMove). get_or r i (record { priority = 0; to = 0 }))
+        (row_is ∙ ap (λ (moves : Vec DetMove). moves.items) is)
+        ∙ get_or_default (get_or all v row).items i (record { priority = 0; to = 0 }) x inside
+        ∙ sym entry

@@ -29,7 +29,8 @@ module _ (i o : ℕ) where
   }
 
   pub accessible_by : (moves : List (List DetMove)) → IsAccessible i o moves → (q : ℕ) → q < length moves
-      → (word : List ℕ) × ((v : ℕ) → IsMember v word → v < 2 ^ i * 2 ^ o) × (state_behind (automaton_of moves) 0 word ≡ q)
+      → (word : List ℕ) × ((v : ℕ) → IsMember v word → v < 2 ^ i * 2 ^ o) ×
+      (state_behind (automaton_of moves) 0 word ≡ q)
   accessible_by moves a q low =
       let r = a q low in (
         r.0,

@@ -4,18 +4,24 @@
 --   choice_at_known, choice_at_state == so it is, and at a state the choice has inputs
 --   row_behind   == where a state with inputs leads, there are states
 --   choice_read, arrival_read == what is read of the solution, and of the arrivals
-use Rattle.std.proofs.Common.{ℕ, ◌≡◌, ◌+◌, ◌-◌, ◌*◌, ◌/◌, ◌%◌, ◌<◌, ◌≤◌, ◌^◌, arith, List, length, get_or, slice_get, Some, sym, ap, ◌∙◌, subst}
+use Rattle.std.proofs.Common.{ℕ, ◌≡◌, ◌+◌, ◌-◌, ◌*◌, ◌/◌, ◌%◌, ◌<◌, ◌≤◌, ◌^◌, arith, List, length, get_or, slice_get}
+use Rattle.std.proofs.Common.{Some, [], ◌∷◌, sym, ap, ◌∙◌, subst}
 use Rattle.std.proofs.Math.Nat.{div-lt_iff_lt-mul, le-mul_of_pos_right, mod-lt, mul-div_cancel}
 use Rattle.std.proofs.lemmas.List.{get_or_default}
 use Rattle.std.proofs.lemmas.Nat.{div-add-mod'}
 use Rattle.std.proofs.lemmas.Option.{get_or_from_slice_get, slice_get_within}
+use Rattle.ml_lists.specs.Added.{IsAdded}
 use Rattle.ml_lists.proofs.Entries.{some_entry}
 use Rattle.ml_parity.specs.declared.players.Player.TheVariants.{Even, Odd}
 use Rattle.ml_parity.specs.Game.{ParityGame, HasMove, moves_of, owner_of, size}
 use Rattle.ml_parity.specs.Solution.{GameSolution, choice_at}
 use Rattle.ml_synthesis.specs.declared.arrival.Arrival.{Arrival}
+use Rattle.ml_synthesis.specs.private.Arena.{IsNumberOf}
+use Rattle.ml_synthesis.specs.private.Numbered.{AreNumbers, IsRowMet}
 use Rattle.ml_synthesis.specs.private.Solved.{IsSolved}
-use Rattle.ml_synthesis.proofs.Arenas.{arrival_low, IsReply, IsSomeReply, IsSomeSet, known_at, known_low, reply_at, row_length, some_reply, some_set, state_at}
+use Rattle.ml_synthesis.proofs.Arenas.{arrival_low, IsReply, IsSomeReply, IsSomeSet, known_at, known_low, reply_at}
+use Rattle.ml_synthesis.proofs.Arenas.{row_length, some_reply, some_set, state_at}
+use Rattle.ml_synthesis.proofs.RowsMet.{row_more, row_none}
 use Rattle.ml_synthesis.proofs.WordPlays.{reply}
 
 module _ (n base : ℕ) (ks : List Arrival) (g : ParityGame) (s : GameSolution) (solved : IsSolved n base ks g s) where
@@ -81,8 +87,10 @@ module _ (n base : ℕ) (ks : List Arrival) (g : ParityGame) (s : GameSolution) 
           some_reply n m solved.neutral solved.moves ks g solved.are_moves solved.arena q ins (choice v) q_low ins_low
           (subst (λ u. HasMove g u (choice v)) (sym whole) is_move)
 
-      r : IsReply n m solved.neutral solved.moves ks g solved.are_moves solved.arena q ins some.outs (reply g n q ins some.outs)
-      r = reply_at n m solved.neutral solved.moves ks g solved.are_moves solved.arena q ins some.outs q_low ins_low some.low
+      r : IsReply n m solved.neutral solved.moves ks g solved.are_moves solved.arena q ins some.outs
+          (reply g n q ins some.outs)
+      r = reply_at n m solved.neutral solved.moves ks g solved.are_moves solved.arena q ins some.outs q_low ins_low
+          some.low
 
   -- ---- what the program reads
 
@@ -97,27 +105,32 @@ module _ (n base : ℕ) (ks : List Arrival) (g : ParityGame) (s : GameSolution) 
       ∙ get_or_default s.choice v x 0 (let long = solved.solution.choices in omega (arith, low, long))
 
   -- the arrival at the choice stands among those that are listed
-  pub record IsRead (v x : ℕ) (listed : List Arrival) (arrival : Arrival) : Type 0 where
-    pub is : x ≡ choice v
+  pub record IsRead (v x : ℕ) (listed : List Arrival) : Type 0 where
     pub behind : base ≤ x
     pub inside : x - base < length listed
-    pub entry : (d : Arrival) → get_or listed (x - base) d ≡ arrival
+    pub number : (d : Arrival) → IsNumberOf base ks (get_or listed (x - base) d) (choice v)
 
-  pub arrival_read : (v : ℕ) (c : IsChoice v) (items : List ℕ) (x : ℕ) (listed : List Arrival)
+  pub arrival_read : (v : ℕ) → v < base
+      → (items : List ℕ) (x : ℕ) (listed : List Arrival)
       → items ≡ s.choice
       → x ≡ get_or items v x
       → listed ≡ ks
-      → IsRead v x listed c.arrival
-  arrival_read v c items x listed same entry keys =
+      → IsRead v x listed
+  arrival_read v low items x listed same entry keys =
+      let c : IsChoice v = choice_at_known v low in
       let is = choice_read v c.is_vertex items x same entry in
-      let place : x - base ≡ c.place = let at = c.is in omega (arith, is, at) in
+      let at = c.is in
+      let place : x - base ≡ c.place = omega (arith, is, at) in
       let stands : slice_get listed (x - base) ≡ Some c.arrival =
       ap (λ zs. slice_get zs (x - base)) keys ∙ ap (slice_get ks) place ∙ c.stands in
       record {
-        is = is;
-        behind = let at = c.is in omega (arith, is, at);
+        behind = omega (arith, is, at);
         inside = slice_get_within listed (x - base) c.arrival stands;
-        entry = λ d. get_or_from_slice_get listed (x - base) c.arrival d stands;
+        number = λ d. record {
+          place = c.place;
+          is = c.is;
+          stands = c.stands ∙ ap Some (sym (get_or_from_slice_get listed (x - base) c.arrival d stands));
+        };
       }
 
   -- the states are so many, and no more than 32 bits can tell
@@ -135,9 +148,21 @@ module _ (n base : ℕ) (ks : List Arrival) (g : ParityGame) (s : GameSolution) 
   -- the state of an arrival is a state
   pub state_low : (k : ℕ) (a : Arrival) → slice_get ks k ≡ Some a → a.state < base / n
   state_low k a stands =
-      let low = arrival_low n solved.output_sets solved.neutral solved.moves ks g solved.are_moves solved.arena k a stands in
+      let low = arrival_low n solved.output_sets solved.neutral solved.moves ks g solved.are_moves solved.arena k a
+      stands in
       let same = states_are in
       omega (arith, low, same)
+
+  -- the state at a choice is numbered
+  pub state_numbered : (v : ℕ) (a : Arrival) (x : ℕ) (states js : List ℕ) (i : ℕ)
+      → IsNumberOf base ks a (choice v)
+      → x ≡ a.state
+      → AreNumbers 0 (base / n) states
+      → IsAdded states x js i
+      → IsRowMet 0 (base / n) states (i ∷ []) js
+  state_numbered v a x states js i is state numbers added =
+      row_more 0 (base / n) states [] states x js i (row_none 0 (base / n) states numbers) (omega arith)
+      (subst (λ q. q < base / n) (sym state) (state_low is.place a is.stands)) added
 
   -- the inputs of a state are vertices with inputs
   pub vertex_low : (q ins : ℕ) → q < base / n → ins < n → q * n + ins < base
@@ -191,11 +216,14 @@ module _ (n base : ℕ) (ks : List Arrival) (g : ParityGame) (s : GameSolution) 
       is_move =
           solved.solution.strategies Odd v low
           (subst (λ u. owner_of g u ≡ Odd) (sym here)
-          (state_at n solved.output_sets solved.neutral solved.moves ks g solved.are_moves solved.arena (v - base) e.0 e.1).owner)
+          (state_at n solved.output_sets solved.neutral solved.moves ks g solved.are_moves solved.arena (v - base) e.0
+          e.1).owner)
 
-      some : IsSomeSet n solved.output_sets solved.neutral solved.moves ks g solved.are_moves solved.arena e.0 (choice v)
+      some : IsSomeSet n solved.output_sets solved.neutral solved.moves ks g solved.are_moves solved.arena e.0
+          (choice v)
       some =
-          some_set n solved.output_sets solved.neutral solved.moves ks g solved.are_moves solved.arena (v - base) e.0 (choice v)
+          some_set n solved.output_sets solved.neutral solved.moves ks g solved.are_moves solved.arena (v - base) e.0
+          (choice v)
           e.1 (subst (λ u. HasMove g u (choice v)) here is_move)
 
   -- where a vertex with inputs leads, there are states
@@ -210,8 +238,10 @@ module _ (n base : ℕ) (ks : List Arrival) (g : ParityGame) (s : GameSolution) 
       let ins_low = mod-lt u solved.are_moves.sets in
       let whole : u / n * n + u % n ≡ u = div-add-mod' u n in
       let long = ap (λ v. length (moves_of g v)) (sym whole)
-      ∙ row_length n solved.output_sets solved.neutral solved.moves ks g solved.are_moves solved.arena (u / n) (u % n) q_low ins_low in
-      let r = reply_at n solved.output_sets solved.neutral solved.moves ks g solved.are_moves solved.arena (u / n) (u % n) i q_low
+      ∙ row_length n solved.output_sets solved.neutral solved.moves ks g solved.are_moves solved.arena (u / n) (u % n)
+      q_low ins_low in
+      let r = reply_at n solved.output_sets solved.neutral solved.moves ks g solved.are_moves solved.arena (u / n)
+      (u % n) i q_low
       ins_low (omega (arith, long, here)) in
       let value : get_or (moves_of g u) i 0 ≡ base + r.place =
       ap (λ v. get_or (moves_of g v) i 0) (sym whole) ∙ r.is ∙ ap (λ b. b + r.place) (sym solved.base_is) in

@@ -15,7 +15,8 @@ use Rattle.ml_lists.proofs.Walks.{walk-add-one, walk_keeps}
 use Rattle.ml_trace.specs.WordAutomata.{WordLasso}
 use Rattle.ml_synthesis.specs.Laws.{CommonWord}
 use Rattle.ml_synthesis.specs.Machines.{valuation, MachineTable, MachineFits, MachineGoes, step_at, IsMachineWord}
-use Rattle.ml_synthesis.specs.Machines.{EnvironmentTable, EnvironmentFits, EnvironmentGoes, play_at, next_at, IsEnvironmentWord, IsWordAlong}
+use Rattle.ml_synthesis.specs.Machines.{EnvironmentTable, EnvironmentFits, EnvironmentGoes, play_at, next_at}
+use Rattle.ml_synthesis.specs.Machines.{IsEnvironmentWord, IsWordAlong}
 
 -- the first j letters of a sequence, with the loop start i
 abbrev pub word_of : (ℕ → ℕ) → ℕ → ℕ → WordLasso ℕ
@@ -43,9 +44,11 @@ along_sequence goes c v i j begins apart same steps = record {
         subst₂ (λ s t. goes s (get_or (map v (range_with_len 0 j)) k 0) t)
         (sym (lasso_of-round c i j k apart same (omega (arith, low))))
         (sym (lasso_of-round c i j (k + 1) apart same (omega (arith, low))))
-        (subst (λ l. goes (c k) l (c (k + 1))) (sym (get_or-map-range_with_len v 0 j k k 0 low (omega arith))) (steps k low))
+        (subst (λ l. goes (c k) l (c (k + 1))) (sym (get_or-map-range_with_len v 0 j k k 0 low (omega arith)))
+        (steps k low))
 
-module _ (i o : ℕ) (m : MachineTable) (e : EnvironmentTable) (m_fits : MachineFits i o m) (e_fits : EnvironmentFits i o e) where
+module _ (i o : ℕ) (m : MachineTable) (e : EnvironmentTable) (m_fits : MachineFits i o m)
+    (e_fits : EnvironmentFits i o e) where
   -- the set of outputs that comes back
   abbrev reply : ℕ × ℕ → ℕ
   reply p = (step_at m p.0 (play_at e p.1)).give
@@ -61,7 +64,8 @@ module _ (i o : ℕ) (m : MachineTable) (e : EnvironmentTable) (m_fits : Machine
     of_environment : p.1 < length e.plays
 
   are_states : (k : ℕ) → AreStates (at k)
-  are_states k = walk_keeps next AreStates further (0, 0) (record { of_machine = m_fits.some; of_environment = e_fits.some }) k
+  are_states k = walk_keeps next AreStates further (0, 0)
+      (record { of_machine = m_fits.some; of_environment = e_fits.some }) k
     where
       further : (p : ℕ × ℕ) → AreStates p → AreStates (next p)
       further p a = record {
@@ -95,7 +99,8 @@ module _ (i o : ℕ) (m : MachineTable) (e : EnvironmentTable) (m_fits : Machine
 
   common : (w : WordLasso ℕ) × IsMachineWord i m w × IsEnvironmentWord i o e w
   common = from (pigeons (length e.plays * length m) code
-      (λ k few. mul-add-lt (at k).0 (length e.plays) (at k).1 (length m) (are_states k).of_machine (are_states k).of_environment))
+      (λ k few. mul-add-lt (at k).0 (length e.plays) (at k).1 (length m) (are_states k).of_machine
+      (are_states k).of_environment))
     where
       from : Twice code (length e.plays * length m)
           → (w : WordLasso ℕ) × IsMachineWord i m w × IsEnvironmentWord i o e w

@@ -39,7 +39,8 @@ grown_game owner owner' priority priority' moves moves' who p row owners priorit
     ap lists_of lists ∙ map_push (λ (x : Vec ℕ). x.items) moves.items row in
     λ i. record { owner = owners i; priority = priorities i; successors = rows i }
 
-module _ (g : ParityGame) (v : ℕ) (owners : size g ≡ v) (priorities : length g.priority ≡ v) (lists : length g.successors ≡ v)
+module _ (g : ParityGame) (v : ℕ) (owners : size g ≡ v) (priorities : length g.priority ≡ v)
+    (lists : length g.successors ≡ v)
     (who : Player) (p : ℕ) (row : List ℕ) where
   abbrev longer : ParityGame
   longer = extended g who p row
@@ -135,7 +136,8 @@ module _ (n m neutral : ℕ) (moves : List (List DetMove)) (ks : List Arrival) (
     priorities = sizes.1;
     lists = sizes.2;
     arrivals = draft.arrivals;
-    known = λ u low inside. known_kept ks [] Odd a.priority vs u (sym (append-nil ks)) (omega (arith, inside, here)) inside;
+    known = λ u low inside. known_kept ks [] Odd a.priority vs u (sym (append-nil ks))
+        (omega (arith, inside, here)) inside;
     states = λ j b low is.
         ⊎_elim
         (λ (before : base + j < v). kept j b before is)
@@ -154,11 +156,14 @@ module _ (n m neutral : ℕ) (moves : List (List DetMove)) (ks : List Arrival) (
       kept j b low is =
           let old = draft.states j b low is in
           record {
-            owner = same_owner g v draft.owners draft.priorities draft.lists Odd a.priority vs (base + j) low ∙ old.owner;
-            priority = same_priority g v draft.owners draft.priorities draft.lists Odd a.priority vs (base + j) low ∙ old.priority;
+            owner = same_owner g v draft.owners draft.priorities draft.lists Odd a.priority vs (base + j) low ∙
+                old.owner;
+            priority = same_priority g v draft.owners draft.priorities draft.lists Odd a.priority vs (base + j) low ∙
+                old.priority;
             sets =
                 subst (AreSets n b.state n)
-                (sym (same_moves g v draft.owners draft.priorities draft.lists Odd a.priority vs (base + j) low)) old.sets;
+                (sym (same_moves g v draft.owners draft.priorities draft.lists Odd a.priority vs (base + j) low))
+                old.sets;
           }
 
       newest : (j : ℕ) (b : Arrival) → j ≡ k → slice_get ks j ≡ Some b

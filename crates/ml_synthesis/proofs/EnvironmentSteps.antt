@@ -62,7 +62,8 @@ module _ (n base : ℕ) (g : ParityGame) (choice : List ℕ) where
     };
   }
 
-  pub environment_first : base < size g → IsEnvironmentMet n base g choice (base ∷ []) (record { plays = []; next = [] })
+  pub environment_first : base < size g → IsEnvironmentMet n base g choice (base ∷ [])
+      (record { plays = []; next = [] })
   environment_first some = record {
     met = met_first base (size g) some;
     a_play_each = refl;
@@ -94,19 +95,23 @@ module _ (n base : ℕ) (g : ParityGame) (choice : List ℕ) where
           ⊎_elim
           (λ (before : s < length e.plays).
           let each = is.a_play_each in
-          let inside : s < length ks = let place = slice_get_within ks (length e.next) v next in omega (arith, before, place, each) in
+          let inside : s < length ks = let place = slice_get_within ks (length e.next) v next in
+          omega (arith, before, place, each) in
           let f = some_entry ks s inside in
           let same : f.0 ≡ u = same_Some f.0 u (sym (row_kept base (size g) ks row js met s f.0 f.1) ∙ stands) in
           subst (λ p. IsAnswerAt n g choice js u p (get_or (e.next ++ row ∷ []) s []))
           (sym (get_or_append_left e.plays (play ∷ []) 0 s before))
           (subst (IsAnswerAt n g choice js u (play_at e s))
           (sym (get_or_append_left e.next (row ∷ []) [] s (omega (arith, before, each))))
-          (answer_kept ks row js u (play_at e s) (get_or e.next s []) met (is.answers s u before (f.1 ∙ ap Some same)))))
+          (answer_kept ks row js u (play_at e s) (get_or e.next s []) met
+          (is.answers s u before (f.1 ∙ ap Some same)))))
           (λ (past : length e.plays ≤ s).
-          let last : length e.plays ≡ s = let one = length-append e.plays (play ∷ []) in omega (arith, past, low, one) in
+          let last : length e.plays ≡ s = let one = length-append e.plays (play ∷ []) in
+          omega (arith, past, low, one) in
           let here = row_kept base (size g) ks row js met (length e.next) v next in
           let same : v ≡ u = same_Some v u (sym here ∙ ap (slice_get js) (sym is.a_play_each ∙ last) ∙ stands) in
-          subst (λ p. IsAnswerAt n g choice js u p (get_or (e.next ++ row ∷ []) s [])) (sym (get_or_push e.plays play 0 s last))
+          subst (λ p. IsAnswerAt n g choice js u p (get_or (e.next ++ row ∷ []) s []))
+          (sym (get_or_push e.plays play 0 s last))
           (subst (IsAnswerAt n g choice js u play) (sym (get_or_push e.next row [] s (sym is.a_play_each ∙ last)))
           (subst (λ w. IsAnswerAt n g choice js w play row) same answer)))
           (cases_lt s (length e.plays))
@@ -133,5 +138,6 @@ row_numbered n base arrivals g s solved v behind low items x same entry row is i
     state : IsStateVertex n base arrivals g s solved (get_or row i 0)
     state =
         subst (λ (r : List ℕ). IsStateVertex n base arrivals g s solved (get_or r i 0)) (sym is)
-        (row_behind n base arrivals g s solved x i (choice_low n base arrivals g s solved v behind low items x same entry)
+        (row_behind n base arrivals g s solved x i
+        (choice_low n base arrivals g s solved v behind low items x same entry)
         (subst (λ (r : List ℕ). i < length r) is inside))

@@ -3,7 +3,8 @@
 --   rows_joined   == a row that is met behind another one
 --   steps_none, steps_more == the steps of a state, one after the other
 --   machine_first, machine_more == the steps of the states, one state after the other
-use Rattle.std.proofs.Common.{ℕ, ◌≡◌, ◌+◌, ◌*◌, ◌/◌, ◌<◌, ◌≤◌, ⊎_elim, arith, List, [], ◌∷◌, ◌++◌, length, get_or, map, slice_get, Some}
+use Rattle.std.proofs.Common.{ℕ, ◌≡◌, ◌+◌, ◌*◌, ◌/◌, ◌<◌, ◌≤◌, ⊎_elim, arith, List, [], ◌∷◌, ◌++◌, length, get_or, map}
+use Rattle.std.proofs.Common.{slice_get, Some}
 use Rattle.std.proofs.Common.{refl, sym, ap, ◌∙◌, subst, length-append, append_assoc}
 use Rattle.std.proofs.lemmas.Bool.{cases_lt}
 use Rattle.std.proofs.lemmas.List.{get_or_append_left, get_or_push, length-map, map_push}
@@ -74,7 +75,8 @@ module _ (n base : ℕ) (arrivals : List Arrival) (g : ParityGame) (choice : Lis
         (sym (get_or_append_left xs (x ∷ []) (record { give = 0; next = 0 }) i (omega (arith, before, long)))) old)
         (λ (last : ins ≤ i).
         let here : i ≡ ins = omega (arith, last, low) in
-        subst (λ j. IsStepAt base arrivals g choice js (q * n + j) (get_or (xs ++ x ∷ []) j (record { give = 0; next = 0 })))
+        subst (λ j. IsStepAt base arrivals g choice js (q * n + j)
+        (get_or (xs ++ x ∷ []) j (record { give = 0; next = 0 })))
         (sym here)
         (subst (IsStepAt base arrivals g choice js (q * n + ins))
         (sym (get_or_push xs x (record { give = 0; next = 0 }) ins are.one_each)) newest))
@@ -99,7 +101,8 @@ module _ (n base : ℕ) (arrivals : List Arrival) (g : ParityGame) (choice : Lis
     met =
         subst (AreMet 0 (base / n) js) (sym (map_push nexts m xs))
         (met_more 0 (base / n) ks (map nexts m) is.met (nexts xs) js
-        (let long = length-map m nexts in let place = slice_get_within ks (length m) q next in omega (arith, long, place)) met);
+        (let long = length-map m nexts in let place = slice_get_within ks (length m) q next in
+        omega (arith, long, place)) met);
     steps = at;
   }
     where
@@ -108,7 +111,8 @@ module _ (n base : ℕ) (arrivals : List Arrival) (g : ParityGame) (choice : Lis
       at s p low stands =
           ⊎_elim
           (λ (before : s < length m).
-          let inside : s < length ks = let place = slice_get_within ks (length m) q next in omega (arith, before, place) in
+          let inside : s < length ks = let place = slice_get_within ks (length m) q next in
+          omega (arith, before, place) in
           let e = some_entry ks s inside in
           let same : e.0 ≡ p =
           same_Some e.0 p (sym (row_kept 0 (base / n) ks (nexts xs) js met s e.0 e.1) ∙ stands) in

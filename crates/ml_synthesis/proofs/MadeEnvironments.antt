@@ -3,7 +3,8 @@
 --   environment_fits, environment_stands == it fits, and its states stand for states with priorities
 --   environment_accepts                  == where the strategy wins for Odd, each word of it is accepted
 --   is_defeat                            == all of it
-use Rattle.std.proofs.Common.{ℕ, zero, suc, ◌≡◌, ◌+◌, ◌-◌, ◌*◌, ◌/◌, ◌%◌, ◌^◌, ◌<◌, ◌≤◌, ⊎_elim, arith, List, [], ◌∷◌, length, get_or}
+use Rattle.std.proofs.Common.{ℕ, zero, suc, ◌≡◌, ◌+◌, ◌-◌, ◌*◌, ◌/◌, ◌%◌, ◌^◌, ◌<◌, ◌≤◌, ⊎_elim, arith, List, [], ◌∷◌}
+use Rattle.std.proofs.Common.{length, get_or}
 use Rattle.std.proofs.Common.{slice_get, Some, sym, ap, ◌∙◌, subst}
 use Rattle.std.proofs.Math.Nat.{mod-lt}
 use Rattle.std.proofs.lemmas.Bool.{cases_lt}
@@ -17,7 +18,8 @@ use Rattle.ml_parity.specs.Winner.{WinsFrom}
 use Rattle.ml_trace.specs.WordAutomata.{WordLasso, IsDetAcceptedFrom}
 use Rattle.ml_determinise.specs.Numbering.{automaton_of, move_at}
 use Rattle.ml_determinise.specs.declared.moves.DetMove.{DetMove}
-use Rattle.ml_synthesis.specs.Machines.{valuation, EnvironmentTable, EnvironmentFits, EnvironmentGoes, play_at, next_at, IsEnvironmentWord}
+use Rattle.ml_synthesis.specs.Machines.{valuation, EnvironmentTable, EnvironmentFits, EnvironmentGoes, play_at, next_at}
+use Rattle.ml_synthesis.specs.Machines.{IsEnvironmentWord}
 use Rattle.ml_synthesis.specs.Synthesis.{EnvironmentStands, IsDefeat}
 use Rattle.ml_synthesis.specs.declared.arrival.Arrival.{Arrival}
 use Rattle.ml_synthesis.specs.private.Arena.{arrival_of, begun}
@@ -72,7 +74,8 @@ module _ (i o base : ℕ) (ks : List Arrival) (g : ParityGame) (s : GameSolution
 
   name_low : (t : ℕ) → t < length e.plays → name t < length moves
   name_low t low =
-      arrival_low n solved.output_sets solved.neutral moves ks g solved.are_moves solved.arena (place t - base) (arrival t)
+      arrival_low n solved.output_sets solved.neutral moves ks g solved.are_moves solved.arena (place t - base)
+      (arrival t)
       (arrival_at t low)
 
   -- the set of inputs that is played
@@ -105,7 +108,8 @@ module _ (i o base : ℕ) (ks : List Arrival) (g : ParityGame) (s : GameSolution
   row_long t low =
       let p = played t low in
       ap (λ u. length (moves_of g u)) p.choice_is
-      ∙ row_length n solved.output_sets solved.neutral moves ks g solved.are_moves solved.arena (name t) p.ins (name_low t low) p.is_set
+      ∙ row_length n solved.output_sets solved.neutral moves ks g solved.are_moves solved.arena (name t) p.ins
+      (name_low t low) p.is_set
       ∙ outs_are
 
   -- the vertex of the next state
@@ -150,7 +154,8 @@ module _ (i o base : ℕ) (ks : List Arrival) (g : ParityGame) (s : GameSolution
   follows : (t outs : ℕ) → t < length e.plays → outs < 2 ^ o
       → arrival (next_at e t outs) ≡ arrival_of (move_at moves (name t) (valuation i (play_at e t) outs))
   follows t outs low given =
-      let r = reply_at n solved.output_sets solved.neutral moves ks g solved.are_moves solved.arena (name t) (play_at e t) outs
+      let r = reply_at n solved.output_sets solved.neutral moves ks g solved.are_moves solved.arena (name t)
+      (play_at e t) outs
       (name_low t low) (plays_set t low) (let same = outs_are in omega (arith, given, same)) in
       let value : place (next_at e t outs) ≡ base + r.place =
       place_next t outs low given ∙ r.is ∙ ap (λ b. b + r.place) (sym solved.base_is) in
@@ -271,14 +276,16 @@ module _ (i o base : ℕ) (ks : List Arrival) (g : ParityGame) (s : GameSolution
         let same : letter w k ≡ letter w w.loop_start =
         ap (letter w) last
         ∙ letter_end g (automaton_of moves) n solved.output_sets (length moves) solved.neutral (length moves * n)
-        (arena_is_board n solved.output_sets solved.neutral moves ks g solved.are_moves solved.arena) w along.loops word_low in
+        (arena_is_board n solved.output_sets solved.neutral moves ks g solved.are_moves solved.arena) w along.loops
+        word_low in
         ap (λ t. name t * n + letter w k % n) state
         ∙ ap (λ l. name (met w.loop_start) * n + l % n) same
         ∙ known_inner w.loop_start along.loops
         ∙ ap (λ t. choice (place t)) (sym state))
         (cases_lt k (length w.word))
 
-    follows_choice : plays.AreMoves g (automaton_of moves) n solved.output_sets (length moves) solved.neutral (length moves * n)
+    follows_choice : plays.AreMoves g (automaton_of moves) n solved.output_sets (length moves) solved.neutral
+        (length moves * n)
         (arena_is_board n solved.output_sets solved.neutral moves ks g solved.are_moves solved.arena) w Odd choice
     follows_choice = record {
       to_known = λ k here own.
@@ -296,7 +303,8 @@ module _ (i o base : ℕ) (ks : List Arrival) (g : ParityGame) (s : GameSolution
     environment_accepts : IsDetAcceptedFrom (automaton_of moves) 0 w
     environment_accepts =
         odd_accepts g (automaton_of moves) n solved.output_sets (length moves) solved.neutral (length moves * n)
-        (arena_is_board n solved.output_sets solved.neutral moves ks g solved.are_moves solved.arena) w along.loops word_low
+        (arena_is_board n solved.output_sets solved.neutral moves ks g solved.are_moves solved.arena) w along.loops
+        word_low
         (run_closed goes w along (automaton_of moves) (length e.plays) some goes_low name first_name goes_named)
         choice follows_choice (subst (WinsFrom g Odd choice) solved.base_is wins)
 

@@ -3,7 +3,8 @@
 --   machine_fits, machine_stands == it fits, and its states stand for states of the automaton
 --   machine_right                == where the strategy wins for Even, no word of it is accepted
 --   is_made                      == all of it
-use Rattle.std.proofs.Common.{ℕ, ◌≡◌, ◌+◌, ◌*◌, ◌/◌, ◌%◌, ◌^◌, ◌<◌, ◌≤◌, arith, List, [], ◌∷◌, length, get_or, map, slice_get, Some}
+use Rattle.std.proofs.Common.{ℕ, ◌≡◌, ◌+◌, ◌*◌, ◌/◌, ◌%◌, ◌^◌, ◌<◌, ◌≤◌, arith, List, [], ◌∷◌, length, get_or, map}
+use Rattle.std.proofs.Common.{slice_get, Some}
 use Rattle.std.proofs.Common.{sym, ap, ◌∙◌, subst}
 use Rattle.std.proofs.Math.Nat.{mul-div_cancel}
 use Rattle.std.proofs.lemmas.List.{get_or_append_left, length-map}
@@ -29,7 +30,8 @@ use Rattle.ml_synthesis.proofs.WordPlays.{even_refuses, is_state, letter, reply}
 use Rattle.ml_synthesis.proofs.WordPlays as plays
 
 module _ (i o neutral : ℕ) (moves : List (List DetMove)) (ks : List Arrival) (g : ParityGame) (choice : List ℕ)
-    (are : AreMoves (2 ^ i) (2 ^ o) neutral moves) (arena : IsArena (2 ^ i) (2 ^ o) neutral moves ks g) (t : MachineTable)
+    (are : AreMoves (2 ^ i) (2 ^ o) neutral moves) (arena : IsArena (2 ^ i) (2 ^ o) neutral moves ks g)
+    (t : MachineTable)
     (is : IsMachine (2 ^ i) (length moves * 2 ^ i) ks g choice t) where
   abbrev n : ℕ
   n = 2 ^ i
@@ -74,7 +76,8 @@ module _ (i o neutral : ℕ) (moves : List (List DetMove)) (ks : List Arrival) (
 
   machine_fits : MachineFits i o t
   machine_fits = record {
-    some = let first = slice_get_within is.states 0 0 is.met.met.begins in let all = is.all in omega (arith, first, all);
+    some = let first = slice_get_within is.states 0 0 is.met.met.begins in let all = is.all in
+        omega (arith, first, all);
     a_step_each = λ s low. (steps_at s low).one_each;
     gives = gives;
     leads = leads;
@@ -86,7 +89,8 @@ module _ (i o neutral : ℕ) (moves : List (List DetMove)) (ks : List Arrival) (
   follows s ins low set =
       let x = one_step s ins low set in
       let given = gives s ins low set in
-      let r = reply_at n (2 ^ o) neutral moves ks g are arena (name s) ins (step_at t s ins).give (name_low s low) set given in
+      let r = reply_at n (2 ^ o) neutral moves ks g are arena (name s) ins (step_at t s ins).give (name_low s low) set
+      given in
       let one : base + x.comes.place ≡ base + r.place = sym x.comes.is ∙ sym x.gives.chosen ∙ r.is in
       let place : x.comes.place ≡ r.place = omega (arith, one) in
       let arrival : x.arrival ≡ r.arrival =
@@ -148,9 +152,11 @@ module _ (i o neutral : ℕ) (moves : List (List DetMove)) (ks : List Arrival) (
         let value = (one_step (at goes w along k) step.ins (at_low k (omega (arith, here))) step.is_set).gives.chosen in
         subst (λ q. reply g n q (letter w k % n) (letter w k / n) ≡ choice_at choice (q * n + letter w k % n))
         (sym (name_is k (omega (arith, here))))
-        (subst (λ a. reply g n (name (at goes w along k)) a (letter w k / n) ≡ choice_at choice (name (at goes w along k) * n + a))
+        (subst (λ a. reply g n (name (at goes w along k)) a (letter w k / n) ≡ choice_at choice
+        (name (at goes w along k) * n + a))
         (sym parts.inputs)
-        (subst (λ b. reply g n (name (at goes w along k)) step.ins b ≡ choice_at choice (name (at goes w along k) * n + step.ins))
+        (subst (λ b. reply g n (name (at goes w along k)) step.ins b ≡ choice_at choice
+        (name (at goes w along k) * n + step.ins))
         (sym parts.outputs) value))
       where
         letter_at : (k : ℕ) → k < length w.word → letter w k ≡ get_or w.word k 0

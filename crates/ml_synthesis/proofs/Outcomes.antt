@@ -56,12 +56,14 @@ module _ (i o neutral : ℕ) (moves : List (List DetMove)) (n base : ℕ) (ks : 
   module _ (limit : ℕ) (accessible : IsAccessible i o moves) where
     pub few_positions : size g ≤ limit → HasMorePositions (automaton_of moves) 0 neutral i o limit → ⊥
     few_positions few =
-        no_more_positions i o neutral moves (are_moves i o neutral moves over.automaton) (accessible_by i o moves accessible)
+        no_more_positions i o neutral moves (are_moves i o neutral moves over.automaton)
+        (accessible_by i o moves accessible)
         ks g over.arena limit few
 
     pub too_many : limit < size g → HasMorePositions (automaton_of moves) 0 neutral i o limit
     too_many more =
-        more_positions i o neutral moves (are_moves i o neutral moves over.automaton) (accessible_by i o moves accessible)
+        more_positions i o neutral moves (are_moves i o neutral moves over.automaton)
+        (accessible_by i o moves accessible)
         ks g over.arena limit more
 
   module _ (s : GameSolution) (solution : IsSolution g s) where
@@ -88,7 +90,8 @@ module _ (i o neutral : ℕ) (moves : List (List DetMove)) (n base : ℕ) (ks : 
     wins : (p : Player) → winner_at s.winner base ≡ p → WinsFrom g p (choice_at s.choice) base
     wins p is =
         solution_wins_from g
-        (arena_is_game (2 ^ i) (2 ^ o) neutral moves ks g (are_moves i o neutral moves over.automaton) over.arena) s solution p
+        (arena_is_game (2 ^ i) (2 ^ o) neutral moves ks g (are_moves i o neutral moves over.automaton) over.arena) s
+        solution p
         base base_inside is
 
     pub made : (t : MachineTable)

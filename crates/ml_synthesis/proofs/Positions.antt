@@ -1,6 +1,7 @@
 -- The positions of the game, and its vertices.
 --
---   listed, listed-apart  == the values of a function at the numbers below one; they differ where the function's values do
+--   listed, listed-apart  == the values of a function at the numbers below one; they differ where the function's values
+--                            do
 --   IsAt v x              == v is the vertex of the position x
 --   one_position, one_vertex == a vertex is of one position, and a position has one vertex
 --   reached_at            == a position that is reached has a vertex
@@ -25,7 +26,8 @@ use Rattle.ml_parity.specs.Game.{ParityGame, size}
 use Rattle.ml_trace.specs.WordAutomata.{DetAutomaton, state_behind}
 use Rattle.ml_determinise.specs.Numbering.{automaton_of}
 use Rattle.ml_determinise.specs.declared.moves.DetMove.{DetMove}
-use Rattle.ml_synthesis.specs.Game.{Position, at_state, with_inputs, Moves, by_inputs, by_outputs, IsReached, at_start, along, HasMorePositions}
+use Rattle.ml_synthesis.specs.Game.{Position, at_state, with_inputs, Moves, by_inputs, by_outputs, IsReached, at_start}
+use Rattle.ml_synthesis.specs.Game.{along, HasMorePositions}
 use Rattle.ml_synthesis.specs.Machines.{valuation}
 use Rattle.ml_synthesis.specs.declared.arrival.Arrival.{Arrival}
 use Rattle.ml_synthesis.specs.private.Arena.{AreMoves, IsArena, IsEnd, begun}
@@ -70,7 +72,8 @@ listed-apart f (suc k) one = (
 
 module _ (i o neutral : ℕ) (moves : List (List DetMove)) (are : AreMoves (2 ^ i) (2 ^ o) neutral moves)
     (accessible : (q : ℕ) → q < length moves
-    → (word : List ℕ) × ((v : ℕ) → IsMember v word → v < 2 ^ i * 2 ^ o) × (state_behind (automaton_of moves) 0 word ≡ q)) where
+    → (word : List ℕ) × ((v : ℕ) → IsMember v word → v < 2 ^ i * 2 ^ o) ×
+    (state_behind (automaton_of moves) 0 word ≡ q)) where
   abbrev d : DetAutomaton ℕ ℕ
   d = automaton_of moves
 
@@ -221,7 +224,8 @@ module _ (i o neutral : ℕ) (moves : List (List DetMove)) (are : AreMoves (2 ^ 
         by_kind (at_known r jns r_low jet is x_is) =
             let state : r ≡ q = cc in
             let set : jns ≡ ins = cc in
-            let reply = reply_at (2 ^ i) (2 ^ o) neutral moves ks g are arena q ins outs (subst (λ p. p < length moves) state r_low)
+            let reply = reply_at (2 ^ i) (2 ^ o) neutral moves ks g are arena q ins outs
+            (subst (λ p. p < length moves) state r_low)
             (subst (λ s. s < 2 ^ i) set jet) given in
             arrived reply.place reply.arrival
             (at_state (d.next q (valuation i ins outs)) (d.priority q (valuation i ins outs))) reply.stands

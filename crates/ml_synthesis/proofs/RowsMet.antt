@@ -6,7 +6,8 @@
 --   row_kept     == what has a number keeps it
 --   met_first, met_more == rows are met, one after the other
 --   met_in_order == where each state has a row, the states are numbered breadth first
-use Rattle.std.proofs.Common.{ℕ, zero, suc, ◌≡◌, ◌<◌, ◌≤◌, ◌⊎◌, inl, inr, ⊎_elim, arith, List, [], ◌∷◌, ◌++◌, length, get_or}
+use Rattle.std.proofs.Common.{ℕ, zero, suc, ◌≡◌, ◌<◌, ◌≤◌, ◌⊎◌, inl, inr, ⊎_elim, arith, List, [], ◌∷◌, ◌++◌, length}
+use Rattle.std.proofs.Common.{get_or}
 use Rattle.std.proofs.Common.{slice_get, Some, None, refl, sym, ap, ◌∙◌, subst, length-append, append_assoc}
 use Rattle.std.specs.List.{flat_map}
 use Rattle.std.proofs.lemmas.Bool.{cases_lt}
@@ -43,7 +44,8 @@ few_numbers first bound ks a =
 -- where no entry stands, the list ended
 pub none_left : (ks : List ℕ) (k : ℕ) → slice_get ks k ≡ None → length ks ≤ k
 none_left ks k none =
-    ⊎_elim (λ (here : k < length ks). let there = slice_get-get_or ks k 0 here in absurd (cc)) (λ (past : length ks ≤ k). past)
+    ⊎_elim (λ (here : k < length ks). let there = slice_get-get_or ks k 0 here in absurd (cc))
+    (λ (past : length ks ≤ k). past)
     (cases_lt k (length ks))
 
 module _ (first bound : ℕ) (ks : List ℕ) where

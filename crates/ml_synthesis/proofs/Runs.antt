@@ -6,16 +6,18 @@
 --   letter_priority, priority_letter == the priorities along a word are those at its letters
 --   times_closed, times_priority == where a word leads back, so it does several times over, with the same priorities
 --   IsOddRound            == the lowest priority along a word is odd
---   round_accepts, accepted_round == where the run along a lasso is back behind one turn, the lasso is accepted exactly if the
---                            lowest priority of this turn is odd
-use Rattle.std.proofs.Common.{ℕ, zero, suc, ◌≡◌, ◌%◌, ◌<◌, ◌≤◌, ◌⊎◌, inl, inr, arith, List, [], ◌∷◌, ◌++◌, length, take, get_or}
+--   round_accepts, accepted_round == where the run along a lasso is back behind one turn, the lasso is accepted exactly
+--                                    if the lowest priority of this turn is odd
+use Rattle.std.proofs.Common.{ℕ, zero, suc, ◌≡◌, ◌%◌, ◌<◌, ◌≤◌, ◌⊎◌, inl, inr, arith, List, [], ◌∷◌, ◌++◌, length, take}
+use Rattle.std.proofs.Common.{get_or}
 use Rattle.std.proofs.Common.{refl, sym, ap, ◌∙◌, subst}
 use Rattle.std.proofs.Math.Seq.{take-suc}
 use Rattle.std.proofs.lemmas.List.{append-nil}
 use Rattle.ml_lists.specs.Member.{IsMember}
 use Rattle.ml_lists.specs.Repeated.{repeated}
 use Rattle.ml_lists.proofs.Member.{All-member, member-All, member-append, member-append_left}
-use Rattle.ml_trace.specs.WordAutomata.{WordLasso, stem, turn, DetAutomaton, state_behind, priorities, IsLowest, IsDetAcceptedFrom}
+use Rattle.ml_trace.specs.WordAutomata.{WordLasso, stem, turn, DetAutomaton, state_behind, priorities, IsLowest}
+use Rattle.ml_trace.specs.WordAutomata.{IsDetAcceptedFrom}
 
 -- some priority is the lowest, and it is odd
 pub record IsOddRound (ps : List ℕ) : Type 0 where
@@ -120,7 +122,8 @@ module _ {S L : Type 0} (d : DetAutomaton S L) where
       is_lowest = record {
         is_one = times_priority at_loop (turn w) a.rounds a.lowest closed lowest_here.is_one;
         is_low = member-All (λ q. a.lowest ≤ q) (priorities d at_loop (turn w))
-            (λ q m. All-member (λ q. a.lowest ≤ q) (priorities d at_loop (repeated a.rounds (turn w))) lowest_here.is_low q
+            (λ q m. All-member (λ q. a.lowest ≤ q) (priorities d at_loop (repeated a.rounds (turn w)))
+            lowest_here.is_low q
             (once_priority at_loop (turn w) a.rounds q a.once m));
       };
       is_odd = a.is_odd;
@@ -133,4 +136,5 @@ module _ {S L : Type 0} (d : DetAutomaton S L) where
             ∙ a.comes
 
         lowest_here : IsLowest a.lowest (priorities d at_loop (repeated a.rounds (turn w)))
-        lowest_here = subst (λ t. IsLowest a.lowest (priorities d t (repeated a.rounds (turn w)))) (sym there) a.is_lowest
+        lowest_here = subst (λ t. IsLowest a.lowest (priorities d t (repeated a.rounds (turn w)))) (sym there)
+            a.is_lowest

@@ -18,7 +18,8 @@ use Rattle.ml_parity.specs.Game.{ParityGame}
 use Rattle.ml_determinise.specs.Numbering.{move_at}
 use Rattle.ml_determinise.specs.declared.moves.DetMove.{DetMove}
 use Rattle.ml_synthesis.specs.declared.arrival.Arrival.{Arrival}
-use Rattle.ml_synthesis.specs.private.Arena.{AreArrivals, AreMoves, AreSets, IsAnswered, IsArena, IsDraft, IsEnd, arrival_of, begun, no_vertices}
+use Rattle.ml_synthesis.specs.private.Arena.{AreArrivals, AreMoves, AreSets, IsAnswered, IsArena, IsDraft, IsEnd}
+use Rattle.ml_synthesis.specs.private.Arena.{arrival_of, begun, no_vertices}
 use Rattle.ml_synthesis.proofs.Answered.{answered_more, answered_none}
 use Rattle.ml_synthesis.proofs.Arrivals.{arrival_eq, arrival_eq-refl, arrival_eq-same}
 use Rattle.ml_synthesis.proofs.Drafts.{draft_known, draft_state, extended}
@@ -86,14 +87,16 @@ module _ (n m neutral : ℕ) (moves : List (List DetMove)) (are : AreMoves n m n
   }
   some_answers ks q ins arrivals low set (suc outs) few =
       let r = some_answers ks q ins arrivals low set outs (omega (arith, few)) in
-      let a = some_added arrival_eq arrival_eq-same arrival_eq-refl r.behind (arrival_of (move_at moves q (ins + n * outs))) in
+      let a = some_added arrival_eq arrival_eq-same arrival_eq-refl r.behind
+      (arrival_of (move_at moves q (ins + n * outs))) in
       let one : outs + 1 ≡ suc outs = omega arith in
       record {
         behind = a.behind;
         vertices = r.vertices ++ (base + a.place) ∷ [];
         is =
             subst (λ k. IsAnswered n m base neutral moves ks q ins k a.behind (r.vertices ++ (base + a.place) ∷ [])) one
-            (answered_more n m base neutral moves ks q ins outs r.behind r.vertices r.is low set (omega (arith, few)) a.behind
+            (answered_more n m base neutral moves ks q ins outs r.behind r.vertices r.is low set (omega (arith, few))
+            a.behind
             a.place a.added);
       }
 
@@ -166,8 +169,10 @@ module _ (n m neutral : ℕ) (moves : List (List DetMove)) (are : AreMoves n m n
       record {
         game = extended d.game Odd e.0.priority (range_with_len (e.0.state * n) n);
         is =
-            subst (IsDraft n m neutral moves ks (extended d.game Odd e.0.priority (range_with_len (e.0.state * n) n))) one
-            (draft_state n m neutral moves ks d.game (base + k) d.is k e.0 (range_with_len (e.0.state * n) n) refl e.1 sets);
+            subst (IsDraft n m neutral moves ks (extended d.game Odd e.0.priority (range_with_len (e.0.state * n) n)))
+            one
+            (draft_state n m neutral moves ks d.game (base + k) d.is k e.0 (range_with_len (e.0.state * n) n) refl e.1
+            sets);
       }
 
   pub record SomeArena : Type 0 where

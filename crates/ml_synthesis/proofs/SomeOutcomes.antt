@@ -6,7 +6,8 @@
 --   never_both        == no automaton has both a machine that is right and an environment that defeats all
 --   more_or_few       == more than so many positions are reached, or they aren't
 use Rattle.std.proofs.Common.{ℕ, zero, suc, ◌≡◌, ◌+◌, ◌*◌, ◌/◌, ◌%◌, ◌^◌, ◌<◌, ◌≤◌, ◌⊎◌, inl, inr, ⊎_elim, arith}
-use Rattle.std.proofs.Common.{List, [], ◌∷◌, ◌++◌, length, get_or, slice_get, Some, nat_eq, refl, sym, ap, subst, length-append}
+use Rattle.std.proofs.Common.{List, [], ◌∷◌, ◌++◌, length, get_or, slice_get, Some, nat_eq, refl, sym, ap, subst}
+use Rattle.std.proofs.Common.{length-append}
 use Rattle.std.proofs.lemmas.Bool.{cases_lt, eqb-true}
 use Rattle.std.proofs.lemmas.Cmp.{nat_eq_equiv}
 use Rattle.std.proofs.lemmas.List.{length-map, map_push}
@@ -30,11 +31,13 @@ use Rattle.ml_synthesis.specs.declared.machines.MachineStep.{MachineStep}
 use Rattle.ml_synthesis.specs.declared.outcome.Outcome.{Outcome}
 use Rattle.ml_synthesis.specs.declared.outcome.Outcome.TheVariants as outcome
 use Rattle.ml_synthesis.specs.private.Numbered.{AreNumbers, AreNumbersOf, AreStepsAt}
-use Rattle.ml_synthesis.specs.private.Numbered.{IsEnvironment, IsEnvironmentMet, IsMachine, IsMachineMet, IsRowMet, IsStepAt}
+use Rattle.ml_synthesis.specs.private.Numbered.{IsEnvironment, IsEnvironmentMet, IsMachine, IsMachineMet, IsRowMet}
+use Rattle.ml_synthesis.specs.private.Numbered.{IsStepAt}
 use Rattle.ml_synthesis.specs.private.Solved.{IsSolved}
 use Rattle.ml_synthesis.proofs.Arenas.{arena_is_game}
 use Rattle.ml_synthesis.proofs.Automata.{accessible_by, are_moves}
-use Rattle.ml_synthesis.proofs.Choices.{IsChoice, IsSetChoice, IsStateVertex, base_is_vertex, choice_at_known, choice_at_state, row_behind, state_low, states_some, vertex_low}
+use Rattle.ml_synthesis.proofs.Choices.{IsChoice, IsSetChoice, IsStateVertex, base_is_vertex, choice_at_known}
+use Rattle.ml_synthesis.proofs.Choices.{choice_at_state, row_behind, state_low, states_some, vertex_low}
 use Rattle.ml_synthesis.proofs.CommonWords.{common_word}
 use Rattle.ml_synthesis.proofs.EnvironmentSteps.{environment_first, environment_more}
 use Rattle.ml_synthesis.proofs.MachineSteps.{machine_first, machine_more, rows_joined, steps_more, steps_none}
@@ -72,7 +75,8 @@ module _ (n base : ℕ) (ks : List Arrival) (g : ParityGame) (s : GameSolution) 
           next_is = a.added.stands;
         };
         met =
-            row_more 0 (base / n) states [] states c.arrival.state a.behind a.place (row_none 0 (base / n) states numbers)
+            row_more 0 (base / n) states [] states c.arrival.state a.behind a.place
+            (row_none 0 (base / n) states numbers)
             (omega arith) (state_low n base ks g s solved c.place c.arrival c.stands) a.added;
       }
 
@@ -92,7 +96,8 @@ module _ (n base : ℕ) (ks : List Arrival) (g : ParityGame) (s : GameSolution) 
   }
   some_steps states q numbers low (suc ins) few =
       let r = some_steps states q numbers low ins (omega (arith, few)) in
-      let x = some_step r.behind (q * n + ins) r.met.numbers (vertex_low n base ks g s solved q ins low (omega (arith, few))) in
+      let x = some_step r.behind (q * n + ins) r.met.numbers
+      (vertex_low n base ks g s solved q ins low (omega (arith, few))) in
       let one : ins + 1 ≡ suc ins = omega arith in
       record {
         behind = x.behind;
@@ -112,7 +117,8 @@ module _ (n base : ℕ) (ks : List Arrival) (g : ParityGame) (s : GameSolution) 
   -- from so many states on, where so many are left at most
   abbrev MachineFrom : ℕ → Type 0
   MachineFrom fuel =
-      (states : List ℕ) (m : MachineTable) → IsMachineMet n base ks g s.choice states m → base / n ≤ length m + fuel → TheMachine
+      (states : List ℕ) (m : MachineTable) → IsMachineMet n base ks g s.choice states m → base / n ≤ length m + fuel →
+      TheMachine
 
   all_made : (states : List ℕ) (m : MachineTable)
       → IsMachineMet n base ks g s.choice states m
@@ -125,14 +131,16 @@ module _ (n base : ℕ) (ks : List Arrival) (g : ParityGame) (s : GameSolution) 
 
   one_more : (fuel : ℕ) → MachineFrom fuel → MachineFrom (suc fuel)
   one_more fuel rest states m is enough =
-      ⊎_elim (λ (here : length m < length states). further here) (λ (past : length states ≤ length m). all_made states m is past)
+      ⊎_elim (λ (here : length m < length states). further here)
+      (λ (past : length states ≤ length m). all_made states m is past)
       (cases_lt (length m) (length states))
     where
       further : length m < length states → TheMachine
       further here =
           let q = some_entry states (length m) here in
           let x = some_steps states q.0 is.met.numbers (is.met.numbers.low (length m) q.0 q.1) n (omega arith) in
-          rest x.behind (m ++ x.steps ∷ []) (machine_more n base ks g s.choice states x.behind m q.0 x.steps is q.1 x.are x.met)
+          rest x.behind (m ++ x.steps ∷ [])
+          (machine_more n base ks g s.choice states x.behind m q.0 x.steps is q.1 x.are x.met)
           (let one = length-append m (x.steps ∷ []) in omega (arith, enough, one))
 
   machine_from : (fuel : ℕ) → MachineFrom fuel
@@ -142,7 +150,8 @@ module _ (n base : ℕ) (ks : List Arrival) (g : ParityGame) (s : GameSolution) 
 
   pub some_machine : (t : MachineTable) × IsMachine n base ks g s.choice t
   some_machine =
-      machine_from (base / n) (0 ∷ []) [] (machine_first n base ks g s.choice (states_some n base ks g s solved)) (omega arith)
+      machine_from (base / n) (0 ∷ []) [] (machine_first n base ks g s.choice (states_some n base ks g s solved))
+      (omega arith)
 
   -- ---- the environment
 
@@ -165,7 +174,8 @@ module _ (n base : ℕ) (ks : List Arrival) (g : ParityGame) (s : GameSolution) 
   some_row states (x ∷ row) numbers inside =
       let a = add_number states x in
       let here = inside x (inl refl) in
-      let first = row_more base (size g) states [] states x a.behind a.place (row_none base (size g) states numbers) here.behind
+      let first = row_more base (size g) states [] states x a.behind a.place (row_none base (size g) states numbers)
+      here.behind
       here.inside a.added in
       let r = some_row a.behind row first.numbers (λ y m. inside y (inr m)) in
       record {
@@ -173,7 +183,8 @@ module _ (n base : ℕ) (ks : List Arrival) (g : ParityGame) (s : GameSolution) 
         numbers = a.place ∷ r.numbers;
         are = record {
           one_each = ap suc r.are.one_each;
-          stand = stand a.behind r.behind r.numbers a.place (row_kept base (size g) a.behind r.numbers r.behind r.met a.place x
+          stand = stand a.behind r.behind r.numbers a.place
+              (row_kept base (size g) a.behind r.numbers r.behind r.met a.place x
               a.added.stands) r.are;
         };
         met = rows_joined base (size g) states (a.place ∷ []) a.behind r.numbers r.behind first r.met;
@@ -209,7 +220,8 @@ module _ (n base : ℕ) (ks : List Arrival) (g : ParityGame) (s : GameSolution) 
   of_row : (u : ℕ) → u < base → (x : ℕ) → IsMember x (moves_of g u) → IsStateVertex n base ks g s solved x
   of_row u low x m =
       let seat = member-place x (moves_of g u) m in
-      subst (IsStateVertex n base ks g s solved) (seat.holds 0) (row_behind n base ks g s solved u seat.place low seat.below)
+      subst (IsStateVertex n base ks g s solved) (seat.holds 0)
+      (row_behind n base ks g s solved u seat.place low seat.below)
 
   one_played : (fuel : ℕ) → EnvironmentFrom fuel → EnvironmentFrom (suc fuel)
   one_played fuel rest states e is enough =
@@ -222,8 +234,12 @@ module _ (n base : ℕ) (ks : List Arrival) (g : ParityGame) (s : GameSolution) 
           let v = some_entry states (length e.next) here in
           let c : IsSetChoice n base ks g s solved v.0 = choice_at_state n base ks g s solved v.0
           (is.met.numbers.from_first (length e.next) v.0 v.1) (is.met.numbers.low (length e.next) v.0 v.1) in
-          let r = some_row states (moves_of g (choice_at s.choice v.0)) is.met.numbers (of_row (choice_at s.choice v.0) c.low) in
-          rest r.behind (record { plays = e.plays ++ (choice_at s.choice v.0 % n) ∷ []; next = e.next ++ r.numbers ∷ [] })
+          let r = some_row states (moves_of g (choice_at s.choice v.0)) is.met.numbers
+          (of_row (choice_at s.choice v.0) c.low) in
+          rest r.behind (record {
+            plays = e.plays ++ (choice_at s.choice v.0 % n) ∷ [];
+            next = e.next ++ r.numbers ∷ [];
+          })
           (environment_more n base g s.choice states r.behind e v.0 (choice_at s.choice v.0 % n) r.numbers is v.1
           (record { play_is = refl; numbers = r.are }) r.met)
           (let one = length-append e.next (r.numbers ∷ []) in omega (arith, enough, one))
@@ -251,7 +267,8 @@ some_outcome i o neutral moves automaton = by_winner (cases_player (winner_at s.
 
     is_game : IsGame arena.game
     is_game =
-        arena_is_game (2 ^ i) (2 ^ o) neutral moves arena.arrivals arena.game (are_moves i o neutral moves automaton) arena.is
+        arena_is_game (2 ^ i) (2 ^ o) neutral moves arena.arrivals arena.game (are_moves i o neutral moves automaton)
+        arena.is
 
     s : GameSolution
     s = (some_solution arena.game is_game).0
@@ -281,7 +298,8 @@ some_outcome i o neutral moves automaton = by_winner (cases_player (winner_at s.
     by_winner (inl even) =
         let t = some_machine (2 ^ i) (length moves * 2 ^ i) arena.arrivals arena.game s solved in (
           outcome.Made t.0,
-          is_made i o neutral moves arena.arrivals arena.game s.choice (are_moves i o neutral moves automaton) arena.is t.0 t.1
+          is_made i o neutral moves arena.arrivals arena.game s.choice (are_moves i o neutral moves automaton) arena.is
+              t.0 t.1
               (wins Even even),
         )
     by_winner (inr odd) =
@@ -302,7 +320,8 @@ more_or_few i o neutral moves limit automaton accessible =
     inl (more_positions i o neutral moves (are_moves i o neutral moves automaton) (accessible_by i o moves accessible)
     arena.arrivals arena.game arena.is limit more))
     (λ (few : size arena.game ≤ limit).
-    inr (no_more_positions i o neutral moves (are_moves i o neutral moves automaton) (accessible_by i o moves accessible)
+    inr (no_more_positions i o neutral moves (are_moves i o neutral moves automaton)
+    (accessible_by i o moves accessible)
     arena.arrivals arena.game arena.is limit few))
     (cases_lt limit (size arena.game))
   where

@@ -1,7 +1,8 @@
 -- Words as plays of the game over an automaton.
 --
--- A word lasso whose run is back behind one turn is a play: through a state of the automaton, its inputs, the next state, and
--- so on, and round for ever. Where the play follows a strategy that wins, it tells whether the automaton accepts the word.
+-- A word lasso whose run is back behind one turn is a play: through a state of the automaton, its inputs, the next
+-- state, and so on, and round for ever. Where the play follows a strategy that wins, it tells whether the automaton
+-- accepts the word.
 --
 --   IsState g n x q p        == x is a vertex of the state q with the priority p
 --   reply g n q ins outs     == the vertex to which the outputs lead from q with the inputs
@@ -11,7 +12,8 @@
 --   even_refuses             == where s wins for Even, the word isn't accepted
 --   odd_accepts              == where it wins for Odd, the word is
 use Rattle.std.proofs.Common.{ℕ, zero, suc, ◌≡◌, ◌+◌, ◌-◌, ◌*◌, ◌/◌, ◌%◌, ◌<◌, ◌≤◌, min, ◌⊎◌, inl, inr, ⊎_elim, arith}
-use Rattle.std.proofs.Common.{List, [], ◌∷◌, ◌++◌, length, take, get_or, refl, sym, ap, ◌∙◌, subst, length-drop, eqb, eq-eqb}
+use Rattle.std.proofs.Common.{List, [], ◌∷◌, ◌++◌, length, take, get_or, refl, sym, ap, ◌∙◌, subst, length-drop, eqb}
+use Rattle.std.proofs.Common.{eq-eqb}
 use Rattle.std.proofs.Math.Nat.{mod-add-div, mod-lt, div-lt_iff_lt-mul}
 use Rattle.std.proofs.Math.Seq.{take-length, take-add}
 use Rattle.std.proofs.lemmas.Bool.{cases_eq, cases_lt, cond-true}
@@ -23,9 +25,12 @@ use Rattle.ml_parity.specs.declared.players.Player.TheVariants.{Even, Odd}
 use Rattle.ml_parity.specs.Game.{ParityGame, HasMove, owner_of, priority_of, moves_of}
 use Rattle.ml_parity.specs.Player.{side}
 use Rattle.ml_parity.specs.Winner.{WinsFrom}
-use Rattle.ml_parity.proofs.FollowedWalks.{FollowedMove, FollowedWalk, last, before, walks_joined, won_behind, closed_walk_good, odd_is_not_even}
-use Rattle.ml_trace.specs.WordAutomata.{WordLasso, stem, turn, DetAutomaton, state_behind, priorities, IsDetAcceptedFrom}
-use Rattle.ml_synthesis.proofs.Runs.{IsOddRound, IsAtLetter, behind, behind_next, letter_priority, priority_letter, state_behind-append, at_loop, round_accepts, accepted_round}
+use Rattle.ml_parity.proofs.FollowedWalks.{FollowedMove, FollowedWalk, last, before, walks_joined, won_behind}
+use Rattle.ml_parity.proofs.FollowedWalks.{closed_walk_good, odd_is_not_even}
+use Rattle.ml_trace.specs.WordAutomata.{WordLasso, stem, turn, DetAutomaton, state_behind, priorities}
+use Rattle.ml_trace.specs.WordAutomata.{IsDetAcceptedFrom}
+use Rattle.ml_synthesis.proofs.Runs.{IsOddRound, IsAtLetter, behind, behind_next, letter_priority, priority_letter}
+use Rattle.ml_synthesis.proofs.Runs.{state_behind-append, at_loop, round_accepts, accepted_round}
 
 -- ---- the game over an automaton
 
@@ -81,7 +86,8 @@ module _ (g : ParityGame) (p : Player) (s a b pr : ℕ → ℕ) (neutral len : �
     walk =
         subst (λ k. FollowedWalk g p s (b i) k (b (suc i)))
         (ap (λ k. min k (priority_of g (a (suc i)))) (known_priority i low) ∙ ap (min neutral) (state_priority i low))
-        (before (b i) (a (suc i)) (to_state i low) (last (a (suc i)) (b (suc i)) (to_known (suc i) (omega (arith, low)))));
+        (before (b i) (a (suc i)) (to_state i low)
+        (last (a (suc i)) (b (suc i)) (to_known (suc i) (omega (arith, low)))));
     below_neutral = omega arith;
     below = λ k from to.
         let same : k ≡ i = omega (arith, from, to) in
@@ -143,7 +149,8 @@ module _ (g : ParityGame) (p : Player) (s a b pr : ℕ → ℕ) (neutral len : �
 abbrev pub letter : WordLasso ℕ → ℕ → ℕ
 letter w k = get_or (w.word ++ get_or w.word w.loop_start 0 ∷ []) k 0
 
-module _ (g : ParityGame) (d : DetAutomaton ℕ ℕ) (n m states neutral base : ℕ) (board : IsBoard g d n m states neutral base)
+module _ (g : ParityGame) (d : DetAutomaton ℕ ℕ) (n m states neutral base : ℕ)
+    (board : IsBoard g d n m states neutral base)
     (w : WordLasso ℕ) where
   -- the state before letter k, and the inputs and outputs of the letter
   abbrev pub state : ℕ → ℕ
@@ -186,7 +193,8 @@ module _ (g : ParityGame) (d : DetAutomaton ℕ ℕ) (n m states neutral base : 
     pub letter_low : (k : ℕ) → k ≤ length w.word → letter w k < n * m
     letter_low k here =
         ⊎_elim
-        (λ (inner : k < length w.word). let is = letter_is k inner in let small = low k inner in omega (arith, is, small))
+        (λ (inner : k < length w.word). let is = letter_is k inner in let small = low k inner in
+        omega (arith, is, small))
         (λ (past : length w.word ≤ k).
         let same : k ≡ length w.word = omega (arith, here, past) in
         let is = ap (letter w) same ∙ letter_end ∙ letter_is w.loop_start loops in
@@ -247,7 +255,8 @@ module _ (g : ParityGame) (d : DetAutomaton ℕ ℕ) (n m states neutral base : 
     turn_priority j here =
         let inside : w.loop_start + j < length w.word = omega (arith, here, loops, length-drop w.loop_start w.word) in
         ap (λ q. d.priority q (get_or (turn w) j 0)) (turn_state j)
-        ∙ ap (d.priority (state (w.loop_start + j))) (get_or-drop w.loop_start w.word j 0 ∙ sym (letter_is (w.loop_start + j) inside))
+        ∙ ap (d.priority (state (w.loop_start + j)))
+        (get_or-drop w.loop_start w.word j 0 ∙ sym (letter_is (w.loop_start + j) inside))
 
     abbrev of_turn : List ℕ
     of_turn = priorities d (at_loop d 0 w) (turn w)
@@ -284,7 +293,10 @@ module _ (g : ParityGame) (d : DetAutomaton ℕ ℕ) (n m states neutral base : 
           ∙ ap (λ l. state w.loop_start * n + l % n) letter_end
 
       to_known : (k : ℕ) → k ≤ length w.word → FollowedMove g p s (vertex k) (known k)
-      to_known k here = record { move = (is_state k here).sets (inputs k) (inputs_low k); chosen = moves.to_known k here }
+      to_known k here = record {
+        move = (is_state k here).sets (inputs k) (inputs_low k);
+        chosen = moves.to_known k here;
+      }
 
       to_state : (k : ℕ) → k < length w.word → FollowedMove g p s (known k) (vertex (suc k))
       to_state k here = record {
@@ -303,7 +315,8 @@ module _ (g : ParityGame) (d : DetAutomaton ℕ ℕ) (n m states neutral base : 
       the_round =
           let e : w.loop_start + suc (length w.word - suc w.loop_start) ≡ length w.word = omega (arith, loops) in
           subst (IsRound g p s known priority neutral w.loop_start) e
-          (round_from g p s vertex known priority neutral (length w.word) to_known to_state known_priority state_priority
+          (round_from g p s vertex known priority neutral (length w.word) to_known to_state known_priority
+          state_priority
           w.loop_start (length w.word - suc w.loop_start) (omega (arith, loops)))
 
       good : side the_round.lowest ≡ p
@@ -311,7 +324,8 @@ module _ (g : ParityGame) (d : DetAutomaton ℕ ℕ) (n m states neutral base : 
           closed_walk_good g p s (known w.loop_start) the_round.lowest
           (subst (FollowedWalk g p s (known w.loop_start) the_round.lowest) known_back the_round.walk)
           (won_behind g p s (vertex w.loop_start) (known w.loop_start) (to_known w.loop_start (omega (arith, loops)))
-          (won_at g p s vertex known priority neutral (length w.word) to_known to_state known_priority state_priority wins
+          (won_at g p s vertex known priority neutral (length w.word) to_known to_state known_priority state_priority
+          wins
           w.loop_start (omega (arith, loops))))
 
     module _ (closed : state_behind d (at_loop d 0 w) (turn w) ≡ at_loop d 0 w) (s : ℕ → ℕ) where
@@ -328,15 +342,18 @@ module _ (g : ParityGame) (d : DetAutomaton ℕ ℕ) (n m states neutral base : 
           met = from_turn odd.lowest odd.is_lowest.is_one
 
           least : (k : ℕ) → w.loop_start ≤ k → k < length w.word → odd.lowest ≤ priority k
-          least k later here = All-member (λ q. odd.lowest ≤ q) of_turn odd.is_lowest.is_low (priority k) (on_turn k later here)
+          least k later here = All-member (λ q. odd.lowest ≤ q) of_turn odd.is_lowest.is_low (priority k)
+              (on_turn k later here)
 
           above : odd.lowest ≤ r.lowest
           above = by_kind r.is_one
             where
-              by_kind : (r.lowest ≡ neutral) ⊎ ((k : ℕ) × (w.loop_start ≤ k) × (k < length w.word) × (r.lowest ≡ priority k))
+              by_kind : (r.lowest ≡ neutral) ⊎
+                  ((k : ℕ) × (w.loop_start ≤ k) × (k < length w.word) × (r.lowest ≡ priority k))
                   → odd.lowest ≤ r.lowest
               by_kind (inl is) =
-                  let bound = board.low (state met.place) (letter w met.place) (state_low met.place (omega (arith, met.inside)))
+                  let bound = board.low (state met.place) (letter w met.place)
+                  (state_low met.place (omega (arith, met.inside)))
                   (letter_low met.place (omega (arith, met.inside))) in
                   let value = met.is in
                   omega (arith, is, bound, value)
@@ -358,7 +375,8 @@ module _ (g : ParityGame) (d : DetAutomaton ℕ ℕ) (n m states neutral base : 
           is_odd : r.lowest % 2 ≡ 1
           is_odd = odd_side r.lowest (good closed Odd s moves wins)
 
-          by_kind : (r.lowest ≡ neutral) ⊎ ((k : ℕ) × (w.loop_start ≤ k) × (k < length w.word) × (r.lowest ≡ priority k))
+          by_kind : (r.lowest ≡ neutral) ⊎
+              ((k : ℕ) × (w.loop_start ≤ k) × (k < length w.word) × (r.lowest ≡ priority k))
               → IsOddRound of_turn
           by_kind (inl is) = let value = board.even in absurd (omega (arith, is, value, is_odd))
           by_kind (inr at) = record {

@@ -1,10 +1,10 @@
 -- The realizability game over a deterministic parity automaton.
 --
--- The automaton reads valuations, and accepts the words that are bad for a machine. Odd, who is for the environment, and
--- Even, who is for the machine, make a word together: at a state of the automaton Odd chooses a set of inputs, and then,
--- knowing it, Even chooses a set of outputs. The automaton reads the valuation and goes to its next state. The priority of
--- this move belongs to the position behind it; a position in which Even chooses has the neutral priority, which decides
--- nothing.
+-- The automaton reads valuations, and accepts the words that are bad for a machine. Odd, who is for the environment,
+-- and Even, who is for the machine, make a word together: at a state of the automaton Odd chooses a set of inputs, and
+-- then, knowing it, Even chooses a set of outputs. The automaton reads the valuation and goes to its next state. The
+-- priority of this move belongs to the position behind it; a position in which Even chooses has the neutral priority,
+-- which decides nothing.
 --
 --   Position S             == a state with the priority with which it was reached, or a state with a set of inputs
 --   Moves d i o x y        == the position y is behind x

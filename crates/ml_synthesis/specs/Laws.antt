@@ -1,8 +1,8 @@
 -- Machines and environments of one automaton.
 --
--- Where a machine and an environment have the same inputs and outputs, each can play what the other one asks for. They come
--- back to a pair of states, so they make a word lasso, and that is a word of both. So of no set of words all words of a
--- machine are outside, and all words of an environment inside. And of an automaton there is always one of the two.
+-- Where a machine and an environment have the same inputs and outputs, each can play what the other one asks for. They
+-- come back to a pair of states, so they make a word lasso, and that is a word of both. So of no set of words all words
+-- of a machine are outside, and all words of an environment inside. And of an automaton there is always one of the two.
 --
 --   CommonWord  == a machine and an environment have a word in common
 --   SomeOutcome == of an automaton there is a machine that is right, or an environment that defeats all machines

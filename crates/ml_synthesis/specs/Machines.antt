@@ -1,21 +1,22 @@
 -- Machines and environments, and the words that they make.
 --
--- There are some inputs and some outputs, each of which is on or off at each moment. A set of inputs, or of outputs, is a
--- number, whose bit j tells whether the j-th one is on; and a valuation, a set of inputs with a set of outputs, is one
--- number too: the bits of the inputs, and above them those of the outputs.
+-- There are some inputs and some outputs, each of which is on or off at each moment. A set of inputs, or of outputs, is
+-- a number, whose bit j tells whether the j-th one is on; and a valuation, a set of inputs with a set of outputs, is
+-- one number too: the bits of the inputs, and above them those of the outputs.
 --
--- A machine answers inputs: for each of its states and each set of inputs it gives a set of outputs and goes to a next state.
--- An environment moves first: each of its states plays a set of inputs, and for each set of outputs that comes back it goes
--- to a next state. (So it is a Moore machine, and a machine is a Mealy machine.) The states are numbered from 0, where
--- both begin. The words of either are those of the valuations along lassos of its states from state 0: of a machine for each
--- endless way of inputs, of an environment for each endless way of outputs.
+-- A machine answers inputs: for each of its states and each set of inputs it gives a set of outputs and goes to a next
+-- state. An environment moves first: each of its states plays a set of inputs, and for each set of outputs that comes
+-- back it goes to a next state. (So it is a Moore machine, and a machine is a Mealy machine.) The states are numbered
+-- from 0, where both begin. The words of either are those of the valuations along lassos of its states from state 0: of
+-- a machine for each endless way of inputs, of an environment for each endless way of outputs.
 --
 --   valuation i ins outs      == the valuation of these inputs, of which there are i, and outputs
 --   MachineTable              == for each state the steps, one for each set of inputs
 --   step_at m s ins           == the step of m from s with this set of inputs
 --   MachineFits i o m         == m is a machine with i inputs and o outputs
 --   MachineGoes i m s v t     == m goes from s to t, and v is the valuation on the way
---   EnvironmentTable          == for each state the set that is played, and the next states, one for each set of outputs
+--   EnvironmentTable          == for each state the set that is played, and the next states, one for each set of
+--                                outputs
 --   EnvironmentFits i o e     == e is an environment with i inputs and o outputs
 --   EnvironmentGoes i o e s v t == e goes from s to t, and v is the valuation on the way
 --   IsWordAlong goes w        == w is the word lasso of the valuations along some lasso of states from 0

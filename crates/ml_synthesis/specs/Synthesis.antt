@@ -3,14 +3,14 @@
 -- The automaton accepts the words that are bad for a machine. A machine is right if none of its words is accepted; an
 -- environment defeats all machines if each of its words is.
 --
--- Which one is made: each state of the machine stands for another state of the automaton, state 0 for state 0, and its steps
--- go along with the automaton's moves. So what a machine gives depends on the automaton's state and the set of inputs alone.
--- Each state of the environment stands for another pair of a state of the automaton and the priority with which it was
--- reached, state 0 for state 0 with the neutral one. The states of both are numbered breadth first from 0, sets ascending, so
--- that each of them is reached.
+-- Which one is made: each state of the machine stands for another state of the automaton, state 0 for state 0, and its
+-- steps go along with the automaton's moves. So what a machine gives depends on the automaton's state and the set of
+-- inputs alone. Each state of the environment stands for another pair of a state of the automaton and the priority with
+-- which it was reached, state 0 for state 0 with the neutral one. The states of both are numbered breadth first from 0,
+-- sets ascending, so that each of them is reached.
 --
---   IsAutomaton i o neutral moves  == the moves are those of an automaton over valuations; the neutral priority is even, and
---                                     none is greater
+--   IsAutomaton i o neutral moves  == the moves are those of an automaton over valuations; the neutral priority is
+--                                     even, and none is greater
 --   IsAccessible i o moves         == each state is reached from state 0
 --   IsMade i o moves m             == m is a machine made for the moves, and right
 --   IsDefeat i o neutral moves e   == e is an environment made for the moves, and defeats all machines
@@ -68,7 +68,8 @@ pub record IsMade (i o : ℕ) (moves : List (List DetMove)) (m : MachineTable) :
 
 -- ---- the environment
 
--- each state of e stands for another pair of a state and a priority, as a move has them, and e goes along with the moves
+-- each state of e stands for another pair of a state and a priority, as a move has them, and e goes along with the
+-- moves
 pub record EnvironmentStands (i o neutral : ℕ) (moves : List (List DetMove)) (e : EnvironmentTable) : Type 0 where
   pub pair : ℕ → DetMove
   pub begins : pair 0 ≡ record { priority = neutral; to = 0 }

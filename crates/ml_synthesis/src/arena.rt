@@ -13,7 +13,8 @@ use ml_determinise::DetMove;
 use ml_parity::{Game, Player};
 use std::alloc::Global;
 
-/// An automaton over valuations: its moves, how many sets of inputs there are, and of outputs, and the neutral priority.
+/// An automaton over valuations: its moves, how many sets of inputs there are, and of outputs, and the neutral
+/// priority.
 #[derive(Clone, Copy)]
 pub(crate) struct Automaton<'a> {
     pub moves: &'a [Vec<DetMove>],
@@ -33,8 +34,8 @@ impl Automaton<'_> {
     }
 }
 
-/// The game over an automaton. First come the positions with inputs, state by state; behind them, from `base` on, the states
-/// with their priorities, numbered as they are met.
+/// The game over an automaton. First come the positions with inputs, state by state; behind them, from `base` on, the
+/// states with their priorities, numbered as they are met.
 #[derive(Drop)]
 pub(crate) struct Arena {
     pub game: Game,

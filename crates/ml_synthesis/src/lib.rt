@@ -1,11 +1,12 @@
 // Machines and environments from deterministic parity automata.
 //
-// An automaton over valuations of inputs and outputs tells which endless words are bad. `synthesise` gives a machine none of
-// whose words is bad, or an environment all of whose words are, whatever a machine answers. `specs/Machines.antt` says what
-// these are and which words they make, `specs/Synthesis.antt` what is made. Never are there both: `laws::common_word`.
+// An automaton over valuations of inputs and outputs tells which endless words are bad. `synthesise` gives a machine
+// none of whose words is bad, or an environment all of whose words are, whatever a machine answers.
+// `specs/Machines.antt` says what these are and which words they make, `specs/Synthesis.antt` what is made. Never are
+// there both: `laws::common_word`.
 //
-// In between stands a parity game (`specs/Game.antt`): the environment chooses inputs, the machine outputs, and the automaton
-// reads them. It is made as an `Arena`, and its solution is read off by states.
+// In between stands a parity game (`specs/Game.antt`): the environment chooses inputs, the machine outputs, and the
+// automaton reads them. It is made as an `Arena`, and its solution is read off by states.
 //
 // Below stand `ml_determinise`, whose automata these are, and `ml_parity`, which solves the game.
 #![tactic(auto)]

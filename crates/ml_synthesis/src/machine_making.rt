@@ -3,10 +3,12 @@ ghost use Rattle.std.specs.Prelude.{◌≡◌, ◌+◌, ◌*◌, ◌/◌, ◌^�
 ghost use Rattle.ml_parity.specs.Game.{HasMove, moves_of, size};
 ghost use Rattle.ml_parity.specs.Solution.{choice_at};
 ghost use Rattle.ml_synthesis.specs.Synthesis.{nexts};
+ghost use Rattle.ml_synthesis.specs.private.Arena.{IsNumberOf};
 ghost use Rattle.ml_synthesis.specs.private.Numbered.{AreNumbers, AreStepsAt, IsChosen, IsMachine, IsRowMet, IsStepAt};
 ghost use Rattle.ml_synthesis.specs.private.Solved.{HasFewMoves, IsSolved};
 
 use crate::arena::{Arena, moves_at};
+use crate::arrival::Arrival;
 use crate::machines::{Machine, MachineStep};
 use crate::numbering::{begun, number, pending};
 use indexmap::IndexSet;
@@ -27,6 +29,25 @@ fn give(game: &Game, solution: &Solution, vertex: usize) -> u32
         .iter()
         .position(|w| *w == choice)
         .unwrap() as u32
+}
+
+/// Where the choice at a position with inputs leads.
+fn chosen(arena: &Arena, solution: &Solution, vertex: usize) -> Arrival
+    requires solved { IsSolved
+        arena.now.input_sets
+        arena.now.base
+        arena.now.arrivals.keys
+        arena.now.game
+        solution.now }
+    requires vertex { vertex < arena.now.base }
+    ensures { IsNumberOf
+        arena.now.base
+        arena.now.arrivals.keys
+        result
+        (choice_at solution.now.choice vertex) }
+{
+    let choice = solution.choice[vertex] as usize;
+    arena.arrivals.as_slice()[choice - arena.base]
 }
 
 /// The step at a position with inputs.
@@ -55,8 +76,7 @@ fn step_at(
         vertex) }
     ensures met { IfOk result (λ step. IsRowMet 0 (arena.now.base / arena.now.input_sets) states.old.keys (step.next ∷ []) states.new.keys) }
 {
-    let choice = solution.choice[vertex] as usize;
-    let arrival = arena.arrivals.as_slice()[choice - arena.base];
+    let arrival = chosen(arena, solution, vertex);
     Ok(MachineStep {
         give: give(&arena.game, solution, vertex),
         next: number(states, u64::from(arrival.state))? as u32,

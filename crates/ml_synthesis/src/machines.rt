@@ -13,8 +13,8 @@ pub struct MachineStep {
     pub next: u32,
 }
 
-/// A machine: for each state its steps, one for each set of inputs, sets ascending. It begins in state 0. Contracts see the
-/// lists of steps.
+/// A machine: for each state its steps, one for each set of inputs, sets ascending. It begins in state 0. Contracts see
+/// the lists of steps.
 #[derive(Debug, Drop)]
 pub struct Machine {
     pub steps: Vec<Vec<MachineStep>>,
@@ -42,8 +42,8 @@ impl Model for Machine {
     ghost view = { λ a. map (λ (row : Vec MachineStep). row.items) a.steps.items };
 }
 
-/// An environment: for each state the set of inputs that it plays, and its next states, one for each set of outputs, sets
-/// ascending. It begins in state 0. Contracts see the two lists.
+/// An environment: for each state the set of inputs that it plays, and its next states, one for each set of outputs,
+/// sets ascending. It begins in state 0. Contracts see the two lists.
 #[derive(Debug, Drop)]
 pub struct Environment {
     pub plays: Vec<u32>,

@@ -65,16 +65,18 @@ fn arena_over(
     Ok(arena)
 }
 
-/// A machine none of whose words a deterministic parity automaton accepts, or an environment all of whose words it accepts.
+/// A machine none of whose words a deterministic parity automaton accepts, or an environment all of whose words it
+/// accepts.
 ///
-/// `moves` are the moves of the automaton, state by state, one for each valuation: that of the set of inputs `I` and the set
-/// of outputs `O` is `I + 2^inputs * O`. It begins in state 0, each state is reached from there, and it accepts a word if the
-/// lowest priority that its run meets again and again is odd. There are at most 8 inputs and outputs together. `neutral` is
-/// even, and no priority is greater.
+/// `moves` are the moves of the automaton, state by state, one for each valuation: that of the set of inputs `I` and
+/// the set of outputs `O` is `I + 2^inputs * O`. It begins in state 0, each state is reached from there, and it accepts
+/// a word if the lowest priority that its run meets again and again is odd. There are at most 8 inputs and outputs
+/// together. `neutral` is even, and no priority is greater.
 ///
-/// Back comes the machine, or the environment, of a positional strategy in the game in which the environment chooses the inputs
-/// and the machine the outputs. A machine's states are the automaton's states that its steps reach, an environment's the states
-/// with the priorities with which it reaches them; both are numbered breadth first, sets ascending.
+/// Back comes the machine, or the environment, of a positional strategy in the game in which the environment chooses
+/// the inputs and the machine the outputs. A machine's states are the automaton's states that its steps reach, an
+/// environment's the states with the priorities with which it reaches them; both are numbered breadth first, sets
+/// ascending.
 ///
 /// # Errors
 /// `Passed` exactly where the game has more than `limit` positions: the states with the priorities with which they are

@@ -1,7 +1,8 @@
 -- The game over an automaton, as a parity game.
 --
--- There are n sets of inputs and m sets of outputs. The positions with inputs come first: the state q with the inputs ins is
--- vertex q * n + ins. Behind them, from `base` on, stand the states with their priorities, numbered as they were met.
+-- There are n sets of inputs and m sets of outputs. The positions with inputs come first: the state q with the inputs
+-- ins is vertex q * n + ins. Behind them, from `base` on, stand the states with their priorities, numbered as they were
+-- met.
 --
 --   arrival_of x             == the state to which the move x leads, with its priority
 --   IsNumberOf base ks a v   == v is the vertex of the arrival a, where ks have numbers

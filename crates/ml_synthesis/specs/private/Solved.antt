@@ -1,6 +1,7 @@
 -- The game over an automaton, and a solution of it.
 --
---   IsSolved n base ks g s == g, with the arrivals ks, is the game over some automaton with n sets of inputs, and s solves it
+--   IsSolved n base ks g s == g, with the arrivals ks, is the game over some automaton with n sets of inputs, and s
+--                             solves it
 --   IsArenaOver i o neutral moves n base ks g == g, with the arrivals ks, is the game over this automaton
 --   HasFewMoves g         == each vertex has so few moves that 8 bits tell them
 use Rattle.std.specs.Prelude.{ℕ, ◌≡◌, ◌*◌, ◌^◌, ◌≤◌, List, length}

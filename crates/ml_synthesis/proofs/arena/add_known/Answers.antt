@@ -20,7 +20,8 @@ loop-v-preserved c =
     let js = c.answers.new.arrivals.keys in
     let states = length-map a.moves.now (λ (r : Vec DetMove). r.items) in
     let base : c.args.base ≡ length rows * n = c.requires.base ∙ ap (λ q. q * n) (sym states) in
-    let answered : IsAnswered n m (length rows * n) a.neutral rows l.arrivals.keys (l.v / n) (l.v % n) m js c.in_ok-row.row.items =
+    let answered : IsAnswered n m (length rows * n) a.neutral rows l.arrivals.keys (l.v / n) (l.v % n) m js
+    c.in_ok-row.row.items =
     subst (λ b. IsAnswered n m b a.neutral rows l.arrivals.keys (l.v / n) (l.v % n) m js c.in_ok-row.row.items) base
     c.in_ok-row.ensures in
     let here : l.v < length rows * n = subst (λ b. l.v < b) base c.loop-v-test.true in
@@ -29,6 +30,8 @@ loop-v-preserved c =
     c.add.new.self.successors Even a.neutral c.in_ok-row.row c.in_ok-add.ensures.owner c.in_ok-add.ensures.priority
     c.in_ok-add.ensures.successors in (
       subst (λ g. IsDraft n m a.neutral rows js g (l.v + 1)) (sym more)
-          (draft_known n m a.neutral rows l.arrivals.keys game l.v l.invariant.0 js c.in_ok-row.row.items here answered),
-      (let few = answered.few in let so_far = l.invariant.1 in let sets = c.requires.few in omega (arith, few, so_far, sets)),
+          (draft_known n m a.neutral rows l.arrivals.keys game l.v l.invariant.0 js c.in_ok-row.row.items here
+          answered),
+      (let few = answered.few in let so_far = l.invariant.1 in let sets = c.requires.few in
+          omega (arith, few, so_far, sets)),
     )

@@ -29,13 +29,16 @@ loop-arrival-preserved c =
     let base : c.args.base ≡ length rows * n = c.requires.base ∙ ap (λ q. q * n) (sym states) in
     let game = game_of l.draft.owner l.draft.priority l.draft.successors in
     let more = grown_game l.draft.owner c.add.new.self.owner l.draft.priority c.add.new.self.priority l.draft.successors
-    c.add.new.self.successors Odd arrival.priority c.in_ok-row.row c.in_ok-add.ensures.owner c.in_ok-add.ensures.priority
+    c.add.new.self.successors Odd arrival.priority c.in_ok-row.row c.in_ok-add.ensures.owner
+    c.in_ok-add.ensures.priority
     c.in_ok-add.ensures.successors in
     let next : c.args.base + l.arrival-index + 1 ≡ c.args.base + (l.arrival-index + 1) = omega arith in
-    subst (IsDraft n a.output_sets a.neutral rows ks (game_of c.add.new.self.owner c.add.new.self.priority c.add.new.self.successors))
+    subst (IsDraft n a.output_sets a.neutral rows ks
+    (game_of c.add.new.self.owner c.add.new.self.priority c.add.new.self.successors))
     next
     (subst (λ g. IsDraft n a.output_sets a.neutral rows ks g (c.args.base + l.arrival-index + 1)) (sym more)
-    (draft_state n a.output_sets a.neutral rows ks game (c.args.base + l.arrival-index) l.invariant l.arrival-index arrival
+    (draft_state n a.output_sets a.neutral rows ks game (c.args.base + l.arrival-index) l.invariant l.arrival-index
+    arrival
     c.in_ok-row.row.items (ap (λ b. b + l.arrival-index) base) stands c.in_ok-row.ensures))
 
 pub returns : goal.returns
@@ -49,6 +52,8 @@ returns c =
     let bound = l.auto.arrival-index-end in
     let states = length-map a.moves.now (λ (r : Vec DetMove). r.items) in
     let base : c.args.base ≡ length rows * a.input_sets = c.requires.base ∙ ap (λ q. q * a.input_sets) (sym states) in
-    let all : c.args.base + l.arrival-index ≡ length rows * a.input_sets + length ks = omega (arith, keys, past, bound, base) in
-    subst (IsDraft a.input_sets a.output_sets a.neutral rows ks (game_of l.draft.owner l.draft.priority l.draft.successors)) all
+    let all : c.args.base + l.arrival-index ≡ length rows * a.input_sets + length ks = omega
+    (arith, keys, past, bound, base) in
+    subst (IsDraft a.input_sets a.output_sets a.neutral rows ks
+    (game_of l.draft.owner l.draft.priority l.draft.successors)) all
     l.invariant

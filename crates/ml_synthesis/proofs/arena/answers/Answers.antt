@@ -15,7 +15,8 @@ pub loop-outs-init : goal.loop-outs-init
 loop-outs-init c =
     let a = c.args.automaton.now in
     let ks = c.args.arrivals.now.keys in
-    subst (IsAnswered a.input_sets a.output_sets c.args.base a.neutral (rows_of a.moves.now) ks c.args.state c.args.ins 0 ks)
+    subst (IsAnswered a.input_sets a.output_sets c.args.base a.neutral (rows_of a.moves.now) ks c.args.state c.args.ins
+    0 ks)
     (sym c.in_ok-vertices.ensures.items)
     (answered_none a.input_sets a.output_sets c.args.base a.neutral (rows_of a.moves.now) ks c.args.state c.args.ins
     c.requires.arrivals)
@@ -25,7 +26,8 @@ index-end-requires c =
     let a = c.args.automaton.now in
     let low = letter_low a.input_sets a.output_sets c.args.ins c.loop-outs.outs c.requires.ins c.loop-outs-test.true in
     let long = c.requires.moves.a_move_each c.args.state
-    (let few = length-map a.moves.now (λ (r : Vec DetMove). r.items) in let state = c.requires.state in omega (arith, few, state)) in
+    (let few = length-map a.moves.now (λ (r : Vec DetMove). r.items) in let state = c.requires.state in
+    omega (arith, few, state)) in
     let read = read_length a.moves.now c.args.state c.index-automaton-state.result c.requires.state
     c.index-automaton-state.is in
     let ok = (get_or a.moves.now c.args.state c.index-automaton-state.result).ok.0 in
@@ -36,7 +38,8 @@ overflow_add-branch c =
     let few = c.loop-outs.invariant.few in
     let stands = slice_get_within c.arrival_number.new.arrivals.keys c.in_ok-arrival_number.field-0 _
     c.in_ok-arrival_number.ensures.stands in
-    let grown = (added_long c.loop-outs.arrivals.keys c.arrival_number.new.arrivals.keys _ c.in_ok-arrival_number.field-0
+    let grown = (added_long c.loop-outs.arrivals.keys c.arrival_number.new.arrivals.keys _
+    c.in_ok-arrival_number.field-0
     c.in_ok-arrival_number.ensures).1 in
     let room = c.requires.room in
     let base = c.requires.base in
@@ -54,7 +57,8 @@ loop-outs-preserved c =
     let i = c.in_ok-arrival_number.field-0 in
     let hs = c.arrival_number.new.arrivals.keys in
     let low : q < length rows =
-    let few = length-map a.moves.now (λ (r : Vec DetMove). r.items) in let state = c.requires.state in omega (arith, few, state) in
+    let few = length-map a.moves.now (λ (r : Vec DetMove). r.items) in let state = c.requires.state in
+    omega (arith, few, state) in
     let inside : ins + a.input_sets * l.outs < length (get_or a.moves.now q c.index-automaton-state.result).items =
     let letter = letter_low a.input_sets a.output_sets ins l.outs c.requires.ins c.loop-outs-test.true in
     let long = c.requires.moves.a_move_each q low in
@@ -62,7 +66,8 @@ loop-outs-preserved c =
     omega (arith, letter, long, read) in
     let move = read_move a.moves.now q c.index-automaton-state.result c.requires.state c.index-automaton-state.is
     (ins + a.input_sets * l.outs) c.index-end.result.now inside c.index-end.ensures in
-    subst (IsAnswered a.input_sets a.output_sets c.args.base a.neutral rows c.args.arrivals.now.keys q ins (l.outs + 1) hs)
+    subst (IsAnswered a.input_sets a.output_sets c.args.base a.neutral rows c.args.arrivals.now.keys q ins (l.outs + 1)
+    hs)
     (sym c.in_ok-push.ensures.items)
     (answered_more a.input_sets a.output_sets c.args.base a.neutral rows c.args.arrivals.now.keys q ins l.outs
     l.arrivals.keys l.vertices.items l.invariant low c.requires.ins c.loop-outs-test.true hs i

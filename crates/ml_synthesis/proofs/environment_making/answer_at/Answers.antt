@@ -14,7 +14,8 @@ use Rattle.ml_synthesis.proofs.environment_making.answer_at.Goals as goal
 pub moves_at-moves-requires : goal.moves_at-moves-requires
 moves_at-moves-requires c =
     let a = c.args.arena.now in
-    known_is_vertex a.input_sets a.base a.arrivals.keys a.game c.args.solution.now c.requires.solved c.index-choice.result.now
+    known_is_vertex a.input_sets a.base a.arrivals.keys a.game c.args.solution.now c.requires.solved
+    c.index-choice.result.now
     (choice_low a.input_sets a.base a.arrivals.keys a.game c.args.solution.now c.requires.solved c.args.vertex
     c.requires.is_state c.requires.is_vertex c.solution.inside.choice.items c.index-choice.result.now
     (ap (λ (s : GameSolution). s.choice) c.solution.view_is) c.index-choice.ensures)
@@ -32,13 +33,15 @@ pub overflow_cast-branch : goal.overflow_cast-branch
 overflow_cast-branch c =
     let a = c.args.arena.now in
     let l = c.loop-state in
-    let met = row_numbered a.input_sets a.base a.arrivals.keys a.game c.args.solution.now c.requires.solved c.args.vertex
+    let met = row_numbered a.input_sets a.base a.arrivals.keys a.game c.args.solution.now c.requires.solved
+    c.args.vertex
     c.requires.is_state c.requires.is_vertex c.solution.inside.choice.items c.index-choice.result.now
     (ap (λ (s : GameSolution). s.choice) c.solution.view_is) c.index-choice.ensures c.moves_at-moves.result.now
     c.moves_at-moves.ensures l.state-index c.loop-state-test.true c.args.states.now.keys l.numbers.items l.states.keys
     c.number.new.states.keys c.in_ok-number.field-0 l.invariant.1 c.in_ok-number.ensures in
     let few = few_numbers a.base (size a.game) c.number.new.states.keys met.numbers in
-    let place = slice_get_within c.number.new.states.keys c.in_ok-number.field-0 (get_or c.moves_at-moves.result.now l.state-index 0)
+    let place = slice_get_within c.number.new.states.keys c.in_ok-number.field-0
+    (get_or c.moves_at-moves.result.now l.state-index 0)
     c.in_ok-number.ensures.stands in
     let small = c.requires.small in
     omega (arith, few, place, small)
@@ -61,7 +64,8 @@ loop-state-preserved c =
           (row_numbered a.input_sets a.base a.arrivals.keys a.game c.args.solution.now c.requires.solved c.args.vertex
           c.requires.is_state c.requires.is_vertex c.solution.inside.choice.items c.index-choice.result.now
           (ap (λ (s : GameSolution). s.choice) c.solution.view_is) c.index-choice.ensures c.moves_at-moves.result.now
-          c.moves_at-moves.ensures l.state-index c.loop-state-test.true c.args.states.now.keys l.numbers.items l.states.keys
+          c.moves_at-moves.ensures l.state-index c.loop-state-test.true c.args.states.now.keys l.numbers.items
+          l.states.keys
           c.number.new.states.keys c.in_ok-number.field-0 l.invariant.1 c.in_ok-number.ensures),
     )
 

@@ -15,10 +15,12 @@ use Rattle.ml_synthesis.proofs.environment_making.environment_of.Goals as goal
 pub loop-state-init : goal.loop-state-init
 loop-state-init c =
     let a = c.args.arena.now in
-    let none : record { plays = c.new-plays.result.items; next = lists_of c.new-next.result.items } ≡ record { plays = []; next = [] } =
+    let none : record { plays = c.new-plays.result.items; next = lists_of c.new-next.result.items } ≡ record
+    { plays = []; next = [] } =
     λ i. record { plays = c.new-plays.ensures.items i; next = ap lists_of c.new-next.ensures.items i } in
     subst (IsEnvironmentMet a.input_sets a.base a.game c.args.solution.now.choice c.in_ok-states.states.keys) (sym none)
-    (subst (λ ks. IsEnvironmentMet a.input_sets a.base a.game c.args.solution.now.choice ks (record { plays = []; next = [] }))
+    (subst (λ ks. IsEnvironmentMet a.input_sets a.base a.game c.args.solution.now.choice ks
+    (record { plays = []; next = [] }))
     (sym c.in_ok-states.ensures)
     (environment_first a.input_sets a.base a.game c.args.solution.now.choice
     (base_is_vertex a.input_sets a.base a.arrivals.keys a.game c.args.solution.now c.requires.solved)))
@@ -38,13 +40,21 @@ loop-state-preserved c =
     let a = c.args.arena.now in
     let l = c.loop-state in
     let table : EnvironmentTable = record { plays = l.plays.items; next = lists_of l.next.items } in
-    let long : length (lists_of l.next.items) ≡ length l.next.items = length-map l.next.items (λ (x : Vec ℕ). x.items) in
-    let rows = ap lists_of c.in_ok-push-2.ensures.items ∙ map_push (λ (x : Vec ℕ). x.items) l.next.items c.in_ok-play.row in
+    let long : length (lists_of l.next.items) ≡ length l.next.items = length-map l.next.items
+    (λ (x : Vec ℕ). x.items) in
+    let rows = ap lists_of c.in_ok-push-2.ensures.items ∙ map_push (λ (x : Vec ℕ). x.items) l.next.items
+    c.in_ok-play.row in
     let more : record { plays = c.push.new.self.items; next = lists_of c.push-in-Some.new.self.items }
-    ≡ record { plays = l.plays.items ++ c.in_ok-play.play ∷ []; next = lists_of l.next.items ++ c.in_ok-play.row.items ∷ [] } =
+    ≡ record {
+      plays = l.plays.items ++ c.in_ok-play.play ∷ [];
+      next = lists_of l.next.items ++ c.in_ok-play.row.items ∷
+          [];
+    } =
     λ i. record { plays = c.in_ok-push.ensures.items i; next = rows i } in
-    subst (IsEnvironmentMet a.input_sets a.base a.game c.args.solution.now.choice c.answer_at.new.states.keys) (sym more)
-    (environment_more a.input_sets a.base a.game c.args.solution.now.choice l.states.keys c.answer_at.new.states.keys table
+    subst (IsEnvironmentMet a.input_sets a.base a.game c.args.solution.now.choice c.answer_at.new.states.keys)
+    (sym more)
+    (environment_more a.input_sets a.base a.game c.args.solution.now.choice l.states.keys c.answer_at.new.states.keys
+    table
     c.in-Some.state c.in_ok-play.play c.in_ok-play.row.items l.invariant
     (ap (slice_get l.states.keys) (long ∙ sym (c.len.ensures ∙ l.next.ok.0)) ∙ sym c.in-Some.ensures)
     c.in_ok-play.ensures.answer c.in_ok-play.ensures.met)

@@ -14,7 +14,8 @@ use Rattle.ml_synthesis.proofs.machine_making.machine_of.Goals as goal
 pub loop-state-init : goal.loop-state-init
 loop-state-init c =
     let a = c.args.arena.now in
-    subst (λ xs. IsMachineMet a.input_sets a.base a.arrivals.keys a.game c.args.solution.now.choice c.in_ok-states.states.keys
+    subst (λ xs. IsMachineMet a.input_sets a.base a.arrivals.keys a.game c.args.solution.now.choice
+    c.in_ok-states.states.keys
     (map (λ (row : Vec MachineStep). row.items) xs)) (sym c.new-steps.ensures.items)
     (subst (λ ks. IsMachineMet a.input_sets a.base a.arrivals.keys a.game c.args.solution.now.choice ks [])
     (sym c.in_ok-states.ensures)
@@ -37,7 +38,8 @@ loop-state-preserved c =
     let l = c.loop-state in
     let table = map (λ (row : Vec MachineStep). row.items) l.steps.items in
     let long : length table ≡ length l.steps.items = length-map l.steps.items (λ (row : Vec MachineStep). row.items) in
-    subst (IsMachineMet a.input_sets a.base a.arrivals.keys a.game c.args.solution.now.choice c.steps_of.new.states.keys)
+    subst (IsMachineMet a.input_sets a.base a.arrivals.keys a.game c.args.solution.now.choice
+    c.steps_of.new.states.keys)
     (sym (ap (map (λ (row : Vec MachineStep). row.items)) c.in_ok-push.ensures.items
     ∙ map_push (λ (row : Vec MachineStep). row.items) l.steps.items c.in_ok-steps_of.field-0))
     (machine_more a.input_sets a.base a.arrivals.keys a.game c.args.solution.now.choice l.states.keys

@@ -26,7 +26,8 @@ step_at-requires-clause-numbers c = c.loop-ins.invariant.1.numbers
 pub step_at-requires-clause-vertex : goal.step_at-requires-clause-vertex
 step_at-requires-clause-vertex c =
     let a = c.args.arena.now in
-    vertex_low a.input_sets a.base a.arrivals.keys a.game c.args.solution.now c.requires.solved c.args.state c.loop-ins.ins
+    vertex_low a.input_sets a.base a.arrivals.keys a.game c.args.solution.now c.requires.solved c.args.state
+    c.loop-ins.ins
     c.requires.state c.loop-ins-test.true
 
 pub loop-ins-preserved : goal.loop-ins-preserved
@@ -38,11 +39,14 @@ loop-ins-preserved c =
     let hs = c.step_at.new.states.keys in
     let x = c.in_ok-step_at.field-0 in
     let pushed = sym c.in_ok-push.ensures.items in (
-      subst (AreStepsAt a.input_sets a.base a.arrivals.keys a.game c.args.solution.now.choice hs c.args.state (l.ins + 1)) pushed
-          (steps_more a.input_sets a.base a.arrivals.keys a.game c.args.solution.now.choice (a.base / a.input_sets) js hs
+      subst (AreStepsAt a.input_sets a.base a.arrivals.keys a.game c.args.solution.now.choice hs c.args.state
+          (l.ins + 1)) pushed
+          (steps_more a.input_sets a.base a.arrivals.keys a.game c.args.solution.now.choice (a.base / a.input_sets) js
+          hs
           c.args.state l.ins l.row.items x l.invariant.0 c.in_ok-step_at.ensures.met c.in_ok-step_at.ensures.step),
       subst (λ xs. IsRowMet 0 (a.base / a.input_sets) ks (nexts xs) hs) pushed
-          (subst (λ row. IsRowMet 0 (a.base / a.input_sets) ks row hs) (sym (map_push (λ (y : MachineStep). y.next) l.row.items x))
+          (subst (λ row. IsRowMet 0 (a.base / a.input_sets) ks row hs)
+          (sym (map_push (λ (y : MachineStep). y.next) l.row.items x))
           (rows_joined 0 (a.base / a.input_sets) ks (nexts l.row.items) js (x.next ∷ []) hs l.invariant.1
           c.in_ok-step_at.ensures.met)),
     )

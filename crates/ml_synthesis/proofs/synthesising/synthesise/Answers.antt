@@ -21,7 +21,8 @@ returns-then-moves-limit-clause-passed c = λ e.
 pub returns-then-size-limit-clause-passed : goal.returns-then-size-limit-clause-passed
 returns-then-size-limit-clause-passed c = λ e.
     let a = c.in_ok-arena.arena in
-    too_many c.args.inputs c.args.outputs c.args.neutral (rows_of c.args.moves.now) a.input_sets a.base a.arrivals.keys a.game
+    too_many c.args.inputs c.args.outputs c.args.neutral (rows_of c.args.moves.now) a.input_sets a.base a.arrivals.keys
+    a.game
     c.in_ok-arena.ensures c.args.limit c.requires.accessible
     (let more = c.if-size-limit.true in let size = c.size.ensures.vertices in omega (arith, more, size))
 
@@ -36,7 +37,8 @@ winner-requires c =
 pub machine_of-requires-clause-solved : goal.machine_of-requires-clause-solved
 machine_of-requires-clause-solved c =
     let a = c.in_ok-arena.arena in
-    is_solved c.args.inputs c.args.outputs c.args.neutral (rows_of c.args.moves.now) a.input_sets a.base a.arrivals.keys a.game
+    is_solved c.args.inputs c.args.outputs c.args.neutral (rows_of c.args.moves.now) a.input_sets a.base a.arrivals.keys
+    a.game
     c.in_ok-arena.ensures c.in_ok-solution.solution c.in_ok-solution.ensures.ok
 
 pub machine_of-requires-clause-small : goal.machine_of-requires-clause-small
@@ -52,7 +54,8 @@ machine_of-requires-clause-few c = c.in_ok-arena.ensures.few_moves
 pub environment_of-requires-clause-solved : goal.environment_of-requires-clause-solved
 environment_of-requires-clause-solved c =
     let a = c.in_ok-arena.arena in
-    is_solved c.args.inputs c.args.outputs c.args.neutral (rows_of c.args.moves.now) a.input_sets a.base a.arrivals.keys a.game
+    is_solved c.args.inputs c.args.outputs c.args.neutral (rows_of c.args.moves.now) a.input_sets a.base a.arrivals.keys
+    a.game
     c.in_ok-arena.ensures c.in_ok-solution.solution c.in_ok-solution.ensures.ok
 
 pub environment_of-requires-clause-small : goal.environment_of-requires-clause-small
@@ -65,27 +68,31 @@ environment_of-requires-clause-small c =
 pub returns-in-Even-clause-outcome : goal.returns-in-Even-clause-outcome
 returns-in-Even-clause-outcome c =
     let a = c.in_ok-arena.arena in
-    made c.args.inputs c.args.outputs c.args.neutral (rows_of c.args.moves.now) a.input_sets a.base a.arrivals.keys a.game
+    made c.args.inputs c.args.outputs c.args.neutral (rows_of c.args.moves.now) a.input_sets a.base a.arrivals.keys
+    a.game
     c.in_ok-arena.ensures c.in_ok-solution.solution c.in_ok-solution.ensures.ok c.in_ok-machine_of-in-Even.field-0
     (sym c.winner.ensures ∙ c.in-Even.is) c.in_ok-machine_of-in-Even.ensures
 
 pub returns-in-Even-clause-not_passed : goal.returns-in-Even-clause-not_passed
 returns-in-Even-clause-not_passed c =
     let a = c.in_ok-arena.arena in
-    few_positions c.args.inputs c.args.outputs c.args.neutral (rows_of c.args.moves.now) a.input_sets a.base a.arrivals.keys
+    few_positions c.args.inputs c.args.outputs c.args.neutral (rows_of c.args.moves.now) a.input_sets a.base
+    a.arrivals.keys
     a.game c.in_ok-arena.ensures c.args.limit c.requires.accessible
     (let few = c.if-size-limit.false in let size = c.size.ensures.vertices in omega (arith, few, size))
 
 pub returns-clause-outcome : goal.returns-clause-outcome
 returns-clause-outcome c =
     let a = c.in_ok-arena.arena in
-    defeated c.args.inputs c.args.outputs c.args.neutral (rows_of c.args.moves.now) a.input_sets a.base a.arrivals.keys a.game
+    defeated c.args.inputs c.args.outputs c.args.neutral (rows_of c.args.moves.now) a.input_sets a.base a.arrivals.keys
+    a.game
     c.in_ok-arena.ensures c.in_ok-solution.solution c.in_ok-solution.ensures.ok c.in_ok-environment_of-in-Odd.field-0
     (sym c.winner.ensures ∙ c.in-Odd.is) c.in_ok-environment_of-in-Odd.ensures
 
 pub returns-clause-not_passed : goal.returns-clause-not_passed
 returns-clause-not_passed c =
     let a = c.in_ok-arena.arena in
-    few_positions c.args.inputs c.args.outputs c.args.neutral (rows_of c.args.moves.now) a.input_sets a.base a.arrivals.keys
+    few_positions c.args.inputs c.args.outputs c.args.neutral (rows_of c.args.moves.now) a.input_sets a.base
+    a.arrivals.keys
     a.game c.in_ok-arena.ensures c.args.limit c.requires.accessible
     (let few = c.if-size-limit.false in let size = c.size.ensures.vertices in omega (arith, few, size))
