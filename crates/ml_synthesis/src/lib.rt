@@ -2,8 +2,8 @@
 //
 // An automaton over valuations of inputs and outputs tells which endless words are bad. `synthesise` gives a machine
 // none of whose words is bad, or an environment all of whose words are, whatever a machine answers.
-// `specs/Machines.antt` says what these are and which words they make, `specs/Synthesis.antt` what is made. Never are
-// there both: `laws::common_word`.
+// `specs/Machines.antt` says what these are and which words they make, `specs/Synthesis.antt` what is made. There is
+// always one of the two, and never both: `laws::some_outcome`.
 //
 // In between stands a parity game (`specs/Game.antt`): the environment chooses inputs, the machine outputs, and the
 // automaton reads them. It is made as an `Arena`, and its solution is read off by states.

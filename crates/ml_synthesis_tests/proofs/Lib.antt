@@ -1,0 +1,2 @@
+-- tables of moves that are automata
+pub mod AutomatonTables
