@@ -82,8 +82,7 @@ module _ (n m base neutral : ℕ) (moves : List (List DetMove)) (ks : List Arriv
             let here : k ≡ outs = omega (arith, last, k_low) in
             let value = get_or_push vs (base + i) 0 k (is.answers.one_each ∙ sym here) in
             subst (λ j. IsNumberOf base hs (arrival_of (move_at moves q (ins + n * j)))
-            (get_or (vs ++ (base + i) ∷ []) k 0))
-            (sym here) (record { place = i; is = value; stands = added.stands }))
+            (get_or (vs ++ (base + i) ∷ []) k 0)) (sym here) (record { place = i; is = value; stands = added.stands }))
             (cases_lt k outs)
 
         from : ((more : List Arrival) × (hs ≡ js ++ more))
@@ -129,7 +128,9 @@ module _ (all : List (Vec DetMove)) (v : ℕ) (row : Vec DetMove) (low : v < len
     pub read_length : length (get_or (rows_of all) v []) ≡ length (get_or all v row).items
     read_length = ap length row_is ∙ ap (λ (moves : Vec DetMove). length moves.items) is
 
-    pub read_move : (i : ℕ) (x : DetMove) → i < length (get_or all v row).items → x ≡ get_or (get_or all v row).items i x
+    pub read_move : (i : ℕ) (x : DetMove)
+        → i < length (get_or all v row).items
+        → x ≡ get_or (get_or all v row).items i x
         → move_at (rows_of all) v i ≡ x
     read_move i x inside entry =
         ap (λ (r : List DetMove). get_or r i (record { priority = 0; to = 0 }))

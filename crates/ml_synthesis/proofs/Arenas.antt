@@ -164,8 +164,7 @@ module _ (n m neutral : ℕ) (moves : List (List DetMove)) (ks : List Arrival) (
     leads = λ q ins outs low set given.
         let r = reply_at q ins outs low set given in
         subst (λ x. IsState g n x (move_at moves q (ins + n * outs)).to (move_at moves q (ins + n * outs)).priority)
-        (sym r.is)
-        (subst (λ (a : Arrival). IsState g n (base + r.place) a.state a.priority) r.ends
+        (sym r.is) (subst (λ (a : Arrival). IsState g n (base + r.place) a.state a.priority) r.ends
         (state_is r.place r.arrival r.stands));
     stays = are.leads;
     low = are.low;
@@ -198,8 +197,9 @@ module _ (n m neutral : ℕ) (moves : List (List DetMove)) (ks : List Arrival) (
     where
       get_or_past : size g ≤ v → moves_of g v ≡ []
       get_or_past past =
-          let long : length g.successors ≤ v = let a = arena.lists in let b = arena.owners in
-          omega (arith, past, a, b) in
+          let a = arena.lists in
+          let b = arena.owners in
+          let long : length g.successors ≤ v = omega (arith, past, a, b) in
           get_or-eq_default g.successors [] long
 
       by_kind : VertexAt v → w < size g

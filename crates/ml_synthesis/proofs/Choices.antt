@@ -223,8 +223,7 @@ module _ (n base : ℕ) (ks : List Arrival) (g : ParityGame) (s : GameSolution) 
           (choice v)
       some =
           some_set n solved.output_sets solved.neutral solved.moves ks g solved.are_moves solved.arena (v - base) e.0
-          (choice v)
-          e.1 (subst (λ u. HasMove g u (choice v)) here is_move)
+          (choice v) e.1 (subst (λ u. HasMove g u (choice v)) here is_move)
 
   -- where a vertex with inputs leads, there are states
   pub record IsStateVertex (x : ℕ) : Type 0 where
@@ -241,8 +240,7 @@ module _ (n base : ℕ) (ks : List Arrival) (g : ParityGame) (s : GameSolution) 
       ∙ row_length n solved.output_sets solved.neutral solved.moves ks g solved.are_moves solved.arena (u / n) (u % n)
       q_low ins_low in
       let r = reply_at n solved.output_sets solved.neutral solved.moves ks g solved.are_moves solved.arena (u / n)
-      (u % n) i q_low
-      ins_low (omega (arith, long, here)) in
+      (u % n) i q_low ins_low (omega (arith, long, here)) in
       let value : get_or (moves_of g u) i 0 ≡ base + r.place =
       ap (λ v. get_or (moves_of g v) i 0) (sym whole) ∙ r.is ∙ ap (λ b. b + r.place) (sym solved.base_is) in
       let place = slice_get_within ks r.place r.arrival r.stands in

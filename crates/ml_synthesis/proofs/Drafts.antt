@@ -28,8 +28,7 @@ extended g who p row = record {
 
 -- what the program adds
 pub grown_game : (owner owner' : Vec Player) (priority priority' : Vec ℕ) (moves moves' : Vec (Vec ℕ)) (who : Player)
-    (p : ℕ)
-    (row : Vec ℕ)
+    (p : ℕ) (row : Vec ℕ)
     → owner'.items ≡ owner.items ++ who ∷ []
     → priority'.items ≡ priority.items ++ p ∷ []
     → moves'.items ≡ moves.items ++ row ∷ []
@@ -40,8 +39,7 @@ grown_game owner owner' priority priority' moves moves' who p row owners priorit
     λ i. record { owner = owners i; priority = priorities i; successors = rows i }
 
 module _ (g : ParityGame) (v : ℕ) (owners : size g ≡ v) (priorities : length g.priority ≡ v)
-    (lists : length g.successors ≡ v)
-    (who : Player) (p : ℕ) (row : List ℕ) where
+    (lists : length g.successors ≡ v) (who : Player) (p : ℕ) (row : List ℕ) where
   abbrev longer : ParityGame
   longer = extended g who p row
 

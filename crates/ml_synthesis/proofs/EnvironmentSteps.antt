@@ -100,8 +100,7 @@ module _ (n base : ℕ) (g : ParityGame) (choice : List ℕ) where
           let f = some_entry ks s inside in
           let same : f.0 ≡ u = same_Some f.0 u (sym (row_kept base (size g) ks row js met s f.0 f.1) ∙ stands) in
           subst (λ p. IsAnswerAt n g choice js u p (get_or (e.next ++ row ∷ []) s []))
-          (sym (get_or_append_left e.plays (play ∷ []) 0 s before))
-          (subst (IsAnswerAt n g choice js u (play_at e s))
+          (sym (get_or_append_left e.plays (play ∷ []) 0 s before)) (subst (IsAnswerAt n g choice js u (play_at e s))
           (sym (get_or_append_left e.next (row ∷ []) [] s (omega (arith, before, each))))
           (answer_kept ks row js u (play_at e s) (get_or e.next s []) met
           (is.answers s u before (f.1 ∙ ap Some same)))))
@@ -113,8 +112,7 @@ module _ (n base : ℕ) (g : ParityGame) (choice : List ℕ) where
           subst (λ p. IsAnswerAt n g choice js u p (get_or (e.next ++ row ∷ []) s []))
           (sym (get_or_push e.plays play 0 s last))
           (subst (IsAnswerAt n g choice js u play) (sym (get_or_push e.next row [] s (sym is.a_play_each ∙ last)))
-          (subst (λ w. IsAnswerAt n g choice js w play row) same answer)))
-          (cases_lt s (length e.plays))
+          (subst (λ w. IsAnswerAt n g choice js w play row) same answer))) (cases_lt s (length e.plays))
 
 -- one state more of the row behind the choice is numbered
 pub row_numbered : (n base : ℕ) (arrivals : List Arrival) (g : ParityGame) (s : GameSolution)

@@ -117,8 +117,7 @@ module _ (n base : ℕ) (arrivals : List Arrival) (g : ParityGame) (choice : Lis
           let same : e.0 ≡ p =
           same_Some e.0 p (sym (row_kept 0 (base / n) ks (nexts xs) js met s e.0 e.1) ∙ stands) in
           subst (AreStepsAt n base arrivals g choice js p n) (sym (get_or_append_left m (xs ∷ []) [] s before))
-          (steps_kept (base / n) ks (nexts xs) js p n (get_or m s []) met
-          (is.steps s p before (e.1 ∙ ap Some same))))
+          (steps_kept (base / n) ks (nexts xs) js p n (get_or m s []) met (is.steps s p before (e.1 ∙ ap Some same))))
           (λ (past : length m ≤ s).
           let last : s ≡ length m = let one = length-append m (xs ∷ []) in omega (arith, past, low, one) in
           let here = row_kept 0 (base / n) ks (nexts xs) js met (length m) q next in

@@ -75,8 +75,7 @@ module _ (i o base : ℕ) (ks : List Arrival) (g : ParityGame) (s : GameSolution
   name_low : (t : ℕ) → t < length e.plays → name t < length moves
   name_low t low =
       arrival_low n solved.output_sets solved.neutral moves ks g solved.are_moves solved.arena (place t - base)
-      (arrival t)
-      (arrival_at t low)
+      (arrival t) (arrival_at t low)
 
   -- the set of inputs that is played
   record IsPlayed (t : ℕ) : Type 0 where
@@ -155,8 +154,7 @@ module _ (i o base : ℕ) (ks : List Arrival) (g : ParityGame) (s : GameSolution
       → arrival (next_at e t outs) ≡ arrival_of (move_at moves (name t) (valuation i (play_at e t) outs))
   follows t outs low given =
       let r = reply_at n solved.output_sets solved.neutral moves ks g solved.are_moves solved.arena (name t)
-      (play_at e t) outs
-      (name_low t low) (plays_set t low) (let same = outs_are in omega (arith, given, same)) in
+      (play_at e t) outs (name_low t low) (plays_set t low) (let same = outs_are in omega (arith, given, same)) in
       let value : place (next_at e t outs) ≡ base + r.place =
       place_next t outs low given ∙ r.is ∙ ap (λ b. b + r.place) (sym solved.base_is) in
       let at_place : place (next_at e t outs) - base ≡ r.place = omega (arith, value) in

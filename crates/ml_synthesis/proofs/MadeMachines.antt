@@ -31,8 +31,7 @@ use Rattle.ml_synthesis.proofs.WordPlays as plays
 
 module _ (i o neutral : ℕ) (moves : List (List DetMove)) (ks : List Arrival) (g : ParityGame) (choice : List ℕ)
     (are : AreMoves (2 ^ i) (2 ^ o) neutral moves) (arena : IsArena (2 ^ i) (2 ^ o) neutral moves ks g)
-    (t : MachineTable)
-    (is : IsMachine (2 ^ i) (length moves * 2 ^ i) ks g choice t) where
+    (t : MachineTable) (is : IsMachine (2 ^ i) (length moves * 2 ^ i) ks g choice t) where
   abbrev n : ℕ
   n = 2 ^ i
 
@@ -153,11 +152,9 @@ module _ (i o neutral : ℕ) (moves : List (List DetMove)) (ks : List Arrival) (
         subst (λ q. reply g n q (letter w k % n) (letter w k / n) ≡ choice_at choice (q * n + letter w k % n))
         (sym (name_is k (omega (arith, here))))
         (subst (λ a. reply g n (name (at goes w along k)) a (letter w k / n) ≡ choice_at choice
-        (name (at goes w along k) * n + a))
-        (sym parts.inputs)
+        (name (at goes w along k) * n + a)) (sym parts.inputs)
         (subst (λ b. reply g n (name (at goes w along k)) step.ins b ≡ choice_at choice
-        (name (at goes w along k) * n + step.ins))
-        (sym parts.outputs) value))
+        (name (at goes w along k) * n + step.ins)) (sym parts.outputs) value))
       where
         letter_at : (k : ℕ) → k < length w.word → letter w k ≡ get_or w.word k 0
         letter_at k here = get_or_append_left w.word (get_or w.word w.loop_start 0 ∷ []) 0 k here

@@ -57,14 +57,12 @@ module _ (i o neutral : ℕ) (moves : List (List DetMove)) (n base : ℕ) (ks : 
     pub few_positions : size g ≤ limit → HasMorePositions (automaton_of moves) 0 neutral i o limit → ⊥
     few_positions few =
         no_more_positions i o neutral moves (are_moves i o neutral moves over.automaton)
-        (accessible_by i o moves accessible)
-        ks g over.arena limit few
+        (accessible_by i o moves accessible) ks g over.arena limit few
 
     pub too_many : limit < size g → HasMorePositions (automaton_of moves) 0 neutral i o limit
     too_many more =
         more_positions i o neutral moves (are_moves i o neutral moves over.automaton)
-        (accessible_by i o moves accessible)
-        ks g over.arena limit more
+        (accessible_by i o moves accessible) ks g over.arena limit more
 
   module _ (s : GameSolution) (solution : IsSolution g s) where
     base_for : base ≡ length moves * 2 ^ i
@@ -91,8 +89,7 @@ module _ (i o neutral : ℕ) (moves : List (List DetMove)) (n base : ℕ) (ks : 
     wins p is =
         solution_wins_from g
         (arena_is_game (2 ^ i) (2 ^ o) neutral moves ks g (are_moves i o neutral moves over.automaton) over.arena) s
-        solution p
-        base base_inside is
+        solution p base base_inside is
 
     pub made : (t : MachineTable)
         → winner_at s.winner base ≡ Even

@@ -225,8 +225,7 @@ module _ (i o neutral : ℕ) (moves : List (List DetMove)) (are : AreMoves (2 ^ 
             let state : r ≡ q = cc in
             let set : jns ≡ ins = cc in
             let reply = reply_at (2 ^ i) (2 ^ o) neutral moves ks g are arena q ins outs
-            (subst (λ p. p < length moves) state r_low)
-            (subst (λ s. s < 2 ^ i) set jet) given in
+            (subst (λ p. p < length moves) state r_low) (subst (λ s. s < 2 ^ i) set jet) given in
             arrived reply.place reply.arrival
             (at_state (d.next q (valuation i ins outs)) (d.priority q (valuation i ins outs))) reply.stands
             (ap (λ (a : Arrival). at_state a.state a.priority) (sym reply.ends))

@@ -1,10 +1,10 @@
 -- States that are numbered as they are met.
 --
 --   few_numbers  == different numbers below a bound are no more than the bound
---   none_left    == where no entry stands, the list ended
 --   row_none, row_more == the numbers of a row are met, one after the other
 --   row_kept     == what has a number keeps it
 --   met_first, met_more == rows are met, one after the other
+--   met_all      == where no state is left, each has its row
 --   met_in_order == where each state has a row, the states are numbered breadth first
 use Rattle.std.proofs.Common.{ℕ, zero, suc, ◌≡◌, ◌<◌, ◌≤◌, ◌⊎◌, inl, inr, ⊎_elim, arith, List, [], ◌∷◌, ◌++◌, length}
 use Rattle.std.proofs.Common.{get_or}
@@ -40,13 +40,6 @@ few_numbers first bound ks a =
         let there = slice_get-get_or ks t.second 0 (omega (arith, within)) in
         let one = a.once t.first t.second (get_or ks t.second 0) (here ∙ ap Some (t.same 0)) there in
         omega (arith, one, apart)
-
--- where no entry stands, the list ended
-pub none_left : (ks : List ℕ) (k : ℕ) → slice_get ks k ≡ None → length ks ≤ k
-none_left ks k none =
-    ⊎_elim (λ (here : k < length ks). let there = slice_get-get_or ks k 0 here in absurd (cc))
-    (λ (past : length ks ≤ k). past)
-    (cases_lt k (length ks))
 
 module _ (first bound : ℕ) (ks : List ℕ) where
   pub row_none : AreNumbers first bound ks → IsRowMet first bound ks [] ks
@@ -119,6 +112,14 @@ module _ (first bound : ℕ) (ks : List ℕ) (rows : List (List ℕ)) (met : Are
         let one = length-append rows (row ∷ []) in
         omega (arith, up, one, here);
   }
+
+  -- where no state is left behind the rows, each has its row
+  pub met_all : (k : ℕ) → k ≡ length rows → slice_get ks k ≡ None → length rows ≡ length ks
+  met_all k is none =
+      ⊎_elim
+      (λ (here : k < length ks). let there = slice_get-get_or ks k 0 here in absurd (cc))
+      (λ (past : length ks ≤ k). let within = met.within in omega (arith, is, past, within))
+      (cases_lt k (length ks))
 
   pub met_in_order : length rows ≡ length ks → AreInOrder rows
   met_in_order all =

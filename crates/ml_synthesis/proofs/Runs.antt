@@ -123,8 +123,7 @@ module _ {S L : Type 0} (d : DetAutomaton S L) where
         is_one = times_priority at_loop (turn w) a.rounds a.lowest closed lowest_here.is_one;
         is_low = member-All (λ q. a.lowest ≤ q) (priorities d at_loop (turn w))
             (λ q m. All-member (λ q. a.lowest ≤ q) (priorities d at_loop (repeated a.rounds (turn w)))
-            lowest_here.is_low q
-            (once_priority at_loop (turn w) a.rounds q a.once m));
+            lowest_here.is_low q (once_priority at_loop (turn w) a.rounds q a.once m));
       };
       is_odd = a.is_odd;
     }

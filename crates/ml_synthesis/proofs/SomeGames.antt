@@ -96,8 +96,7 @@ module _ (n m neutral : ℕ) (moves : List (List DetMove)) (are : AreMoves n m n
         is =
             subst (λ k. IsAnswered n m base neutral moves ks q ins k a.behind (r.vertices ++ (base + a.place) ∷ [])) one
             (answered_more n m base neutral moves ks q ins outs r.behind r.vertices r.is low set (omega (arith, few))
-            a.behind
-            a.place a.added);
+            a.behind a.place a.added);
       }
 
   -- ---- the states with inputs

@@ -175,8 +175,7 @@ module _ (n base : ℕ) (ks : List Arrival) (g : ParityGame) (s : GameSolution) 
       let a = add_number states x in
       let here = inside x (inl refl) in
       let first = row_more base (size g) states [] states x a.behind a.place (row_none base (size g) states numbers)
-      here.behind
-      here.inside a.added in
+      here.behind here.inside a.added in
       let r = some_row a.behind row first.numbers (λ y m. inside y (inr m)) in
       record {
         behind = r.behind;
@@ -299,8 +298,7 @@ some_outcome i o neutral moves automaton = by_winner (cases_player (winner_at s.
         let t = some_machine (2 ^ i) (length moves * 2 ^ i) arena.arrivals arena.game s solved in (
           outcome.Made t.0,
           is_made i o neutral moves arena.arrivals arena.game s.choice (are_moves i o neutral moves automaton) arena.is
-              t.0 t.1
-              (wins Even even),
+              t.0 t.1 (wins Even even),
         )
     by_winner (inr odd) =
         let e = some_environment (2 ^ i) (length moves * 2 ^ i) arena.arrivals arena.game s solved in (
@@ -321,8 +319,7 @@ more_or_few i o neutral moves limit automaton accessible =
     arena.arrivals arena.game arena.is limit more))
     (λ (few : size arena.game ≤ limit).
     inr (no_more_positions i o neutral moves (are_moves i o neutral moves automaton)
-    (accessible_by i o moves accessible)
-    arena.arrivals arena.game arena.is limit few))
+    (accessible_by i o moves accessible) arena.arrivals arena.game arena.is limit few))
     (cases_lt limit (size arena.game))
   where
     arena : SomeArena (2 ^ i) (2 ^ o) neutral moves (are_moves i o neutral moves automaton)

@@ -55,16 +55,6 @@ pub record IsBoard (g : ParityGame) (d : DetAutomaton ℕ ℕ) (n m states neutr
   pub low : (q v : ℕ) → q < states → v < n * m → d.priority q v ≤ neutral
   pub even : neutral % 2 ≡ 0
 
-odd_side : (k : ℕ) → side k ≡ Odd → k % 2 ≡ 1
-odd_side k is =
-    ⊎_elim
-    (λ (even : k % 2 ≡ 0).
-    let other : side k ≡ Even = cond-true (eqb (k % 2) 0) Even Odd (eq-eqb (k % 2) 0 even) in
-    let wrong : Even ≡ Odd = sym other ∙ is in
-    absurd (cc))
-    (λ (other : k % 2 ≡ 0 → ⊥). omega (arith, other))
-    (cases_eq (k % 2) 0)
-
 -- ---- rounds that follow a strategy
 
 -- the lowest priority on the way from place i to place j: the neutral one, or that of a letter
@@ -316,8 +306,7 @@ module _ (g : ParityGame) (d : DetAutomaton ℕ ℕ) (n m states neutral base : 
           let e : w.loop_start + suc (length w.word - suc w.loop_start) ≡ length w.word = omega (arith, loops) in
           subst (IsRound g p s known priority neutral w.loop_start) e
           (round_from g p s vertex known priority neutral (length w.word) to_known to_state known_priority
-          state_priority
-          w.loop_start (length w.word - suc w.loop_start) (omega (arith, loops)))
+          state_priority w.loop_start (length w.word - suc w.loop_start) (omega (arith, loops)))
 
       good : side the_round.lowest ≡ p
       good =
@@ -325,8 +314,7 @@ module _ (g : ParityGame) (d : DetAutomaton ℕ ℕ) (n m states neutral base : 
           (subst (FollowedWalk g p s (known w.loop_start) the_round.lowest) known_back the_round.walk)
           (won_behind g p s (vertex w.loop_start) (known w.loop_start) (to_known w.loop_start (omega (arith, loops)))
           (won_at g p s vertex known priority neutral (length w.word) to_known to_state known_priority state_priority
-          wins
-          w.loop_start (omega (arith, loops))))
+          wins w.loop_start (omega (arith, loops))))
 
     module _ (closed : state_behind d (at_loop d 0 w) (turn w) ≡ at_loop d 0 w) (s : ℕ → ℕ) where
       pub even_refuses : AreMoves Even s → WinsFrom g Even s base → IsDetAcceptedFrom d 0 w → ⊥
@@ -373,7 +361,15 @@ module _ (g : ParityGame) (d : DetAutomaton ℕ ℕ) (n m states neutral base : 
           r = the_round closed Odd s moves wins
 
           is_odd : r.lowest % 2 ≡ 1
-          is_odd = odd_side r.lowest (good closed Odd s moves wins)
+          is_odd =
+              ⊎_elim
+              (λ (even : r.lowest % 2 ≡ 0).
+              let other : side r.lowest ≡ Even =
+              cond-true (eqb (r.lowest % 2) 0) Even Odd (eq-eqb (r.lowest % 2) 0 even) in
+              let wrong : Even ≡ Odd = sym other ∙ good closed Odd s moves wins in
+              absurd (cc))
+              (λ (other : r.lowest % 2 ≡ 0 → ⊥). omega (arith, other))
+              (cases_eq (r.lowest % 2) 0)
 
           by_kind : (r.lowest ≡ neutral) ⊎
               ((k : ℕ) × (w.loop_start ≤ k) × (k < length w.word) × (r.lowest ≡ priority k))

@@ -3,7 +3,8 @@ ghost use Rattle.std.specs.Prelude.{◌≡◌, ◌+◌, ◌*◌, ◌/◌, ◌%�
 ghost use Rattle.ml_parity.specs.Game.{IsGame, moves_of, size};
 ghost use Rattle.ml_parity.specs.Refusal.{game_of};
 ghost use Rattle.ml_determinise.specs.Numbering.{rows_of};
-ghost use Rattle.ml_synthesis.specs.private.Arena.{AreMoves, AreArrivals, AreSets, IsAnswered, IsArena, IsDraft, begun, no_vertices};
+ghost use Rattle.ml_synthesis.specs.private.Arena.{AreMoves, AreArrivals, AreSets, IsAnswered, IsArena, IsDraft};
+ghost use Rattle.ml_synthesis.specs.private.Arena.{begun, no_vertices};
 
 use crate::arrival::Arrival;
 use crate::numbering::arrival_number;

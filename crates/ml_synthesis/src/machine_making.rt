@@ -74,7 +74,12 @@ fn step_at(
         solution.now.choice
         states.new.keys
         vertex) }
-    ensures met { IfOk result (λ step. IsRowMet 0 (arena.now.base / arena.now.input_sets) states.old.keys (step.next ∷ []) states.new.keys) }
+    ensures met { IfOk result (λ step. IsRowMet
+        0
+        (arena.now.base / arena.now.input_sets)
+        states.old.keys
+        (step.next ∷ [])
+        states.new.keys) }
 {
     let arrival = chosen(arena, solution, vertex);
     Ok(MachineStep {
@@ -111,7 +116,12 @@ fn steps_of(
         state
         arena.now.input_sets
         row.items) }
-    ensures met { IfOk result (λ row. IsRowMet 0 (arena.now.base / arena.now.input_sets) states.old.keys (nexts row.items) states.new.keys) }
+    ensures met { IfOk result (λ row. IsRowMet
+        0
+        (arena.now.base / arena.now.input_sets)
+        states.old.keys
+        (nexts row.items)
+        states.new.keys) }
 {
     let first = state as usize * arena.input_sets as usize;
     let mut row = Vec::with_capacity(alloc, arena.input_sets as usize)?;

@@ -96,7 +96,8 @@ pub fn synthesise(
     requires automaton { IsAutomaton inputs outputs neutral (rows_of moves.now) }
     requires accessible { IsAccessible inputs outputs (rows_of moves.now) }
     ensures outcome { IfOk result (IsOutcome inputs outputs neutral (rows_of moves.now)) }
-    ensures not_passed { OnOk result (¬ (HasMorePositions (automaton_of (rows_of moves.now)) 0 neutral inputs outputs limit)) }
+    ensures not_passed { OnOk result
+        (¬ (HasMorePositions (automaton_of (rows_of moves.now)) 0 neutral inputs outputs limit)) }
     ensures passed { IsErrOf result refusal.Passed
         → HasMorePositions (automaton_of (rows_of moves.now)) 0 neutral inputs outputs limit }
 {

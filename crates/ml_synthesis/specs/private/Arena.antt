@@ -14,7 +14,8 @@
 --   IsKnownAt, IsStateAt     == what a vertex is
 --   IsDraft                  == so many vertices are what they should be
 --   IsArena                  == all are
-use Rattle.std.specs.Prelude.{ℕ, ◌≡◌, ◌+◌, ◌*◌, ◌/◌, ◌%◌, ◌<◌, ◌≤◌, ◌⊎◌, List, [], ◌++◌, length, get_or, slice_get, Some}
+use Rattle.std.specs.Prelude.{ℕ, ◌≡◌, ◌+◌, ◌*◌, ◌/◌, ◌%◌, ◌<◌, ◌≤◌, ◌⊎◌, List, [], ◌++◌, length, get_or, slice_get}
+use Rattle.std.specs.Prelude.{Some}
 use Rattle.ml_lists.specs.Added.{HasOnePlace}
 use Rattle.ml_parity.specs.declared.players.Player.TheVariants.{Even, Odd}
 use Rattle.ml_parity.specs.Game.{ParityGame, owner_of, priority_of, moves_of, size}

@@ -9,7 +9,8 @@
 --   AreNumbersOf ks row ns   == ns are the numbers of the states of a row
 --   IsAnswerAt               == what an environment plays at a vertex, and its next states
 --   IsEnvironmentMet, IsEnvironment == so it was done for the first states, or for all
-use Rattle.std.specs.Prelude.{ℕ, ◌≡◌, ◌+◌, ◌*◌, ◌/◌, ◌%◌, ◌<◌, ◌≤◌, List, [], ◌∷◌, ◌++◌, length, get_or, map, slice_get, Some}
+use Rattle.std.specs.Prelude.{ℕ, ◌≡◌, ◌+◌, ◌*◌, ◌/◌, ◌%◌, ◌<◌, ◌≤◌, List, [], ◌∷◌, ◌++◌, length, get_or, map}
+use Rattle.std.specs.Prelude.{slice_get, Some}
 use Rattle.std.specs.List.{flat_map}
 use Rattle.ml_lists.specs.Added.{HasOnePlace}
 use Rattle.ml_lists.specs.InTurn.{RunsOn}

@@ -7,6 +7,5 @@ use Rattle.ml_synthesis.proofs.arena.add_known.Given as goal
 abbrev pub invariant-loop-v : goal.invariant-loop-v
 invariant-loop-v l =
     IsDraft l.automaton.input_sets l.automaton.output_sets l.automaton.neutral (rows_of l.automaton.moves.now)
-    l.arrivals.keys
-    (game_of l.draft.owner l.draft.priority l.draft.successors) l.v
+    l.arrivals.keys (game_of l.draft.owner l.draft.priority l.draft.successors) l.v
     × (length l.arrivals.keys ≤ 256 * l.v + 1)

@@ -30,16 +30,13 @@ loop-arrival-preserved c =
     let game = game_of l.draft.owner l.draft.priority l.draft.successors in
     let more = grown_game l.draft.owner c.add.new.self.owner l.draft.priority c.add.new.self.priority l.draft.successors
     c.add.new.self.successors Odd arrival.priority c.in_ok-row.row c.in_ok-add.ensures.owner
-    c.in_ok-add.ensures.priority
-    c.in_ok-add.ensures.successors in
+    c.in_ok-add.ensures.priority c.in_ok-add.ensures.successors in
     let next : c.args.base + l.arrival-index + 1 ≡ c.args.base + (l.arrival-index + 1) = omega arith in
     subst (IsDraft n a.output_sets a.neutral rows ks
     (game_of c.add.new.self.owner c.add.new.self.priority c.add.new.self.successors))
-    next
-    (subst (λ g. IsDraft n a.output_sets a.neutral rows ks g (c.args.base + l.arrival-index + 1)) (sym more)
+    next (subst (λ g. IsDraft n a.output_sets a.neutral rows ks g (c.args.base + l.arrival-index + 1)) (sym more)
     (draft_state n a.output_sets a.neutral rows ks game (c.args.base + l.arrival-index) l.invariant l.arrival-index
-    arrival
-    c.in_ok-row.row.items (ap (λ b. b + l.arrival-index) base) stands c.in_ok-row.ensures))
+    arrival c.in_ok-row.row.items (ap (λ b. b + l.arrival-index) base) stands c.in_ok-row.ensures))
 
 pub returns : goal.returns
 returns c =

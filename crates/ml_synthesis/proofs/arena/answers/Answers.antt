@@ -1,5 +1,5 @@
 -- The moves from the state are read, and their ends are met.
-use Rattle.std.proofs.Common.{◌+◌, ◌*◌, ◌<◌, length, get_or, sym, subst, arith}
+use Rattle.std.proofs.Common.{◌≡◌, ◌+◌, ◌*◌, ◌<◌, ◌++◌, ◌∷◌, [], length, get_or, sym, subst, arith}
 use Rattle.std.specs.Global.{Vec}
 use Rattle.std.proofs.lemmas.List.{length-map}
 use Rattle.std.proofs.lemmas.Option.{slice_get_within}
@@ -16,8 +16,7 @@ loop-outs-init c =
     let a = c.args.automaton.now in
     let ks = c.args.arrivals.now.keys in
     subst (IsAnswered a.input_sets a.output_sets c.args.base a.neutral (rows_of a.moves.now) ks c.args.state c.args.ins
-    0 ks)
-    (sym c.in_ok-vertices.ensures.items)
+    0 ks) (sym c.in_ok-vertices.ensures.items)
     (answered_none a.input_sets a.output_sets c.args.base a.neutral (rows_of a.moves.now) ks c.args.state c.args.ins
     c.requires.arrivals)
 
@@ -39,8 +38,7 @@ overflow_add-branch c =
     let stands = slice_get_within c.arrival_number.new.arrivals.keys c.in_ok-arrival_number.field-0 _
     c.in_ok-arrival_number.ensures.stands in
     let grown = (added_long c.loop-outs.arrivals.keys c.arrival_number.new.arrivals.keys _
-    c.in_ok-arrival_number.field-0
-    c.in_ok-arrival_number.ensures).1 in
+    c.in_ok-arrival_number.field-0 c.in_ok-arrival_number.ensures).1 in
     let room = c.requires.room in
     let base = c.requires.base in
     let sets = c.requires.few in
@@ -57,7 +55,8 @@ loop-outs-preserved c =
     let i = c.in_ok-arrival_number.field-0 in
     let hs = c.arrival_number.new.arrivals.keys in
     let low : q < length rows =
-    let few = length-map a.moves.now (λ (r : Vec DetMove). r.items) in let state = c.requires.state in
+    let few = length-map a.moves.now (λ (r : Vec DetMove). r.items) in
+    let state = c.requires.state in
     omega (arith, few, state) in
     let inside : ins + a.input_sets * l.outs < length (get_or a.moves.now q c.index-automaton-state.result).items =
     let letter = letter_low a.input_sets a.output_sets ins l.outs c.requires.ins c.loop-outs-test.true in
@@ -66,9 +65,9 @@ loop-outs-preserved c =
     omega (arith, letter, long, read) in
     let move = read_move a.moves.now q c.index-automaton-state.result c.requires.state c.index-automaton-state.is
     (ins + a.input_sets * l.outs) c.index-end.result.now inside c.index-end.ensures in
+    let pushed : c.push.new.self.items ≡ l.vertices.items ++ (c.args.base + i) ∷ [] = c.in_ok-push.ensures.items in
     subst (IsAnswered a.input_sets a.output_sets c.args.base a.neutral rows c.args.arrivals.now.keys q ins (l.outs + 1)
-    hs)
-    (sym c.in_ok-push.ensures.items)
+    hs) (sym pushed)
     (answered_more a.input_sets a.output_sets c.args.base a.neutral rows c.args.arrivals.now.keys q ins l.outs
     l.arrivals.keys l.vertices.items l.invariant low c.requires.ins c.loop-outs-test.true hs i
     (subst (λ (x : DetMove). IsAdded l.arrivals.keys (arrival_of x) hs i) (sym move) c.in_ok-arrival_number.ensures))

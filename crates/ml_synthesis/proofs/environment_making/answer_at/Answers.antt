@@ -34,8 +34,7 @@ overflow_cast-branch c =
     let a = c.args.arena.now in
     let l = c.loop-state in
     let met = row_numbered a.input_sets a.base a.arrivals.keys a.game c.args.solution.now c.requires.solved
-    c.args.vertex
-    c.requires.is_state c.requires.is_vertex c.solution.inside.choice.items c.index-choice.result.now
+    c.args.vertex c.requires.is_state c.requires.is_vertex c.solution.inside.choice.items c.index-choice.result.now
     (ap (λ (s : GameSolution). s.choice) c.solution.view_is) c.index-choice.ensures c.moves_at-moves.result.now
     c.moves_at-moves.ensures l.state-index c.loop-state-test.true c.args.states.now.keys l.numbers.items l.states.keys
     c.number.new.states.keys c.in_ok-number.field-0 l.invariant.1 c.in_ok-number.ensures in
@@ -52,7 +51,9 @@ loop-state-preserved c =
     let l = c.loop-state in
     let row = c.moves_at-moves.result.now in
     let hs = c.number.new.states.keys in
-    let pushed = sym c.in_ok-push.ensures.items in
+    let grown : c.push.new.self.items ≡ l.numbers.items ++ c.in_ok-number.field-0 ∷ [] =
+    c.in_ok-push.ensures.items in
+    let pushed = sym grown in
     let one : l.state-index + 1 ≡ suc l.state-index = omega arith in
     let longer : take (l.state-index + 1) row ≡ take l.state-index row ++ get_or row l.state-index 0 ∷ [] =
     ap (λ k. take k row) one ∙ take-suc row l.state-index 0 c.loop-state-test.true in (
@@ -65,8 +66,7 @@ loop-state-preserved c =
           c.requires.is_state c.requires.is_vertex c.solution.inside.choice.items c.index-choice.result.now
           (ap (λ (s : GameSolution). s.choice) c.solution.view_is) c.index-choice.ensures c.moves_at-moves.result.now
           c.moves_at-moves.ensures l.state-index c.loop-state-test.true c.args.states.now.keys l.numbers.items
-          l.states.keys
-          c.number.new.states.keys c.in_ok-number.field-0 l.invariant.1 c.in_ok-number.ensures),
+          l.states.keys c.number.new.states.keys c.in_ok-number.field-0 l.invariant.1 c.in_ok-number.ensures),
     )
 
 pub returns-clause-answer : goal.returns-clause-answer

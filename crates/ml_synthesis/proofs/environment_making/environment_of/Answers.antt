@@ -9,7 +9,7 @@ use Rattle.ml_synthesis.specs.Machines.{EnvironmentTable}
 use Rattle.ml_synthesis.specs.private.Numbered.{IsEnvironmentMet}
 use Rattle.ml_synthesis.proofs.Choices.{base_is_vertex}
 use Rattle.ml_synthesis.proofs.EnvironmentSteps.{environment_first, environment_more}
-use Rattle.ml_synthesis.proofs.RowsMet.{few_numbers, none_left}
+use Rattle.ml_synthesis.proofs.RowsMet.{few_numbers, met_all}
 use Rattle.ml_synthesis.proofs.environment_making.environment_of.Goals as goal
 
 pub loop-state-init : goal.loop-state-init
@@ -20,8 +20,7 @@ loop-state-init c =
     λ i. record { plays = c.new-plays.ensures.items i; next = ap lists_of c.new-next.ensures.items i } in
     subst (IsEnvironmentMet a.input_sets a.base a.game c.args.solution.now.choice c.in_ok-states.states.keys) (sym none)
     (subst (λ ks. IsEnvironmentMet a.input_sets a.base a.game c.args.solution.now.choice ks
-    (record { plays = []; next = [] }))
-    (sym c.in_ok-states.ensures)
+    (record { plays = []; next = [] })) (sym c.in_ok-states.ensures)
     (environment_first a.input_sets a.base a.game c.args.solution.now.choice
     (base_is_vertex a.input_sets a.base a.arrivals.keys a.game c.args.solution.now c.requires.solved)))
 
@@ -54,8 +53,7 @@ loop-state-preserved c =
     subst (IsEnvironmentMet a.input_sets a.base a.game c.args.solution.now.choice c.answer_at.new.states.keys)
     (sym more)
     (environment_more a.input_sets a.base a.game c.args.solution.now.choice l.states.keys c.answer_at.new.states.keys
-    table
-    c.in-Some.state c.in_ok-play.play c.in_ok-play.row.items l.invariant
+    table c.in-Some.state c.in_ok-play.play c.in_ok-play.row.items l.invariant
     (ap (slice_get l.states.keys) (long ∙ sym (c.len.ensures ∙ l.next.ok.0)) ∙ sym c.in-Some.ensures)
     c.in_ok-play.ensures.answer c.in_ok-play.ensures.met)
 
@@ -76,10 +74,14 @@ answer_at-requires-clause-numbers c = c.loop-state.invariant.met.numbers
 
 pub returns : goal.returns
 returns c =
+    let a = c.args.arena.now in
     let l = c.loop-state in
     let rows = length-map l.next.items (λ (x : Vec ℕ). x.items) in
-    let past = none_left l.states.keys c.len.result (sym c.in_default.ensures) in
-    let within = l.invariant.met.within in
-    let each = l.invariant.a_play_each in
-    let count = c.len.ensures ∙ l.next.ok.0 in
-    record { states = l.states.keys; met = l.invariant; all = omega (arith, rows, past, within, each, count) }
+    record {
+      states = l.states.keys;
+      met = l.invariant;
+      all =
+          l.invariant.a_play_each
+          ∙ met_all a.base (size a.game) l.states.keys (lists_of l.next.items) l.invariant.met c.len.result
+          (c.len.ensures ∙ l.next.ok.0 ∙ sym rows) (sym c.in_default.ensures);
+    }

@@ -8,18 +8,16 @@ use Rattle.ml_synthesis.specs.declared.machines.MachineStep.{MachineStep}
 use Rattle.ml_synthesis.specs.private.Numbered.{IsMachineMet}
 use Rattle.ml_synthesis.proofs.Choices.{states_some}
 use Rattle.ml_synthesis.proofs.MachineSteps.{machine_first, machine_more}
-use Rattle.ml_synthesis.proofs.RowsMet.{few_numbers, none_left}
+use Rattle.ml_synthesis.proofs.RowsMet.{few_numbers, met_all}
 use Rattle.ml_synthesis.proofs.machine_making.machine_of.Goals as goal
 
 pub loop-state-init : goal.loop-state-init
 loop-state-init c =
     let a = c.args.arena.now in
     subst (λ xs. IsMachineMet a.input_sets a.base a.arrivals.keys a.game c.args.solution.now.choice
-    c.in_ok-states.states.keys
-    (map (λ (row : Vec MachineStep). row.items) xs)) (sym c.new-steps.ensures.items)
+    c.in_ok-states.states.keys (map (λ (row : Vec MachineStep). row.items) xs)) (sym c.new-steps.ensures.items)
     (subst (λ ks. IsMachineMet a.input_sets a.base a.arrivals.keys a.game c.args.solution.now.choice ks [])
-    (sym c.in_ok-states.ensures)
-    (machine_first a.input_sets a.base a.arrivals.keys a.game c.args.solution.now.choice
+    (sym c.in_ok-states.ensures) (machine_first a.input_sets a.base a.arrivals.keys a.game c.args.solution.now.choice
     (states_some a.input_sets a.base a.arrivals.keys a.game c.args.solution.now c.requires.solved)))
 
 pub loop-state-smaller : goal.loop-state-smaller
@@ -39,8 +37,7 @@ loop-state-preserved c =
     let table = map (λ (row : Vec MachineStep). row.items) l.steps.items in
     let long : length table ≡ length l.steps.items = length-map l.steps.items (λ (row : Vec MachineStep). row.items) in
     subst (IsMachineMet a.input_sets a.base a.arrivals.keys a.game c.args.solution.now.choice
-    c.steps_of.new.states.keys)
-    (sym (ap (map (λ (row : Vec MachineStep). row.items)) c.in_ok-push.ensures.items
+    c.steps_of.new.states.keys) (sym (ap (map (λ (row : Vec MachineStep). row.items)) c.in_ok-push.ensures.items
     ∙ map_push (λ (row : Vec MachineStep). row.items) l.steps.items c.in_ok-steps_of.field-0))
     (machine_more a.input_sets a.base a.arrivals.keys a.game c.args.solution.now.choice l.states.keys
     c.steps_of.new.states.keys table c.in-Some.state c.in_ok-steps_of.field-0.items l.invariant
@@ -58,11 +55,16 @@ steps_of-requires-clause-numbers c = c.loop-state.invariant.met.numbers
 
 pub returns : goal.returns
 returns c =
+    let a = c.args.arena.now in
     let l = c.loop-state in
     let table = map (λ (row : Vec MachineStep). row.items) l.steps.items in
     let long = length-map l.steps.items (λ (row : Vec MachineStep). row.items) in
     let rows = length-map table nexts in
-    let past = none_left l.states.keys c.len.result (sym c.in_default.ensures) in
-    let within = l.invariant.met.within in
-    let count = c.len.ensures ∙ l.steps.ok.0 in
-    record { states = l.states.keys; met = l.invariant; all = omega (arith, long, rows, past, within, count) }
+    record {
+      states = l.states.keys;
+      met = l.invariant;
+      all =
+          sym rows
+          ∙ met_all 0 (a.base / a.input_sets) l.states.keys (map nexts table) l.invariant.met c.len.result
+          (c.len.ensures ∙ l.steps.ok.0 ∙ sym long ∙ sym rows) (sym c.in_default.ensures);
+    }

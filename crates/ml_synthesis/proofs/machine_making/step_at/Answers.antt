@@ -23,13 +23,14 @@ give-requires-clause-few c = c.requires.few c.args.vertex
 pub overflow_cast-result : goal.overflow_cast-result
 overflow_cast-result c =
     let a = c.args.arena.now in
-    let met = state_numbered a.input_sets a.base a.arrivals.keys a.game c.args.solution.now c.requires.solved c.args.vertex
-    c.chosen-arrival.result c.from.result c.args.states.now.keys c.number.new.states.keys c.in_ok-number.field-0
+    let met = state_numbered a.input_sets a.base a.arrivals.keys a.game c.args.solution.now c.requires.solved
+    c.args.vertex c.chosen-arrival.result c.from.result c.args.states.now.keys c.number.new.states.keys c.in_ok-number.field-0
     c.chosen-arrival.ensures c.from.ensures c.requires.numbers c.in_ok-number.ensures in
     let few = few_numbers 0 (a.base / a.input_sets) c.number.new.states.keys met.numbers in
     let place = slice_get_within c.number.new.states.keys c.in_ok-number.field-0 c.from.result
     c.in_ok-number.ensures.stands in
-    let small = few_states a.input_sets a.base a.arrivals.keys a.game c.args.solution.now c.requires.solved c.requires.small in
+    let small = few_states a.input_sets a.base a.arrivals.keys a.game c.args.solution.now c.requires.solved
+    c.requires.small in
     omega (arith, few, place, small)
 
 pub returns-clause-step : goal.returns-clause-step

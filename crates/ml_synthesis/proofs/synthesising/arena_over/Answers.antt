@@ -23,7 +23,6 @@ returns c =
     subst (λ n. IsArenaOver c.args.inputs c.args.outputs c.args.neutral rows n a.base a.arrivals.keys a.game)
     (sym c.in_ok-arena.ensures.sets)
     (arena_is_over c.args.inputs c.args.outputs c.args.neutral rows c.sets_of.result c.sets_of-2.result a.base
-    a.arrivals.keys
-    a.game c.requires.automaton c.sets_of.ensures.sets c.sets_of-2.ensures.sets c.sets_of.ensures.few
+    a.arrivals.keys a.game c.requires.automaton c.sets_of.ensures.sets c.sets_of-2.ensures.sets c.sets_of.ensures.few
     c.sets_of-2.ensures.few
     (c.in_ok-arena.ensures.base ∙ ap (λ q. q * c.sets_of.result) (sym long)) c.in_ok-arena.ensures.arena)

@@ -22,8 +22,7 @@ pub returns-then-size-limit-clause-passed : goal.returns-then-size-limit-clause-
 returns-then-size-limit-clause-passed c = λ e.
     let a = c.in_ok-arena.arena in
     too_many c.args.inputs c.args.outputs c.args.neutral (rows_of c.args.moves.now) a.input_sets a.base a.arrivals.keys
-    a.game
-    c.in_ok-arena.ensures c.args.limit c.requires.accessible
+    a.game c.in_ok-arena.ensures c.args.limit c.requires.accessible
     (let more = c.if-size-limit.true in let size = c.size.ensures.vertices in omega (arith, more, size))
 
 pub winner-requires : goal.winner-requires
@@ -38,8 +37,7 @@ pub machine_of-requires-clause-solved : goal.machine_of-requires-clause-solved
 machine_of-requires-clause-solved c =
     let a = c.in_ok-arena.arena in
     is_solved c.args.inputs c.args.outputs c.args.neutral (rows_of c.args.moves.now) a.input_sets a.base a.arrivals.keys
-    a.game
-    c.in_ok-arena.ensures c.in_ok-solution.solution c.in_ok-solution.ensures.ok
+    a.game c.in_ok-arena.ensures c.in_ok-solution.solution c.in_ok-solution.ensures.ok
 
 pub machine_of-requires-clause-small : goal.machine_of-requires-clause-small
 machine_of-requires-clause-small c =
@@ -55,8 +53,7 @@ pub environment_of-requires-clause-solved : goal.environment_of-requires-clause-
 environment_of-requires-clause-solved c =
     let a = c.in_ok-arena.arena in
     is_solved c.args.inputs c.args.outputs c.args.neutral (rows_of c.args.moves.now) a.input_sets a.base a.arrivals.keys
-    a.game
-    c.in_ok-arena.ensures c.in_ok-solution.solution c.in_ok-solution.ensures.ok
+    a.game c.in_ok-arena.ensures c.in_ok-solution.solution c.in_ok-solution.ensures.ok
 
 pub environment_of-requires-clause-small : goal.environment_of-requires-clause-small
 environment_of-requires-clause-small c =
@@ -77,8 +74,7 @@ pub returns-in-Even-clause-not_passed : goal.returns-in-Even-clause-not_passed
 returns-in-Even-clause-not_passed c =
     let a = c.in_ok-arena.arena in
     few_positions c.args.inputs c.args.outputs c.args.neutral (rows_of c.args.moves.now) a.input_sets a.base
-    a.arrivals.keys
-    a.game c.in_ok-arena.ensures c.args.limit c.requires.accessible
+    a.arrivals.keys a.game c.in_ok-arena.ensures c.args.limit c.requires.accessible
     (let few = c.if-size-limit.false in let size = c.size.ensures.vertices in omega (arith, few, size))
 
 pub returns-clause-outcome : goal.returns-clause-outcome
@@ -93,6 +89,5 @@ pub returns-clause-not_passed : goal.returns-clause-not_passed
 returns-clause-not_passed c =
     let a = c.in_ok-arena.arena in
     few_positions c.args.inputs c.args.outputs c.args.neutral (rows_of c.args.moves.now) a.input_sets a.base
-    a.arrivals.keys
-    a.game c.in_ok-arena.ensures c.args.limit c.requires.accessible
+    a.arrivals.keys a.game c.in_ok-arena.ensures c.args.limit c.requires.accessible
     (let few = c.if-size-limit.false in let size = c.size.ensures.vertices in omega (arith, few, size))
