@@ -23,7 +23,7 @@ use Rattle.ml_determinise.specs.Numbering.{automaton_of, move_at}
 use Rattle.ml_determinise.specs.declared.moves.DetMove.{DetMove}
 use Rattle.ml_synthesis.specs.declared.arrival.Arrival.{Arrival}
 use Rattle.ml_synthesis.specs.private.Arena.{AreMoves, IsEnd, IsArena, IsKnownAt, IsStateAt, arrival_of, begun}
-use Rattle.ml_synthesis.proofs.WordPlays.{IsBoard, IsState, reply}
+use Rattle.ml_synthesis.proofs.Boards.{IsBoard, IsState, reply}
 
 pub known_low : (q ins n states : ℕ) → q < states → ins < n → q * n + ins < states * n
 known_low q ins n states low set =

@@ -22,7 +22,7 @@ use Rattle.ml_synthesis.specs.private.Solved.{IsSolved}
 use Rattle.ml_synthesis.proofs.Arenas.{arrival_low, IsReply, IsSomeReply, IsSomeSet, known_at, known_low, reply_at}
 use Rattle.ml_synthesis.proofs.Arenas.{row_length, some_reply, some_set, state_at}
 use Rattle.ml_synthesis.proofs.RowsMet.{row_more, row_none}
-use Rattle.ml_synthesis.proofs.WordPlays.{reply}
+use Rattle.ml_synthesis.proofs.Boards.{reply}
 
 module _ (n base : ℕ) (ks : List Arrival) (g : ParityGame) (s : GameSolution) (solved : IsSolved n base ks g s) where
   abbrev choice : ℕ → ℕ

@@ -2,6 +2,10 @@
 pub mod Runs
 -- machines against environments
 pub mod CommonWords
+-- the game over an automaton, by what is asked of it
+pub mod Boards
+-- rounds that follow a strategy
+pub mod Rounds
 -- words as plays of the game
 pub mod WordPlays
 -- the game of an arena
@@ -34,5 +38,8 @@ pub mod Automata
 pub mod Outcomes
 -- each automaton has its game
 pub mod SomeGames
+-- a solution has a machine, and an environment
+pub mod SomeMachines
+pub mod SomeEnvironments
 -- each automaton has an outcome
 pub mod SomeOutcomes

@@ -31,7 +31,8 @@ use Rattle.ml_synthesis.proofs.Arenas.{arena_is_board, arrival_low, known_at, re
 use Rattle.ml_synthesis.proofs.Choices.{IsSetChoice, choice_at_state}
 use Rattle.ml_synthesis.proofs.RowsMet.{met_in_order}
 use Rattle.ml_synthesis.proofs.Runs.{behind}
-use Rattle.ml_synthesis.proofs.WordPlays.{odd_accepts, letter, letter_end, reply, vertex}
+use Rattle.ml_synthesis.proofs.Boards.{reply}
+use Rattle.ml_synthesis.proofs.WordPlays.{odd_accepts, letter, letter_end, vertex}
 use Rattle.ml_synthesis.proofs.WordPlays as plays
 
 module _ (i o base : ℕ) (ks : List Arrival) (g : ParityGame) (s : GameSolution) (solved : IsSolved (2 ^ i) base ks g s)

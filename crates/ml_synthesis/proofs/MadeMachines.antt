@@ -26,7 +26,8 @@ use Rattle.ml_synthesis.proofs.Answered.{letter_low}
 use Rattle.ml_synthesis.proofs.Arenas.{arena_is_board, reply_at, row_length}
 use Rattle.ml_synthesis.proofs.Runs.{behind}
 use Rattle.ml_synthesis.proofs.RowsMet.{met_in_order}
-use Rattle.ml_synthesis.proofs.WordPlays.{even_refuses, is_state, letter, reply}
+use Rattle.ml_synthesis.proofs.Boards.{reply}
+use Rattle.ml_synthesis.proofs.WordPlays.{even_refuses, is_state, letter}
 use Rattle.ml_synthesis.proofs.WordPlays as plays
 
 module _ (i o neutral : ℕ) (moves : List (List DetMove)) (ks : List Arrival) (g : ParityGame) (choice : List ℕ)

@@ -1,13 +1,16 @@
 -- Each automaton has its game.
 --
 --   some_added    == something can be added to a list, if it isn't there
+--   add_number    == a number can be
 --   some_answers, some_known, some_states == as the program makes it, vertex by vertex
 --   some_arena    == an automaton has an arena
 use Rattle.std.proofs.Common.{ℕ, zero, suc, ◌≡◌, ◌+◌, ◌*◌, ◌/◌, ◌%◌, ◌<◌, ◌≤◌, ◌⊎◌, inl, inr, arith, Bool, true, false}
 use Rattle.std.proofs.Common.{List, [], ◌∷◌, ◌++◌, length, slice_get, Some, refl, sym, ap, ◌∙◌, subst, true≢false}
 use Rattle.std.specs.List.{list_any, range_with_len}
 use Rattle.std.proofs.Math.Nat.{div-lt_iff_lt-mul, mod-lt}
-use Rattle.std.proofs.lemmas.Bool.{cases_Bool}
+use Rattle.std.proofs.lemmas.Bool.{cases_Bool, eqb-true}
+use Rattle.std.proofs.lemmas.Cmp.{nat_eq_equiv}
+use Rattle.std.proofs.Common.{nat_eq}
 use Rattle.std.proofs.lemmas.List.FromFn.{get_or-range_with_len, length-range_with_len}
 use Rattle.std.proofs.lemmas.Option.{same_Some, slice_get-get_or}
 use Rattle.ml_lists.specs.Added.{IsAdded, HasOnePlace}
@@ -64,6 +67,9 @@ some_added {X} eq same own xs x = by_test (cases_Bool (list_any (eq x) xs))
         grown = inr (refl, λ m. true≢false (sym (member-list_any (eq x) x xs m (own x)) ∙ new));
       };
     }
+
+pub add_number : (ks : List ℕ) (x : ℕ) → Added ks x
+add_number = some_added nat_eq eqb-true nat_eq_equiv.refl
 
 module _ (n m neutral : ℕ) (moves : List (List DetMove)) (are : AreMoves n m neutral moves) where
   abbrev base : ℕ
