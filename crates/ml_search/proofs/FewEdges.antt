@@ -91,9 +91,6 @@ module _ (g : Graph) (a : Arena) (s : GameSolution) (m : Structure) (start : ℕ
         },
       )
 
-  target_is : (e : Edge) (x : IsModelEdge g a model.states e) → e.target ≡ place_of firsts x.to.first
-  target_is e x = sym (place_is firsts x.to.first e.target once (first_of_state model.states e.target x.to x.to_is))
-
   same_next : (x : State) → IsMember x model.states → (d v w : ℕ)
       → IsMember (d, v) (nexts g a x)
       → IsMember (d, w) (nexts g a x)
@@ -116,9 +113,9 @@ module _ (g : Graph) (a : Arena) (s : GameSolution) (m : Structure) (start : ℕ
       subst (λ (z : State). IsMember (d, y.edge.to.first) (nexts g a z)) (sym one_state)
       (subst (λ (k : ℕ). IsMember (k, y.edge.to.first) (nexts g a y.edge.from)) y.same y.edge.leads) in
       same_edge e f source (x.action_is ∙ sym y.action_is)
-      (target_is e x.edge
+      (sym (place_is firsts x.edge.to.first e.target once (first_of_state model.states e.target x.edge.to x.edge.to_is))
       ∙ ap (place_of firsts) (same_next x.edge.from here d x.edge.to.first y.edge.to.first leads other)
-      ∙ sym (target_is f y.edge))
+      ∙ place_is firsts y.edge.to.first f.target once (first_of_state model.states f.target y.edge.to y.edge.to_is))
 
   is_diamond_of : (e : Edge) (d : ℕ) → StandsFor e d → (d < size g) × (has_diamond g name d ≡ true)
   is_diamond_of e d x =
