@@ -65,7 +65,8 @@ fn solution(alloc: Global, game: &Game, even: &Side, odd: &Side) -> Result<Solut
 ///
 /// Cost: that of `solve`, which tells at which vertices a measure begins with the top; memory for a number for each vertex
 /// and bad priority. Time is exponential in the number of priorities on some games: a vertex may rise as often as there are
-/// lists within the bounds, and its successors are looked at each time that one of them rose. Source: Jurdziński, Small progress measures for solving parity games (2000).
+/// lists within the bounds, and its successors are looked at each time that one of them rose. Source: Jurdziński, Small
+/// progress measures for solving parity games (2000).
 pub fn measures(alloc: Global, game: &Game) -> Result<Measured, NoMemory>
     ensures even { IfOk result (λ m. IsLeastMeasure game.now Even m.even) }
     ensures odd { IfOk result (λ m. IsLeastMeasure game.now Odd m.odd) }
