@@ -28,7 +28,8 @@ impl Model for Descent {
 }
 
 impl Descent {
-    /// The ranks of a graph. A node gets one where no local walk from it closes.
+    /// The ranks of a graph. A node that a node of odd priority reaches by operands gets one where no local walk from it
+    /// closes.
     ///
     /// Cost: linear in the nodes.
     pub fn of(alloc: Global, graph: &ModalGraph) -> Result<Descent, NoMemory>
@@ -37,7 +38,7 @@ impl Descent {
         let size = graph.size();
         let mut ranks = vec![in alloc; 0; size as usize]?;
         let mut entered = vec![in alloc; false; size as usize]?;
-        let mut path = numbers(alloc, size)?;
+        let mut path = odd_nodes(alloc, graph)?;
         // each node is entered once at most, and left as often as it stands on the path
         for _ in 0..3 * size as u64 {
             let Some(node) = path.last().copied() else {
@@ -58,15 +59,17 @@ impl Descent {
     }
 }
 
-/// The numbers below this one.
-fn numbers(alloc: Global, size: u32) -> Result<Vec<u32>, NoMemory>
-    ensures { IfOk result (λ numbers. All (λ n. n < size) numbers.items) }
+/// The nodes of odd priority.
+fn odd_nodes(alloc: Global, graph: &ModalGraph) -> Result<Vec<u32>, NoMemory>
+    ensures { IfOk result (λ nodes. All (λ n. n < size graph.now) nodes.items) }
 {
-    let mut numbers = Vec::with_capacity(alloc, size as usize)?;
-    for number in 0..size {
-        numbers.push(number)?;
+    let mut nodes = Vec::new(alloc);
+    for node in 0..graph.size() {
+        if graph.priority(node) % 2 == 1 {
+            nodes.push(node)?;
+        }
     }
-    Ok(numbers)
+    Ok(nodes)
 }
 
 /// The children of an And or an Or.
@@ -119,30 +122,33 @@ fn rank(graph: &ModalGraph, ranks: &mut Vec<u32>, node: u32)
     ranks[node as usize] = rank_for(graph, ranks, node);
 }
 
-/// A child of an And or an Or that was not entered.
-fn unmet(graph: &ModalGraph, entered: &[bool], node: u32) -> Option<u32>
+/// A child of an And or an Or that has no rank, and was not entered.
+fn unmet(graph: &ModalGraph, ranks: &[u32], entered: &[bool], node: u32) -> Option<u32>
     requires node { node < size graph.now }
+    requires ranks { length ranks.now ≡ size graph.now }
     requires entered { length entered.now ≡ size graph.now }
     ensures { IfSome result (λ child. child < size graph.now) }
 {
     match both(graph, node) {
         LocalChildren::Leaf => None,
-        LocalChildren::One(child) => {
-            if entered[child as usize] {
-                None
-            } else {
-                Some(child)
-            }
-        }
-        LocalChildren::Two(left, right) => {
-            if !entered[left as usize] {
-                Some(left)
-            } else if !entered[right as usize] {
-                Some(right)
-            } else {
-                None
-            }
-        }
+        LocalChildren::One(child) => if_unmet(ranks, entered, child),
+        LocalChildren::Two(left, right) => match if_unmet(ranks, entered, left) {
+            Some(child) => Some(child),
+            None => if_unmet(ranks, entered, right),
+        },
+    }
+}
+
+/// This node, if it has no rank and was not entered.
+fn if_unmet(ranks: &[u32], entered: &[bool], node: u32) -> Option<u32>
+    requires ranks { node < length ranks.now }
+    requires entered { node < length entered.now }
+    ensures { IfSome result (λ n. n ≡ node) }
+{
+    if ranks[node as usize] == 0 && !entered[node as usize] {
+        Some(node)
+    } else {
+        None
     }
 }
 
@@ -162,7 +168,7 @@ fn go_down(
     ensures entered { OnOk result (length entered.new.items ≡ size graph.now) }
     ensures path { OnOk result (All (λ n. n < size graph.now) path.new.items) }
 {
-    match unmet(graph, entered, node) {
+    match unmet(graph, ranks, entered, node) {
         Some(child) => {
             entered[child as usize] = true;
             path.push(child)?;
