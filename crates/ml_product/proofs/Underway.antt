@@ -6,6 +6,7 @@
 --   explored_both   == both of them are explored, one behind the other
 --   explored_before == from a position that was met before there is nothing to do
 --   explored_next, explored_waiting == so it is for all numbers up to this one, and what waits has no choice
+--   side_place, own_at == the position with a side more, and the spread of the branch's own sequent
 --   side_at         == with a side more the branch stands at the position with it
 --   begun_at        == a branch that was begun stands at a position without a choice
 --   fewer_sides     == a side more is left for fewer
@@ -22,7 +23,6 @@ use Rattle.ml_sequent.specs.declared.choice.Side.{Side}
 use Rattle.ml_sequent.specs.Choice.{with_side}
 use Rattle.ml_sequent.specs.Spread.{SpreadList, IsSpreadOf}
 use Rattle.ml_product.specs.Position.{Position, start_of, with_chosen}
-use Rattle.ml_product.specs.DecisionGame.{IsReached}
 use Rattle.ml_product.specs.declared.pool.Pool.{Pool}
 use Rattle.ml_product.specs.declared.recorded.Recorded.{Recorded}
 use Rattle.ml_product.specs.declared.recorded.Recorded.TheVariants as recorded
@@ -233,25 +233,47 @@ explored_waiting g limit b d rs ts v is before = is.waiting [] (λ w low waits. 
 
 -- ---- branches
 
--- with a side more the branch stands at the position with it
-pub side_at : (g : Graph) (limit : ℕ) (b : Pool) (v w o : ℕ) (s : Side) (sp sp2 : SpreadList)
+-- the position with a side more has the sequent and the sides of the branch
+pub side_place : (g : Graph) (limit : ℕ) (b d : Pool) (v w o : ℕ) (s : Side) (C : List ℕ) (sp : SpreadList)
     → IsAt g limit b v sp
-    → slice_get (positions_of b) w ≡ Some (with_chosen g (at_place g (positions_of b) v) o s)
-    → ((C : List ℕ) → IsSpreadOf g C sp.choice sp → IsSpreadOf g C (with_side sp.choice o s) sp2)
-    → IsAt g limit b w sp2 × ((at_place g (positions_of b) v).sequent ≡ (at_place g (positions_of b) w).sequent)
-side_at g limit b v w o s sp sp2 at there longer =
+    → C ≡ (at_place g (positions_of b) v).sequent
+    → slice_get (positions_of d) w ≡ Some (with_chosen g (at_place g (positions_of b) v) o s)
+    → (w < length (positions_of d))
+    × (C ≡ (at_place g (positions_of d) w).sequent)
+    × (with_side sp.choice o s ≡ (at_place g (positions_of d) w).choice)
+side_place g limit b d v w o s C sp at sequent there =
     let here = at_place g (positions_of b) v in
-    let place : at_place g (positions_of b) w ≡ with_chosen g here o s =
-    get_or_from_slice_get (positions_of b) w (with_chosen g here o s) (start_of g) there in
-    let spread = longer here.sequent (subst (λ c. IsSpreadOf g here.sequent c sp) (sym at.is_spread.choice) at.is_spread) in
-    let chosen = subst (λ c. IsSpreadOf g here.sequent (with_side c o s) sp2) at.is_spread.choice spread in (
-      record {
-        explores = at.explores;
-        number = slice_get_within (positions_of b) w (with_chosen g here o s) there;
-        is_spread = subst (λ (p : Position). IsSpreadOf g p.sequent p.choice sp2) (sym place) chosen;
-      },
-      ap (λ (p : Position). p.sequent) (sym place),
+    let place : at_place g (positions_of d) w ≡ with_chosen g here o s =
+    get_or_from_slice_get (positions_of d) w (with_chosen g here o s) (start_of g) there in (
+      slice_get_within (positions_of d) w (with_chosen g here o s) there,
+      sequent ∙ ap (λ (p : Position). p.sequent) (sym place),
+      ap (λ c. with_side c o s) at.is_spread.choice ∙ ap (λ (p : Position). p.choice) (sym place),
     )
+
+-- the branch has the spread of its sequent
+pub own_at : (g : Graph) (limit : ℕ) (b : Pool) (v : ℕ) (C : List ℕ) (sp : SpreadList)
+    → IsAt g limit b v sp
+    → C ≡ (at_place g (positions_of b) v).sequent
+    → IsSpreadOf g C sp.choice sp
+own_at g limit b v C sp at sequent =
+    subst (λ ns. IsSpreadOf g ns sp.choice sp) (sym sequent)
+    (subst (λ c. IsSpreadOf g (at_place g (positions_of b) v).sequent c sp) (sym at.is_spread.choice) at.is_spread)
+
+-- with a side more the branch stands at the position with it
+pub side_at : (g : Graph) (limit : ℕ) (b : Pool) (w o : ℕ) (s : Side) (C : List ℕ) (sp sp2 : SpreadList)
+    → Explores g limit b
+    → IsSpreadOf g C sp.choice sp
+    → w < length (positions_of b)
+    → C ≡ (at_place g (positions_of b) w).sequent
+    → with_side sp.choice o s ≡ (at_place g (positions_of b) w).choice
+    → ((D : List ℕ) → IsSpreadOf g D sp.choice sp → IsSpreadOf g D (with_side sp.choice o s) sp2)
+    → IsAt g limit b w sp2
+side_at g limit b w o s C sp sp2 explores is low sequent choice longer = record {
+  explores = explores;
+  number = low;
+  is_spread = subst (λ c. IsSpreadOf g (at_place g (positions_of b) w).sequent c sp2) choice
+      (subst (λ ns. IsSpreadOf g ns (with_side sp.choice o s) sp2) sequent (longer C is));
+}
 
 -- a branch that was begun stands at a position without a choice
 pub begun_at : (g : Graph) (limit : ℕ) (b : Pool) (v : ℕ) (C : List ℕ) (sp : SpreadList)
@@ -269,21 +291,16 @@ begun_at g limit b v C sp explores low none sequent is = record {
 }
 
 -- a side more is left for fewer
-pub fewer_sides : (g : Graph) (limit : ℕ) (b : Pool) (v w o : ℕ) (s : Side) (sp sp2 : SpreadList)
-    → IsAt g limit b v sp
+pub fewer_sides : (g : Graph) (limit : ℕ) (b : Pool) (w o : ℕ) (s : Side) (sp sp2 : SpreadList)
     → IsAt g limit b w sp2
-    → slice_get (positions_of b) w ≡ Some (with_chosen g (at_place g (positions_of b) v) o s)
+    → with_side sp.choice o s ≡ (at_place g (positions_of b) w).choice
     → 2 * (size g - length sp2.choice) + 1 < 2 * (size g - length sp.choice)
-fewer_sides g limit b v w o s sp sp2 at at2 there =
-    let here = at_place g (positions_of b) v in
-    let place : at_place g (positions_of b) w ≡ with_chosen g here o s =
-    get_or_from_slice_get (positions_of b) w (with_chosen g here o s) (start_of g) there in
-    let reached = subst (IsReached g) place (at2.explores.are_reached (at_place g (positions_of b) w)
-    (place-member (positions_of b) w (start_of g) at2.number)) in
-    let few = chosen_few g (with_chosen g here o s) reached in
-    let long = with_side_length here.choice o s in
-    let first = ap length at.is_spread.choice in
-    let second = ap length (at2.is_spread.choice ∙ ap (λ (p : Position). p.choice) place) in
+fewer_sides g limit b w o s sp sp2 at choice =
+    let few = chosen_few g (at_place g (positions_of b) w) (at.explores.are_reached (at_place g (positions_of b) w)
+    (place-member (positions_of b) w (start_of g) at.number)) in
+    let long = with_side_length sp.choice o s in
+    let first = ap length choice in
+    let second = ap length at.is_spread.choice in
     omega arith
 
 -- ---- the beginning and the end

@@ -1,9 +1,10 @@
 // The exploration of a decision: from a position without a choice along both sides of each open or-node, with one branch.
-ghost use Rattle.std.specs.Prelude.{◌≡◌, ◌<◌, ◌≤◌, ◌^◌, ℕ, [], Some, OnOk, IsErrOf, length, slice_get};
+ghost use Rattle.std.specs.Prelude.{◌≡◌, ◌<◌, ◌≤◌, ◌^◌, [], OnOk, IsErrOf, length};
 ghost use Rattle.ml_graph.specs.Graph.{IsGraph};
-ghost use Rattle.ml_sequent.specs.Spread.{IsOpenOr};
+ghost use Rattle.ml_sequent.specs.Choice.{with_side};
+ghost use Rattle.ml_sequent.specs.Spread.{IsSpreadOf, IsOpenOr};
 ghost use Rattle.ml_product.specs.declared.refusals.ExploreRefusal.TheVariants as refusal;
-ghost use Rattle.ml_product.specs.Position.{automaton_states, with_chosen};
+ghost use Rattle.ml_product.specs.Position.{automaton_states};
 ghost use Rattle.ml_product.specs.DecisionGame.{HasMoreThan};
 ghost use Rattle.ml_product.specs.private.Pools.{positions_of};
 ghost use Rattle.ml_product.specs.private.Exploring.{AreTerms, Explores, at_place, IsAt, IsUnderway, IsWaiting, IsExplored};
@@ -50,7 +51,6 @@ fn explore_at(
                 pool,
                 turns,
                 limit,
-                v,
                 node,
                 Side::Left,
                 left,
@@ -62,7 +62,6 @@ fn explore_at(
                 pool,
                 turns,
                 limit,
-                v,
                 node,
                 Side::Right,
                 right,
@@ -80,7 +79,6 @@ fn explore_side(
     pool: &mut Pool,
     turns: &mut Turns,
     limit: u32,
-    v: u32,
     node: u32,
     side: Side,
     w: u32,
@@ -89,11 +87,12 @@ fn explore_side(
     requires small { automaton_states branch.old.graph ≤ 2 ^ 30 }
     requires terms { AreTerms branch.old.graph terms.now }
     requires underway { IsUnderway branch.old.graph limit pool.old turns.old }
-    requires at { IsAt branch.old.graph limit pool.old v branch.old.spread }
-    requires sequent { branch.old.sequent ≡ (at_place branch.old.graph (positions_of pool.old) v).sequent }
+    requires spread { IsSpreadOf branch.old.graph branch.old.sequent branch.old.spread.choice branch.old.spread }
     requires node { IsOpenOr branch.old.graph branch.old.spread node }
-    requires side { slice_get (positions_of pool.old) w
-        ≡ Some (with_chosen branch.old.graph (at_place branch.old.graph (positions_of pool.old) v) node side) }
+    requires number { w < length (positions_of pool.old) }
+    requires sequent { branch.old.sequent ≡ (at_place branch.old.graph (positions_of pool.old) w).sequent }
+    requires choice { with_side branch.old.spread.choice node side
+        ≡ (at_place branch.old.graph (positions_of pool.old) w).choice }
     ensures same { OnOk result (branch.new ≡ branch.old) }
     ensures explored { OnOk result (IsExplored branch.old.graph limit pool.old turns.old w pool.new turns.new) }
     ensures passed { IsErrOf result refusal.Passed → HasMoreThan branch.old.graph limit }

@@ -1,16 +1,17 @@
 -- The position is turned, its sides are explored one behind the other, and the branch is as before.
-use Rattle.std.proofs.Common.{◌≡◌, ◌<◌, ◌≤◌, ◌+◌, ◌-◌, ◌*◌, ◌^◌, Some, length, slice_get, Result, Ok, Err, OnOk, sym, ap, ◌∙◌, subst, arith}
+use Rattle.std.proofs.Common.{◌≡◌, ◌<◌, ◌≤◌, ◌+◌, ◌-◌, ◌*◌, ◌^◌, length, Result, Ok, Err, OnOk, sym, ◌∙◌, subst, arith}
 use Rattle.ml_graph.specs.Graph.{Graph, IsGraph, size}
 use Rattle.ml_sequent.specs.declared.choice.Side.TheVariants.{Left, Right}
 use Rattle.ml_sequent.specs.Branch.{BranchList}
-use Rattle.ml_sequent.specs.Spread.{IsOpenOr}
-use Rattle.ml_product.specs.Position.{Position, automaton_states, with_chosen}
+use Rattle.ml_sequent.specs.Choice.{with_side}
+use Rattle.ml_sequent.specs.Spread.{IsSpreadOf, IsOpenOr}
+use Rattle.ml_sequent.proofs.OwnSpreads.{own_spread}
+use Rattle.ml_product.specs.Position.{automaton_states, with_chosen}
 use Rattle.ml_product.specs.declared.recorded.Recorded.TheVariants as recorded
 use Rattle.ml_product.specs.private.Pools.{positions_of}
-use Rattle.ml_product.specs.private.Exploring.{AreTerms, at_place, Becomes, IsAt, IsEnded, IsOpened, IsTurnOf, IsUnderway, IsExplored}
-use Rattle.ml_product.proofs.Turning.{spread_of, still_at}
-use Rattle.ml_product.proofs.Underway.{recorded_underway, ended_explored, explored_both, side_at, fewer_sides}
-use Rattle.ml_product.proofs.Vertices.{longer_get, longer_place}
+use Rattle.ml_product.specs.private.Exploring.{AreTerms, at_place, IsAt, IsEnded, IsOpened, IsTurnOf, IsUnderway, IsExplored}
+use Rattle.ml_product.proofs.Underway.{recorded_underway, ended_explored, explored_both, side_place, own_at, side_at, fewer_sides}
+use Rattle.ml_product.proofs.Vertices.{longer_get}
 use Rattle.ml_product.proofs.deciding.+deciding.Goals as goal
 
 pub explore_at-explore_side-requires : goal.explore_at-explore_side-requires
@@ -20,16 +21,21 @@ explore_at-explore_side-requires t c =
     let b = c.args.pool.now in
     let d = c.take_turn.new.pool in
     let v = c.args.v in
+    let C = c.args.branch.now.sequent in
     let sp = c.args.branch.now.spread in
     let node = c.in-Open.node in
     let opened : IsOpened g limit (positions_of b) v sp d node c.in-Open.left c.in-Open.right =
     subst (IsTurnOf g limit (positions_of b) v sp d) c.in-Open.is c.in_ok-found.ensures.turned in
-    let place = longer_place g (positions_of b) (positions_of d) opened.turned.becomes.longer v c.requires.at.number in
+    let under = recorded_underway g limit b d c.args.turns.now c.record-in-Open.new.self v
+    (recorded.Chosen c.in-Open.left c.in-Open.right) c.requires.underway c.requires.at.number opened.turned
+    c.in_ok-record-in-Open.ensures in
+    let side = side_place g limit b d v c.in-Open.left node Left C sp c.requires.at c.requires.sequent opened.left in
     subst (λ (x : BranchList). (2 * (size x.graph - length x.spread.choice) < t)
     × (IsGraph x.graph × ((automaton_states x.graph ≤ 2 ^ 30) × (AreTerms x.graph c.args.terms.now
-    × (IsUnderway x.graph limit d c.record-in-Open.new.self × (IsAt x.graph limit d v x.spread
-    × ((x.sequent ≡ (at_place x.graph (positions_of d) v).sequent) × (IsOpenOr x.graph x.spread node
-    × (slice_get (positions_of d) c.in-Open.left ≡ Some (with_chosen x.graph (at_place x.graph (positions_of d) v) node Left))))))))))
+    × (IsUnderway x.graph limit d c.record-in-Open.new.self × (IsSpreadOf x.graph x.sequent x.spread.choice x.spread
+    × (IsOpenOr x.graph x.spread node × ((c.in-Open.left < length (positions_of d))
+    × ((x.sequent ≡ (at_place x.graph (positions_of d) c.in-Open.left).sequent)
+    × (with_side x.spread.choice node Left ≡ (at_place x.graph (positions_of d) c.in-Open.left).choice))))))))))
     (sym c.in_ok-found.ensures.same) (
       omega (arith, c.decreases),
       (
@@ -39,14 +45,10 @@ explore_at-explore_side-requires t c =
           (
             c.requires.terms,
             (
-              recorded_underway g limit b d c.args.turns.now c.record-in-Open.new.self v (recorded.Chosen c.in-Open.left c.in-Open.right)
-                  c.requires.underway c.requires.at.number opened.turned c.in_ok-record-in-Open.ensures,
+              under,
               (
-                still_at g limit b v sp c.requires.at d opened.turned.becomes,
-                (
-                  c.requires.sequent ∙ ap (λ (p : Position). p.sequent) (sym place),
-                  (opened.is_open, opened.left ∙ ap (λ p. Some (with_chosen g p node Left)) (sym place)),
-                ),
+                own_at g limit b v C sp c.requires.at c.requires.sequent,
+                (opened.is_open, (side.0, (side.1, side.2))),
               ),
             ),
           ),
@@ -60,24 +62,25 @@ explore_at-explore_side-requires-in-Open t c =
     let limit = c.args.limit in
     let b = c.args.pool.now in
     let d = c.take_turn.new.pool in
-    let e = c.explore_side.new.pool in
     let v = c.args.v in
+    let C = c.args.branch.now.sequent in
     let sp = c.args.branch.now.spread in
     let node = c.in-Open.node in
     let opened : IsOpened g limit (positions_of b) v sp d node c.in-Open.left c.in-Open.right =
     subst (IsTurnOf g limit (positions_of b) v sp d) c.in-Open.is c.in_ok-found.ensures.turned in
+    let e = c.explore_side.new.pool in
     let one : IsExplored g limit d c.record-in-Open.new.self c.in-Open.left e c.explore_side.new.turns =
     subst (λ (x : BranchList). IsExplored x.graph limit d c.record-in-Open.new.self c.in-Open.left e c.explore_side.new.turns)
     c.in_ok-found.ensures.same c.in_ok-explore_side-in-Open.ensures.explored in
-    let at_d = still_at g limit b v sp c.requires.at d opened.turned.becomes in
-    let becomes : Becomes g limit (positions_of d) e = record { explores = one.underway.explores; longer = one.longer } in
-    let place = longer_place g (positions_of b) (positions_of d) opened.turned.becomes.longer v c.requires.at.number in
-    let place_e = longer_place g (positions_of d) (positions_of e) one.longer v at_d.number ∙ place in
+    let side = side_place g limit b e v c.in-Open.right node Right C sp c.requires.at c.requires.sequent
+    (longer_get (positions_of d) (positions_of e) one.longer c.in-Open.right
+    (with_chosen g (at_place g (positions_of b) v) node Right) opened.right) in
     subst (λ (x : BranchList). (2 * (size x.graph - length x.spread.choice) < t)
     × (IsGraph x.graph × ((automaton_states x.graph ≤ 2 ^ 30) × (AreTerms x.graph c.args.terms.now
-    × (IsUnderway x.graph limit e c.explore_side.new.turns × (IsAt x.graph limit e v x.spread
-    × ((x.sequent ≡ (at_place x.graph (positions_of e) v).sequent) × (IsOpenOr x.graph x.spread node
-    × (slice_get (positions_of e) c.in-Open.right ≡ Some (with_chosen x.graph (at_place x.graph (positions_of e) v) node Right))))))))))
+    × (IsUnderway x.graph limit e c.explore_side.new.turns × (IsSpreadOf x.graph x.sequent x.spread.choice x.spread
+    × (IsOpenOr x.graph x.spread node × ((c.in-Open.right < length (positions_of e))
+    × ((x.sequent ≡ (at_place x.graph (positions_of e) c.in-Open.right).sequent)
+    × (with_side x.spread.choice node Right ≡ (at_place x.graph (positions_of e) c.in-Open.right).choice))))))))))
     (sym (c.in_ok-explore_side-in-Open.ensures.same ∙ c.in_ok-found.ensures.same)) (
       omega (arith, c.decreases),
       (
@@ -89,16 +92,8 @@ explore_at-explore_side-requires-in-Open t c =
             (
               one.underway,
               (
-                still_at g limit d v sp at_d e becomes,
-                (
-                  c.requires.sequent ∙ ap (λ (p : Position). p.sequent) (sym place_e),
-                  (
-                    opened.is_open,
-                    longer_get (positions_of d) (positions_of e) one.longer c.in-Open.right
-                        (with_chosen g (at_place g (positions_of b) v) node Right) opened.right
-                        ∙ ap (λ p. Some (with_chosen g p node Right)) (sym place_e),
-                  ),
-                ),
+                own_at g limit b v C sp c.requires.at c.requires.sequent,
+                (opened.is_open, (side.0, (side.1, side.2))),
               ),
             ),
           ),
@@ -148,17 +143,19 @@ explore_at-returns-in_ok-explore_side-in-Open-clause-explored t c =
 
 pub explore_side-choose-requires-clause-spread : goal.explore_side-choose-requires-clause-spread
 explore_side-choose-requires-clause-spread t c =
-    spread_of c.args.branch.now.graph c.args.limit c.args.pool.now c.args.v c.args.branch.now.spread c.requires.at
+    own_spread c.args.branch.now.graph c.args.branch.now.sequent c.args.branch.now.spread.choice c.args.branch.now.spread
+    c.requires.spread
 
 pub explore_side-explore_at-requires : goal.explore_side-explore_at-requires
 explore_side-explore_at-requires t c =
-    let g = c.args.branch.now.graph in
     let b = c.args.pool.now in
     let sp = c.args.branch.now.spread in
     let sp2 = c.choose.new.self.spread in
-    let side = side_at g c.args.limit b c.args.v c.args.w c.args.node c.args.side sp sp2 c.requires.at c.requires.side
+    let g = c.args.branch.now.graph in
+    let at = side_at g c.args.limit b c.args.w c.args.node c.args.side c.args.branch.now.sequent sp sp2
+    c.requires.underway.explores c.requires.spread c.requires.number c.requires.sequent c.requires.choice
     c.in_ok-choose.ensures.of in
-    let less = fewer_sides g c.args.limit b c.args.v c.args.w c.args.node c.args.side sp sp2 c.requires.at side.0 c.requires.side in
+    let less = fewer_sides g c.args.limit b c.args.w c.args.node c.args.side sp sp2 at c.requires.choice in
     subst (λ (h : Graph). (2 * (size h - length sp2.choice) + 1 < t)
     × (IsGraph h × ((automaton_states h ≤ 2 ^ 30) × (AreTerms h c.args.terms.now
     × (IsUnderway h c.args.limit b c.args.turns.now × (IsAt h c.args.limit b c.args.w sp2
@@ -174,8 +171,8 @@ explore_side-explore_at-requires t c =
             (
               c.requires.underway,
               (
-                side.0,
-                c.choose.ensures.sequent ∙ c.requires.sequent ∙ side.1,
+                at,
+                c.choose.ensures.sequent ∙ c.requires.sequent,
               ),
             ),
           ),
