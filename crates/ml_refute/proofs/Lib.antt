@@ -52,3 +52,5 @@ pub mod LongestCounts
 pub mod SomeEntries
 -- a refutation exists where Odd wins
 pub mod SomeRefutation
+-- a branch at a position, and with a side more
+pub mod BranchPositions

@@ -1,34 +1,39 @@
 // Decisions at positions of a decision game that Odd wins, and the entries to which they lead.
-ghost use Rattle.std.specs.Prelude.{◌≡◌, ◌<◌, [], length, map, slice_get, IfOk};
+ghost use Rattle.std.specs.Prelude.{◌≡◌, ◌<◌, [], length, map, slice_get, IfOk, OnOk};
+ghost use Rattle.ml_sequent.specs.Choice.{with_side};
+ghost use Rattle.ml_sequent.specs.Spread.{IsSpreadOf, IsOpenOr};
 ghost use Rattle.ml_refutation.specs.Views.{decision_of};
-ghost use Rattle.ml_refute.specs.private.Found.{OddWins, IsWon, IsTurnAt, AreNumbered, IsNumberOf, IsDecided, AreLooked, position_at};
+ghost use Rattle.ml_refute.specs.private.Found.{OddWins, IsWon, IsSpreadAt, IsTurnAt, AreNumbered, IsNumberOf, IsDecided, AreLooked, position_at};
 
 use crate::lost_game::{LostGame, Turn};
 use indexmap::IndexSet;
 use ml_base::NoMemory;
 use ml_refutation::Decision;
-use ml_sequent::LocalPhase;
+use ml_sequent::{Branch, Side};
 use std::alloc::Global;
 
-/// The decision at a position, with an entry for each position to which it leads. The entries are the vertices, by their
-/// places.
+/// The decision at a position with the spread of this branch, with an entry for each position to which it leads. The
+/// entries are the vertices, by their places. The branch is as before then.
 ///
 /// # Errors
 /// `NoMemory` alone.
 ///
 /// Cost: that of a turn for each branch. The recursion is as deep as splits are nested.
+#[cycle(deciding)]
 fn decide(
     alloc: Global,
     game: &LostGame,
-    phase: &mut LocalPhase,
+    branch: &mut Branch,
     vertices: &mut IndexSet<u32>,
     v: u32,
 ) -> Result<Decision, NoMemory>
     requires odd { OddWins game.now.graph.now game.now.arena.now game.now.solution.now }
     requires won { IsWon game.now.arena.now game.now.solution.now v }
-    requires graph { phase.old ≡ game.now.graph.now }
+    requires graph { branch.old.graph ≡ game.now.graph.now }
+    requires sequent { branch.old.sequent ≡ (position_at game.now.graph.now game.now.arena.now v).sequent }
+    requires spread { IsSpreadAt game.now.graph.now game.now.arena.now v branch.old.spread }
     requires numbered { AreNumbered game.now.graph.now game.now.arena.now game.now.solution.now vertices.old.keys }
-    ensures graph { phase.new ≡ phase.old }
+    ensures same { OnOk result (branch.new ≡ branch.old) }
     ensures decided { IfOk result (λ d. IsDecided
         game.now.graph.now
         game.now.arena.now
@@ -38,12 +43,12 @@ fn decide(
         v
         (decision_of d)) }
 {
-    match game.turn_at(phase, v)? {
+    match game.turn_at(branch, v)? {
         Turn::Clash(cause) => Ok(Decision::Clash(cause)),
         Turn::Open(node) => {
-            let sides = game.sides_of(v, node);
-            let left = decide(alloc, game, phase, vertices, sides.0)?;
-            let right = decide(alloc, game, phase, vertices, sides.1)?;
+            let (l, r) = game.sides_of(v, node);
+            let left = decide_side(alloc, game, branch, vertices, node, Side::Left, l)?;
+            let right = decide_side(alloc, game, branch, vertices, node, Side::Right, r)?;
             Ok(Decision::Split {
                 node,
                 left: Box::new(alloc, left)?,
@@ -52,6 +57,84 @@ fn decide(
         }
         Turn::Leave(diamond) => leave(game, vertices, v, diamond),
     }
+}
+
+/// The same with a side more on the branch, which leads to this position.
+#[cycle(deciding)]
+fn decide_side(
+    alloc: Global,
+    game: &LostGame,
+    branch: &mut Branch,
+    vertices: &mut IndexSet<u32>,
+    node: u32,
+    side: Side,
+    w: u32,
+) -> Result<Decision, NoMemory>
+    requires odd { OddWins game.now.graph.now game.now.arena.now game.now.solution.now }
+    requires won { IsWon game.now.arena.now game.now.solution.now w }
+    requires graph { branch.old.graph ≡ game.now.graph.now }
+    requires spread { IsSpreadOf branch.old.graph branch.old.sequent branch.old.spread.choice branch.old.spread }
+    requires node { IsOpenOr branch.old.graph branch.old.spread node }
+    requires sequent { branch.old.sequent ≡ (position_at game.now.graph.now game.now.arena.now w).sequent }
+    requires choice { with_side branch.old.spread.choice node side
+        ≡ (position_at game.now.graph.now game.now.arena.now w).choice }
+    requires numbered { AreNumbered game.now.graph.now game.now.arena.now game.now.solution.now vertices.old.keys }
+    ensures same { OnOk result (branch.new ≡ branch.old) }
+    ensures decided { IfOk result (λ d. IsDecided
+        game.now.graph.now
+        game.now.arena.now
+        game.now.solution.now
+        vertices.old.keys
+        vertices.new.keys
+        w
+        (decision_of d)) }
+{
+    branch.choose(node, side)?;
+    let decision = decide(alloc, game, branch, vertices, w)?;
+    branch.undo();
+    Ok(decision)
+}
+
+/// The decision at a position without a choice.
+fn decide_from(
+    alloc: Global,
+    game: &LostGame,
+    branch: &mut Branch,
+    vertices: &mut IndexSet<u32>,
+    v: u32,
+) -> Result<Decision, NoMemory>
+    requires odd { OddWins game.now.graph.now game.now.arena.now game.now.solution.now }
+    requires won { IsWon game.now.arena.now game.now.solution.now v }
+    requires unchosen { (position_at game.now.graph.now game.now.arena.now v).choice ≡ [] }
+    requires graph { branch.old.graph ≡ game.now.graph.now }
+    requires numbered { AreNumbered game.now.graph.now game.now.arena.now game.now.solution.now vertices.old.keys }
+    ensures graph { OnOk result (branch.new.graph ≡ branch.old.graph) }
+    ensures decided { IfOk result (λ d. IsDecided
+        game.now.graph.now
+        game.now.arena.now
+        game.now.solution.now
+        vertices.old.keys
+        vertices.new.keys
+        v
+        (decision_of d)) }
+{
+    begin_at(game, branch, v)?;
+    decide(alloc, game, branch, vertices, v)
+}
+
+/// Begins at the sequent of a position without a choice.
+fn begin_at(game: &LostGame, branch: &mut Branch, v: u32) -> Result<(), NoMemory>
+    requires odd { OddWins game.now.graph.now game.now.arena.now game.now.solution.now }
+    requires won { IsWon game.now.arena.now game.now.solution.now v }
+    requires unchosen { (position_at game.now.graph.now game.now.arena.now v).choice ≡ [] }
+    requires graph { branch.old.graph ≡ game.now.graph.now }
+    ensures graph { branch.new.graph ≡ branch.old.graph }
+    ensures sequent { OnOk result
+        (branch.new.sequent ≡ (position_at game.now.graph.now game.now.arena.now v).sequent) }
+    ensures spread { OnOk result (IsSpreadAt game.now.graph.now game.now.arena.now v branch.new.spread) }
+{
+    let position = game.arena.position(v);
+    branch.begin(position.sequent.copy()?)
 }
 
 /// The decision to leave along Odd's choice, to the entry of the position to which it leads.
@@ -126,14 +209,14 @@ impl Decided {
             (map decision_of found.decisions.items)) }
         ensures all { IfOk result (λ found. length found.decisions.items ≡ length found.vertices.keys) }
     {
-        let mut phase = LocalPhase::new(alloc, game.graph)?;
+        let mut branch = Branch::new(alloc, game.graph)?;
         let mut vertices = IndexSet::new(alloc);
         vertices.insert(0)?;
         let mut decisions = Vec::new(alloc);
         let _size = game.arena.size();
         while decisions.len() < vertices.len() {
             let v = vertex_at(&vertices, decisions.len());
-            let decision = decide(alloc, game, &mut phase, &mut vertices, v)?;
+            let decision = decide_from(alloc, game, &mut branch, &mut vertices, v)?;
             decisions.push(decision)?;
         }
         Ok(Decided {

@@ -14,7 +14,7 @@ use ml_graph::ModalGraph;
 use ml_parity::Solution;
 use ml_product::Arena;
 use ml_refutation::{Cause, Step};
-use ml_sequent::{ClashCause, LocalPhase, Spread};
+use ml_sequent::{Branch, ClashCause};
 
 /// What is done at a position.
 #[derive(Clone, Copy, Debug)]
@@ -36,52 +36,40 @@ pub(crate) struct LostGame<'a> {
 }
 
 impl LostGame<'_> {
-    /// What is done at a position.
+    /// What is done at a position with the spread of this branch.
     ///
     /// # Errors
     /// `NoMemory` alone.
     ///
-    /// Cost: that of the local phase, and linear in the moves.
-    pub(crate) fn turn_at(&self, phase: &mut LocalPhase, v: u32) -> Result<Turn, NoMemory>
+    /// Cost: that of what is asked of the branch, and linear in the moves.
+    pub(crate) fn turn_at(&self, branch: &mut Branch, v: u32) -> Result<Turn, NoMemory>
         requires odd { OddWins self.now.graph.now self.now.arena.now self.now.solution.now }
         requires won { IsWon self.now.arena.now self.now.solution.now v }
-        requires graph { phase.old ≡ self.now.graph.now }
-        ensures graph { phase.new ≡ phase.old }
+        requires graph { branch.old.graph ≡ self.now.graph.now }
+        requires spread { IsSpreadAt self.now.graph.now self.now.arena.now v branch.old.spread }
+        ensures same { branch.new ≡ branch.old }
         ensures turn { IfOk result (IsTurnAt self.now.graph.now self.now.arena.now self.now.solution.now v) }
     {
-        let position = self.arena.position(v);
-        let spread = phase.spread(position.sequent, position.choice)?;
-        self.turn_in(phase, v, &spread)
-    }
-
-    /// What is done at a position with this spread.
-    fn turn_in(&self, phase: &mut LocalPhase, v: u32, spread: &Spread) -> Result<Turn, NoMemory>
-        requires odd { OddWins self.now.graph.now self.now.arena.now self.now.solution.now }
-        requires won { IsWon self.now.arena.now self.now.solution.now v }
-        requires graph { phase.old ≡ self.now.graph.now }
-        requires spread { IsSpreadAt self.now.graph.now self.now.arena.now v spread.now }
-        ensures graph { phase.new ≡ phase.old }
-        ensures turn { IfOk result (IsTurnAt self.now.graph.now self.now.arena.now self.now.solution.now v) }
-    {
-        match phase.clash(spread)? {
+        match branch.clash()? {
             Some(cause) => Ok(Turn::Clash(cause_of(cause))),
-            None => match phase.open_or(spread) {
+            None => match branch.open_or() {
                 Some(node) => Ok(Turn::Open(node)),
-                None => Ok(Turn::Leave(self.diamond_of(phase, v, spread)?)),
+                None => Ok(Turn::Leave(self.diamond_of(branch, v)?)),
             },
         }
     }
 
     /// The least diamond along which Odd's choice leads, where nothing clashes and no or-node is open.
-    fn diamond_of(&self, phase: &LocalPhase, v: u32, spread: &Spread) -> Result<u32, NoMemory>
+    fn diamond_of(&self, branch: &Branch, v: u32) -> Result<u32, NoMemory>
         requires odd { OddWins self.now.graph.now self.now.arena.now self.now.solution.now }
         requires won { IsWon self.now.arena.now self.now.solution.now v }
-        requires graph { phase.now ≡ self.now.graph.now }
-        requires spread { IsSpreadAt self.now.graph.now self.now.arena.now v spread.now }
-        requires resolved { IsResolved self.now.graph.now spread.now }
-        ensures { IfOk result (LeavesTo self.now.graph.now self.now.arena.now self.now.solution.now v spread.now) }
+        requires graph { branch.now.graph ≡ self.now.graph.now }
+        requires spread { IsSpreadAt self.now.graph.now self.now.arena.now v branch.now.spread }
+        requires resolved { IsResolved self.now.graph.now branch.now.spread }
+        ensures { IfOk result
+            (LeavesTo self.now.graph.now self.now.arena.now self.now.solution.now v branch.now.spread) }
     {
-        let diamonds = phase.diamonds(spread)?;
+        let diamonds = branch.diamonds()?;
         let place = self.place_of_choice(v);
         Ok(diamonds[place])
     }

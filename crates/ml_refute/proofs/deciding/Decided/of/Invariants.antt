@@ -5,7 +5,7 @@ use Rattle.ml_refute.proofs.deciding.Decided.of.Given as goal
 
 abbrev pub invariant-loop-alloc : goal.invariant-loop-alloc
 invariant-loop-alloc l =
-    (l.phase ≡ l.game.graph.now)
+    (l.branch.graph ≡ l.game.graph.now)
     × AreLooked l.game.graph.now l.game.arena.now l.game.solution.now l.vertices.keys (map decision_of l.decisions.items)
 
 abbrev pub decreases-loop-alloc : goal.decreases-loop-alloc
