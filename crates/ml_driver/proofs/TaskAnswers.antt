@@ -6,8 +6,12 @@
 use Rattle.std.proofs.Common.{◌≡◌, ℕ, ◌<◌, ◌≤◌, ◌⊎◌, List, length, Some, refl, sym, subst, inl, inr, ⊎_elim, arith}
 use Rattle.std.proofs.lemmas.Bool.{cases_lt}
 use Rattle.ml_base.specs.declared.doc_fault.DocFault.{DocFault}
-use Rattle.ml_realize.specs.Laws.{FoundAreRight, NeverBoth, OneGame, OneSize, SomeOutcome}
+use Rattle.ml_realize.specs.Laws.{OneSize}
 use Rattle.ml_realize.specs.TaskGame.{IsFound, IsLarge, PassesLimit, most_nodes}
+use Rattle.ml_realize.proofs.NeverBoth.{never_both}
+use Rattle.ml_realize.proofs.OneGame.{one_game}
+use Rattle.ml_realize.proofs.RightOutcomes.{found_right}
+use Rattle.ml_realize.proofs.SomeOutcomes.{some_outcome}
 use Rattle.ml_realize_text.specs.RealizeText.{outcome_text, undecided_text}
 use Rattle.ml_realize_text.specs.declared.cause.Cause.{Cause}
 use Rattle.ml_realize_text.specs.declared.cause.Cause.TheVariants.{Closure, Positions}
@@ -16,10 +20,9 @@ use Rattle.ml_synthesis.specs.declared.outcome.Outcome.TheVariants.{Made, Defeat
 use Rattle.ml_task.specs.Task.{IsTask, Task}
 use Rattle.ml_task.specs.TaskText.{IsTaskFault, IsTaskText}
 use Rattle.ml_task.proofs.OneAnswer.{one_task, some_answer, task_or_fault}
-use Rattle.ml_driver.specs.Run.{IsDue}
+use Rattle.ml_word_automaton.proofs.BlockGraphs.{one_size}
 use Rattle.ml_driver.specs.Statuses.{longest_task, refused_document, refused_length}
 use Rattle.ml_driver.specs.Tasks.{IsDefeated, IsLeftOpen, IsOpenFor, IsRealized, IsRefusedAsTask, IsTaskAnswered, IsTold, StandsForTask}
-use Rattle.ml_driver.specs.declared.command.Command.TheVariants.{Realize}
 use Rattle.ml_driver.specs.declared.status.Status.{Status}
 use Rattle.ml_driver.specs.declared.status.Status.TheVariants.{Yes, No, Undecided, Words, Text, ReadFault, WriteFault, NoMemory}
 
@@ -54,105 +57,107 @@ tells n text Text out due =
     due
 tells n text s out due = told s due
 
-module Lawful (never_both : NeverBoth) (one_size : OneSize) (one_game : OneGame) (some_outcome : SomeOutcome)
-    (found_are_right : FoundAreRight) where
-  -- a task isn't left open within a limit in which an outcome is found
-  found_or_open : (t : Task) (n : ℕ) (r : Outcome) (c : Cause) → IsFound t n r → IsOpenFor t n c → ⊥
-  found_or_open t n r (Positions m) x y = x.within (one_game t y.1.reading x.reading n y.1.more)
-  found_or_open t n r (Closure m) x y = absurd (omega (arith, (one_size t x.reading).0 y.1, x.few))
+-- a task is large exactly where the graph of a reading is
+too_large : OneSize
+too_large t r = one_size t.formula true r.automaton.graph most_nodes r.is_automaton.is_graph
 
-  one_answer : (t : Task) (n : ℕ) (s u : Status) (out more : List ℕ) → IsTold t n s out → IsTold t n u more → s ≡ u
-  one_answer t n Yes Yes out more x y = refl
-  one_answer t n Yes No out more x y = absurd (never_both t x.machine y.environment x.realizes y.defeats)
-  one_answer t n Yes Undecided out more x y = absurd (found_or_open t n (Made x.machine) y.cause x.is_found y.is_open)
-  one_answer t n No Yes out more x y = absurd (never_both t y.machine x.environment y.realizes x.defeats)
-  one_answer t n No No out more x y = refl
-  one_answer t n No Undecided out more x y =
-      absurd (found_or_open t n (Defeated x.environment) y.cause x.is_found y.is_open)
-  one_answer t n Undecided Yes out more x y = absurd (found_or_open t n (Made y.machine) x.cause y.is_found x.is_open)
-  one_answer t n Undecided No out more x y =
-      absurd (found_or_open t n (Defeated y.environment) x.cause y.is_found x.is_open)
-  one_answer t n Undecided Undecided out more x y = refl
-  one_answer t n Yes _ out more x y = absurd y
-  one_answer t n No _ out more x y = absurd y
-  one_answer t n Undecided _ out more x y = absurd y
-  one_answer t n _ u out more x y = absurd x
+-- a task isn't left open within a limit in which an outcome is found
+found_or_open : (t : Task) (n : ℕ) (r : Outcome) (c : Cause) → IsFound t n r → IsOpenFor t n c → ⊥
+found_or_open t n r (Positions m) x y = x.within (one_game t y.1.reading x.reading n y.1.more)
+found_or_open t n r (Closure m) x y = absurd (omega (arith, (too_large t x.reading).0 y.1, x.few))
 
-  told_refused : (n : ℕ) (text out more : List ℕ) (s : Status) → StandsForTask text (λ t. IsTold t n s out)
-      → IsRefusedAsTask text more → ⊥
-  told_refused n text out more s x r = task_or_fault text x.task r.fault x.is_text r.is_fault
+one_answer : (t : Task) (n : ℕ) (s u : Status) (out more : List ℕ) → IsTold t n s out → IsTold t n u more → s ≡ u
+one_answer t n Yes Yes out more x y = refl
+one_answer t n Yes No out more x y = absurd (never_both t x.machine y.environment x.realizes y.defeats)
+one_answer t n Yes Undecided out more x y = absurd (found_or_open t n (Made x.machine) y.cause x.is_found y.is_open)
+one_answer t n No Yes out more x y = absurd (never_both t y.machine x.environment y.realizes x.defeats)
+one_answer t n No No out more x y = refl
+one_answer t n No Undecided out more x y =
+    absurd (found_or_open t n (Defeated x.environment) y.cause x.is_found y.is_open)
+one_answer t n Undecided Yes out more x y = absurd (found_or_open t n (Made y.machine) x.cause y.is_found x.is_open)
+one_answer t n Undecided No out more x y =
+    absurd (found_or_open t n (Defeated y.environment) x.cause y.is_found x.is_open)
+one_answer t n Undecided Undecided out more x y = refl
+one_answer t n Yes _ out more x y = absurd y
+one_answer t n No _ out more x y = absurd y
+one_answer t n Undecided _ out more x y = absurd y
+one_answer t n _ u out more x y = absurd x
 
-  one_way : (n : ℕ) (text out more : List ℕ) (s u : Status) → Tells n text out s → Tells n text more u → s ≡ u
-  one_way n text out more s u (too_long long) (too_long also) = refl
-  one_way n text out more s u (too_long long) (refused r) = refl
-  one_way n text out more s u (too_long long) (told v y) = absurd (omega (arith, long, y.is_short))
-  one_way n text out more s u (refused r) (too_long long) = refl
-  one_way n text out more s u (refused r) (refused q) = refl
-  one_way n text out more s u (refused r) (told v y) = absurd (told_refused n text more out v y r)
-  one_way n text out more s u (told v x) (too_long long) = absurd (omega (arith, long, x.is_short))
-  one_way n text out more s u (told v x) (refused r) = absurd (told_refused n text out more v x r)
-  one_way n text out more s u (told v x) (told w y) =
-      one_answer x.task n v w out more x.is_so
-      (subst (λ t. IsTold t n w more) (one_task text y.task x.task y.is_text x.is_text) y.is_so)
+told_refused : (n : ℕ) (text out more : List ℕ) (s : Status) → StandsForTask text (λ t. IsTold t n s out)
+    → IsRefusedAsTask text more → ⊥
+told_refused n text out more s x r = task_or_fault text x.task r.fault x.is_text r.is_fault
 
-  pub one_told : (n : ℕ) (text : List ℕ) (s u : Status) (out more : List ℕ) → IsTaskAnswered n text s out
-      → IsTaskAnswered n text u more → s ≡ u
-  one_told n text s u out more x y = one_way n text out more s u (tells n text s out x) (tells n text u more y)
+one_way : (n : ℕ) (text out more : List ℕ) (s u : Status) → Tells n text out s → Tells n text more u → s ≡ u
+one_way n text out more s u (too_long long) (too_long also) = refl
+one_way n text out more s u (too_long long) (refused r) = refl
+one_way n text out more s u (too_long long) (told v y) = absurd (omega (arith, long, y.is_short))
+one_way n text out more s u (refused r) (too_long long) = refl
+one_way n text out more s u (refused r) (refused q) = refl
+one_way n text out more s u (refused r) (told v y) = absurd (told_refused n text more out v y r)
+one_way n text out more s u (told v x) (too_long long) = absurd (omega (arith, long, x.is_short))
+one_way n text out more s u (told v x) (refused r) = absurd (told_refused n text out more v x r)
+one_way n text out more s u (told v x) (told w y) =
+    one_answer x.task n v w out more x.is_so
+    (subst (λ t. IsTold t n w more) (one_task text y.task x.task y.is_text x.is_text) y.is_so)
 
-  -- ---- some status
+pub one_told : (n : ℕ) (text : List ℕ) (s u : Status) (out more : List ℕ) → IsTaskAnswered n text s out
+    → IsTaskAnswered n text u more → s ≡ u
+one_told n text s u out more x y = one_way n text out more s u (tells n text s out x) (tells n text u more y)
 
-  abbrev Told : Task → ℕ → Type 0
-  Told t n = (s : Status) × ((out : List ℕ) × IsTold t n s out)
+-- ---- some status
 
-  found_told : (t : Task) (n : ℕ) (r : Outcome) → IsTask t → IsFound t n r → Told t n
-  found_told t n (Made m) ok is = (Yes, (outcome_text t (Made m), record {
-    machine = m;
-    realizes = found_are_right t n (Made m) ok is;
-    is_found = is;
-    is_written = refl;
-  }))
-  found_told t n (Defeated e) ok is = (No, (outcome_text t (Defeated e), record {
-    environment = e;
-    defeats = found_are_right t n (Defeated e) ok is;
-    is_found = is;
-    is_written = refl;
-  }))
+abbrev Told : Task → ℕ → Type 0
+Told t n = (s : Status) × ((out : List ℕ) × IsTold t n s out)
 
-  open_told : (t : Task) (n : ℕ) (c : Cause) → IsOpenFor t n c → Told t n
-  open_told t n c is =
-      (Undecided, (undecided_text t c, record { cause = c; is_open = is; is_written = refl }))
+found_told : (t : Task) (n : ℕ) (r : Outcome) → IsTask t → IsFound t n r → Told t n
+found_told t n (Made m) ok is = (Yes, (outcome_text t (Made m), record {
+  machine = m;
+  realizes = found_right t n (Made m) ok is;
+  is_found = is;
+  is_written = refl;
+}))
+found_told t n (Defeated e) ok is = (No, (outcome_text t (Defeated e), record {
+  environment = e;
+  defeats = found_right t n (Defeated e) ok is;
+  is_found = is;
+  is_written = refl;
+}))
 
-  some_told : (t : Task) (n : ℕ) → IsTask t → Told t n
-  some_told t n ok =
-      ⊎_elim
-      (λ (large : IsLarge t). open_told t n (Closure most_nodes) (refl, large))
-      (⊎_elim
-      (λ (more : PassesLimit t n). open_told t n (Positions n) (refl, more))
-      (λ (r : (r : Outcome) × IsFound t n r). found_told t n r.0 ok r.1))
-      (some_outcome t n)
+open_told : (t : Task) (n : ℕ) (c : Cause) → IsOpenFor t n c → Told t n
+open_told t n c is =
+    (Undecided, (undecided_text t c, record { cause = c; is_open = is; is_written = refl }))
 
-  abbrev Due : ℕ → List ℕ → Type 0
-  Due n text = (s : Status) × ((out : List ℕ) × IsTaskAnswered n text s out)
+some_told : (t : Task) (n : ℕ) → IsTask t → Told t n
+some_told t n ok =
+    ⊎_elim
+    (λ (large : IsLarge t). open_told t n (Closure most_nodes) (refl, large))
+    (⊎_elim
+    (λ (more : PassesLimit t n). open_told t n (Positions n) (refl, more))
+    (λ (r : (r : Outcome) × IsFound t n r). found_told t n r.0 ok r.1))
+    (some_outcome t n)
 
-  on_read : (n : ℕ) (text : List ℕ) (t : Task) → length text ≤ longest_task → IsTaskText text t → Due n text
-  on_read n text t short is =
-      let x = some_told t n is.is_task in
-      (x.0, (x.1.0, told_due n text t x.0 x.1.0 short is x.1.1))
+abbrev Due : ℕ → List ℕ → Type 0
+Due n text = (s : Status) × ((out : List ℕ) × IsTaskAnswered n text s out)
 
-  pub on_task : (n : ℕ) (text : List ℕ) → Due n text
-  on_task n text =
-      ⊎_elim
-      (λ (long : longest_task < length text). (Text, (refused_length, inl (long, refl))))
-      (λ (short : length text ≤ longest_task).
-      ⊎_elim
-      (λ (read : (t : Task) × IsTaskText text t). on_read n text read.0 short read.1)
-      (λ (bad : (fault : DocFault) × IsTaskFault text fault).
+on_read : (n : ℕ) (text : List ℕ) (t : Task) → length text ≤ longest_task → IsTaskText text t → Due n text
+on_read n text t short is =
+    let x = some_told t n is.is_task in
+    (x.0, (x.1.0, told_due n text t x.0 x.1.0 short is x.1.1))
+
+pub on_task : (n : ℕ) (text : List ℕ) → Due n text
+on_task n text =
+    ⊎_elim
+    (λ (long : longest_task < length text). (Text, (refused_length, inl (long, refl))))
+    (λ (short : length text ≤ longest_task).
+    ⊎_elim
+    (λ (read : (t : Task) × IsTaskText text t). on_read n text read.0 short read.1)
+    (λ (bad : (fault : DocFault) × IsTaskFault text fault).
+    (
+      Text,
       (
-        Text,
-        (
-          refused_document bad.0,
-          inr (record { fault = bad.0; is_short = short; is_fault = bad.1; is_written = refl }),
-        ),
-      ))
-      (some_answer text))
-      (cases_lt longest_task (length text))
+        refused_document bad.0,
+        inr (record { fault = bad.0; is_short = short; is_fault = bad.1; is_written = refl }),
+      ),
+    ))
+    (some_answer text))
+    (cases_lt longest_task (length text))

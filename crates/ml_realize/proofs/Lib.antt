@@ -20,3 +20,5 @@ pub mod DecidedLetters
 pub mod SomeReadings
 -- some answer is due for each task
 pub mod SomeOutcomes
+-- no task has both
+pub mod NeverBoth
