@@ -1,12 +1,14 @@
 -- What is due for `realize`: exactly one status.
 --
+--   told_of        == what is found is told
 --   told_due       == what is told of the task of a text is due
 --   one_told       == one status is due at most
 --   on_task        == some status is due, with some output
-use Rattle.std.proofs.Common.{◌≡◌, ℕ, ◌<◌, ◌≤◌, ◌⊎◌, List, length, Some, refl, sym, subst, inl, inr, ⊎_elim, arith}
+use Rattle.std.proofs.Common.{◌≡◌, ℕ, ◌<◌, ◌≤◌, ◌⊎◌, true, List, length, Some, refl, sym, subst, inl, inr, ⊎_elim, arith}
 use Rattle.std.proofs.lemmas.Bool.{cases_lt}
 use Rattle.ml_base.specs.declared.doc_fault.DocFault.{DocFault}
 use Rattle.ml_realize.specs.Laws.{OneSize}
+use Rattle.ml_realize.specs.Realizing.{IsRight}
 use Rattle.ml_realize.specs.TaskGame.{IsFound, IsLarge, PassesLimit, most_nodes}
 use Rattle.ml_realize.proofs.NeverBoth.{never_both}
 use Rattle.ml_realize.proofs.OneGame.{one_game}
@@ -23,8 +25,21 @@ use Rattle.ml_task.proofs.OneAnswer.{one_task, some_answer, task_or_fault}
 use Rattle.ml_word_automaton.proofs.BlockGraphs.{one_size}
 use Rattle.ml_driver.specs.Statuses.{longest_task, refused_document, refused_length}
 use Rattle.ml_driver.specs.Tasks.{IsDefeated, IsLeftOpen, IsOpenFor, IsRealized, IsRefusedAsTask, IsTaskAnswered, IsTold, StandsForTask}
+use Rattle.ml_driver.specs.private.Outcomes.{status_of}
 use Rattle.ml_driver.specs.declared.status.Status.{Status}
 use Rattle.ml_driver.specs.declared.status.Status.TheVariants.{Yes, No, Undecided, Words, Text, ReadFault, WriteFault, NoMemory}
+
+-- ---- what is found is told
+
+pub told_of : (t : Task) (n : ℕ) (r : Outcome) (out : List ℕ)
+    → IsRight t r
+    → IsFound t n r
+    → out ≡ outcome_text t r
+    → IsTold t n (status_of r) out
+told_of t n (Made m) out right is written =
+    record { machine = m; realizes = right; is_found = is; is_written = written }
+told_of t n (Defeated e) out right is written =
+    record { environment = e; defeats = right; is_found = is; is_written = written }
 
 -- ---- what is told is due
 
@@ -110,18 +125,8 @@ abbrev Told : Task → ℕ → Type 0
 Told t n = (s : Status) × ((out : List ℕ) × IsTold t n s out)
 
 found_told : (t : Task) (n : ℕ) (r : Outcome) → IsTask t → IsFound t n r → Told t n
-found_told t n (Made m) ok is = (Yes, (outcome_text t (Made m), record {
-  machine = m;
-  realizes = found_right t n (Made m) ok is;
-  is_found = is;
-  is_written = refl;
-}))
-found_told t n (Defeated e) ok is = (No, (outcome_text t (Defeated e), record {
-  environment = e;
-  defeats = found_right t n (Defeated e) ok is;
-  is_found = is;
-  is_written = refl;
-}))
+found_told t n r ok is =
+    (status_of r, (outcome_text t r, told_of t n r (outcome_text t r) (found_right t n r ok is) is refl))
 
 open_told : (t : Task) (n : ℕ) (c : Cause) → IsOpenFor t n c → Told t n
 open_told t n c is =

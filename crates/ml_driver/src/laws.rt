@@ -1,5 +1,7 @@
 // What holds of what is due by its definition alone: the functions do nothing, their contracts are the theorems.
 ghost use Rattle.std.specs.Prelude.{◌≡◌, ◌+◌, ◌^◌};
+ghost use Rattle.ml_realize.specs.TaskGame.{most_nodes};
+ghost use Rattle.ml_task.specs.declared.limits.TheConstants.{LONGEST_TASK_TEXT};
 ghost use Rattle.ml_driver.specs.declared.command.TheConstants.{DEFAULT_LIMIT, GREATEST_LIMIT, LONGEST_DOCUMENT, LONGEST_NUMBER, LONGEST_TEXT};
 ghost use Rattle.ml_driver.specs.Laws.{AnswersAreExact, DecideIsChecked, DecidedAreChecked, FindIsChecked, FindsAsDecided, GraphsFit, OneAutomatonDue, OneAutomatonWritten, OneDue, OneMeasure, OneQuotientDue, OneUnlessOpen, ProveIsChecked, ProvesAsDecided, QuotientsAreCheckedAlike, QuotientsAreRead, RefutedAreAccepted, SameWinners, SomeDue, SomeDueForWords, SomeGame, ValidIsChecked, WrittenAcceptsTheSame, WrittenHoldsTheSame};
 
@@ -42,11 +44,13 @@ pub fn decided_are_checked()
     ensures proved { ProveIsChecked }
 {}
 
-/// The text of a formula has at most 1,048,576 bytes, a document at most 2^63 - 1. A decision game may have 50,000
-/// positions, and a deterministic automaton as many states, where the words don't say, and 200,000 at most; a number has at
-/// most six digits.
+/// The text of a formula has at most 1,048,576 bytes, that of a task 2,097,152, a document at most 2^63 - 1. A game may have
+/// 50,000 positions, and a deterministic automaton as many states, where the words don't say, and 200,000 at most; a number
+/// has at most six digits. The word automaton of a task is too large with more than 4,096 nodes.
 pub fn limits()
     ensures text { LONGEST_TEXT ≡ 1048576 }
+    ensures task { LONGEST_TASK_TEXT ≡ 2097152 }
+    ensures automaton { most_nodes ≡ 4096 }
     ensures document { LONGEST_DOCUMENT + 1 ≡ 2 ^ 63 }
     ensures usual { DEFAULT_LIMIT ≡ 50000 }
     ensures greatest { GREATEST_LIMIT ≡ 200000 }
