@@ -156,8 +156,7 @@ on_task n text =
     (λ (short : length text ≤ longest_task).
     ⊎_elim
     (λ (read : (t : Task) × IsTaskText text t). on_read n text read.0 short read.1)
-    (λ (bad : (fault : DocFault) × IsTaskFault text fault).
-    (
+    (λ (bad : (fault : DocFault) × IsTaskFault text fault). (
       Text,
       (
         refused_document bad.0,
