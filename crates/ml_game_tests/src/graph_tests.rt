@@ -29,10 +29,23 @@ fn built(
     requires few { length nodes.now < 4294967296 }
     requires priorities { length priorities.now ≡ length nodes.now }
 {
-    let props = vec![in alloc; Name::new(alloc, b"p")?]?;
-    let actions = vec![in alloc; Action::new(alloc, b"_")?]?;
     let nodes = Vec::from_slice(alloc, nodes)?;
     let priorities = Vec::from_slice(alloc, priorities)?;
+    built_of(alloc, nodes, priorities, root)
+}
+
+// The same of lists of one's own.
+fn built_of(
+    alloc: Global,
+    nodes: Vec<Node>,
+    priorities: Vec<u32>,
+    root: u32,
+) -> Result<Result<ModalGraph, GraphRefusal>, Fail>
+    requires few { length nodes.items < 4294967296 }
+    requires priorities { length priorities.items ≡ length nodes.items }
+{
+    let props = vec![in alloc; Name::new(alloc, b"p")?]?;
+    let actions = vec![in alloc; Action::new(alloc, b"_")?]?;
     Ok(ModalGraph::build(nodes, priorities, root, props, actions))
 }
 
@@ -47,6 +60,18 @@ pub(crate) fn graph_of(
         return Err(Fail::new("other numbers of nodes and priorities"));
     }
     Ok(built(alloc, nodes, priorities, root)??)
+}
+
+// The graph of these nodes and priorities, of which there are as many, and few. Its root is the first node.
+pub(crate) fn large_graph(
+    alloc: Global,
+    nodes: Vec<Node>,
+    priorities: Vec<u32>,
+) -> Result<ModalGraph, Fail> {
+    if nodes.len() > 99 || priorities.len() != nodes.len() {
+        return Err(Fail::new("other numbers of nodes and priorities"));
+    }
+    Ok(built_of(alloc, nodes, priorities, 0)??)
 }
 
 // Three states: an edge from 0 to 1, from 1 to 1 and from 0 to 2; p is true at 1 alone.

@@ -3,6 +3,7 @@
 // histories stand in `ml_tests`.
 //
 //   answer_tests   models and refutations, made of games that Even or Odd wins
+//   branch_tests   branches of random graphs against spreads that are made anew
 //   graph_tests    graphs built and refused, and the graphs that other tests take
 //   product_tests  decision games explored
 //   sequent_tests  spreads, clashes, splits and steps
@@ -10,6 +11,8 @@
 
 #[cfg(test)]
 mod answer_tests;
+#[cfg(test)]
+mod branch_tests;
 #[cfg(test)]
 mod graph_tests;
 #[cfg(test)]

@@ -12,7 +12,11 @@ use std::alloc::Global;
 use std::test::Fail;
 
 // The sequent of these nodes, if they are nodes of the graph.
-fn sequent_of(alloc: Global, graph: &ModalGraph, nodes: &[u32]) -> Result<Option<Sequent>, Fail>
+pub(crate) fn sequent_of(
+    alloc: Global,
+    graph: &ModalGraph,
+    nodes: &[u32],
+) -> Result<Option<Sequent>, Fail>
     ensures { IfOk result (λ found. IfSome found (λ sequent. All (λ n. n < size graph.now) sequent)) }
 {
     let sequent = Sequent::of(alloc, nodes)?;

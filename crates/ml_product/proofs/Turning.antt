@@ -239,7 +239,8 @@ chosen_turned g limit b d e v sp k o l r at k_is no_clash least first second =
 -- ---- what is new
 
 -- a number that is new belongs to the position that was added
-pub new_place : (g : Graph) (ps qs : List Position) (p : Position) (n w : ℕ) → IsAdded ps p qs n → length ps ≤ w → w < length qs
+pub new_place : (g : Graph) (ps qs : List Position) (p : Position) (n w : ℕ) → IsAdded ps p qs n → length ps ≤ w →
+    w < length qs
     → (w ≡ n) × (at_place g qs w ≡ p)
 new_place g ps qs p n w added high low = by_kind added.grown
   where
@@ -371,7 +372,8 @@ module _ (g : Graph) (limit : ℕ) (a : Pool) (v : ℕ) (sp : SpreadList) (at : 
       → IsNumbered limit (positions_of b) (position_of x) d w
       → AddsUnchosen g (positions_of a) b
       → AddsUnchosen g (positions_of a) d
-  led_unchosen xs rest x b d w is was numbered before = λ k high low. new_at k high low (cases_lt k (length (positions_of b)))
+  led_unchosen xs rest x b d w is was numbered before = λ k high low. new_at k high low
+      (cases_lt k (length (positions_of b)))
     where
       longer : IsLonger (positions_of b) (positions_of d)
       longer = (joined g limit b was.explores (position_of x) (made_reached x (among xs rest x is)) d w numbered).longer
@@ -380,7 +382,8 @@ module _ (g : Graph) (limit : ℕ) (a : Pool) (v : ℕ) (sp : SpreadList) (at : 
           → (k < length (positions_of b)) ⊎ (length (positions_of b) ≤ k)
           → (at_place g (positions_of d) k).choice ≡ []
       new_at k high low (inl early) =
-          ap (λ (p : Position). p.choice) (longer_place g (positions_of b) (positions_of d) longer k early) ∙ before k high early
+          ap (λ (p : Position). p.choice) (longer_place g (positions_of b) (positions_of d) longer k early) ∙
+          before k high early
       new_at k high low (inr late) =
           let new = new_place g (positions_of b) (positions_of d) (position_of x) w k numbered.added late low in
           ap (λ (p : Position). p.choice) new.1

@@ -13,7 +13,7 @@
 --   started_underway, started_waiting == the start alone
 --   all_turned      == where nothing waits, all positions are turned
 use Rattle.std.proofs.Common.{ℕ, ◌≡◌, ◌+◌, ◌-◌, ◌*◌, ◌<◌, ◌≤◌, ◌⊎◌, inl, inr, List, [], ◌∷◌, length, length-append, slice_get, get_or, Some, refl, sym, ap, ◌∙◌, subst, arith}
-use Rattle.std.proofs.lemmas.Bool.{cases_lt}
+use Rattle.std.proofs.lemmas.Bool.{cases_lt, cases_eq}
 use Rattle.std.proofs.lemmas.List.{get_or_past, get_or_default}
 use Rattle.std.proofs.lemmas.Option.{slice_get_within, get_or_from_slice_get}
 use Rattle.ml_lists.specs.Member.{IsMember}
@@ -45,15 +45,6 @@ found_within rs v found = by_place (cases_lt v (length rs))
     by_place (inl low) = low
     by_place (inr past) = absurd (found (get_or_past rs v recorded.Waiting past))
 
--- a number is one or another one
-apart : (v w : ℕ) → (w ≡ v) ⊎ (w ≡ v → ⊥)
-apart v w = by_order (cases_lt v w) (cases_lt w v)
-  where
-    by_order : (v < w) ⊎ (w ≤ v) → (w < v) ⊎ (v ≤ w) → (w ≡ v) ⊎ (w ≡ v → ⊥)
-    by_order (inl more) second = inr (λ e. omega arith)
-    by_order (inr less) (inl below) = inr (λ e. omega arith)
-    by_order (inr less) (inr more) = inl (omega arith)
-
 -- what was found at a position is recorded
 module _ (g : Graph) (limit : ℕ) (b d : Pool) (rs ts : List Recorded) (v : ℕ) (r : Recorded)
     (u : IsUnderway g limit b rs) (low : v < length (positions_of b))
@@ -65,9 +56,14 @@ module _ (g : Graph) (limit : ℕ) (b d : Pool) (rs ts : List Recorded) (v : ℕ
   recorded_underway = record {
     explores = is.becomes.explores;
     starts = longer_get (positions_of b) (positions_of d) longer 0 (start_of g) u.starts;
-    within = records.few (length (positions_of d)) (omega (arith, u.within, longer_long (positions_of b) (positions_of d) longer))
+    within = records.few (length (positions_of d)) (omega (
+      arith,
+      u.within,
+      longer_long (positions_of b)
+          (positions_of d) longer,
+    ))
         (omega (arith, low, longer_long (positions_of b) (positions_of d) longer));
-    recorded = λ w found. at_number w found (apart v w);
+    recorded = λ w found. at_number w found (cases_eq w v);
   }
     where
       at_number : (w : ℕ) → (IsWaiting ts w → ⊥) → (w ≡ v) ⊎ (w ≡ v → ⊥)
@@ -75,7 +71,8 @@ module _ (g : Graph) (limit : ℕ) (b d : Pool) (rs ts : List Recorded) (v : ℕ
       at_number w found (inl here) =
           let place : at_place g (positions_of b) v ≡ at_place g (positions_of d) w =
           sym (ap (at_place g (positions_of d)) here ∙ longer_place g (positions_of b) (positions_of d) longer v low) in
-          let what : r ≡ get_or ts w recorded.Waiting = sym (ap (λ k. get_or ts k recorded.Waiting) here ∙ records.here) in
+          let what : r ≡ get_or ts w recorded.Waiting = sym (ap (λ k. get_or ts k recorded.Waiting) here ∙
+          records.here) in
           subst (IsRecorded g (positions_of d) (at_place g (positions_of d) w)) what
           (subst (λ p. IsRecorded g (positions_of d) p r) place is.recorded)
       at_number w found (inr other) =
@@ -89,7 +86,7 @@ module _ (g : Graph) (limit : ℕ) (b d : Pool) (rs ts : List Recorded) (v : ℕ
           (get_or rs w recorded.Waiting) (u.recorded w before)))
 
   pub recorded_kept : (r ≡ recorded.Waiting → ⊥) → (w : ℕ) → (IsWaiting rs w → ⊥) → IsWaiting ts w → ⊥
-  recorded_kept real w found waits = at_number (apart v w)
+  recorded_kept real w found waits = at_number (cases_eq w v)
     where
       at_number : (w ≡ v) ⊎ (w ≡ v → ⊥) → ⊥
       at_number (inl here) = real (sym (ap (λ k. get_or ts k recorded.Waiting) here ∙ records.here) ∙ waits)
@@ -133,7 +130,8 @@ ended_explored g limit b d rs ts v r u low is records = record {
   kept = recorded_kept g limit b d rs ts v r u low is.turned records is.is_found;
   done = recorded_done g limit b d rs ts v r u low is.turned records is.is_found;
   waiting = λ ws before w w_low waits.
-      new_or_old w w_low (still_waiting g limit b d rs ts v r u low is.turned records ws is.is_found before w w_low waits);
+      new_or_old w w_low (still_waiting g limit b d rs ts v r u low is.turned records ws is.is_found before w w_low
+      waits);
 }
   where
     new_or_old : {A : Type 0} (w : ℕ) → w < length (positions_of d)
@@ -143,7 +141,8 @@ ended_explored g limit b d rs ts v r u low is records = record {
     new_or_old w w_low (inr late) = inr (is.unchosen w late w_low)
 
 -- where one is, only the positions with a side more wait
-pub opened_waiting : (g : Graph) (limit : ℕ) (b d : Pool) (rs ts : List Recorded) (v : ℕ) (sp : SpreadList) (node l r : ℕ)
+pub opened_waiting : (g : Graph) (limit : ℕ) (b d : Pool) (rs ts : List Recorded) (v : ℕ) (sp : SpreadList)
+    (node l r : ℕ)
     → IsUnderway g limit b rs
     → v < length (positions_of b)
     → IsOpened g limit (positions_of b) v sp d node l r
@@ -152,7 +151,8 @@ pub opened_waiting : (g : Graph) (limit : ℕ) (b d : Pool) (rs ts : List Record
     → AreWaiting g b rs (v ∷ ws)
     → AreWaiting g d ts (l ∷ r ∷ ws)
 opened_waiting g limit b d rs ts v sp node l r u low is records ws before w w_low waits =
-    by_kind (still_waiting g limit b d rs ts v (recorded.Chosen l r) u low is.turned records ws (λ e. cc) before w w_low waits)
+    by_kind (still_waiting g limit b d rs ts v (recorded.Chosen l r) u low is.turned records ws (λ e. cc) before w
+    w_low waits)
   where
     by_kind : (IsMember w ws ⊎ ((at_place g (positions_of d) w).choice ≡ [])) ⊎ (length (positions_of b) ≤ w)
         → IsMember w (l ∷ r ∷ ws) ⊎ ((at_place g (positions_of d) w).choice ≡ [])
@@ -165,7 +165,8 @@ opened_waiting g limit b d rs ts v sp node l r u low is records ws before w w_lo
         new (inr right) = inl (inr (inl right))
 
 -- both of them are explored, one behind the other
-pub explored_both : (g : Graph) (limit : ℕ) (b d e f : Pool) (rs ts us xs : List Recorded) (v : ℕ) (sp : SpreadList) (node l r : ℕ)
+pub explored_both : (g : Graph) (limit : ℕ) (b d e f : Pool) (rs ts us xs : List Recorded) (v : ℕ)
+    (sp : SpreadList) (node l r : ℕ)
     → IsUnderway g limit b rs
     → v < length (positions_of b)
     → IsOpened g limit (positions_of b) v sp d node l r
@@ -179,7 +180,8 @@ explored_both g limit b d e f rs ts us xs v sp node l r u low is records one two
       (longer_both (positions_of b) (positions_of d) (positions_of e) is.turned.becomes.longer one.longer) two.longer;
   kept = λ w found. two.kept w (one.kept w
       (recorded_kept g limit b d rs ts v (recorded.Chosen l r) u low is.turned records (λ x. cc) w found));
-  done = two.kept v (one.kept v (recorded_done g limit b d rs ts v (recorded.Chosen l r) u low is.turned records (λ x. cc)));
+  done = two.kept v (one.kept v (recorded_done g limit b d rs ts v (recorded.Chosen l r) u low is.turned records
+      (λ x. cc)));
   waiting = λ ws before. two.waiting ws (one.waiting (r ∷ ws)
       (opened_waiting g limit b d rs ts v sp node l r u low is records ws before));
 }
@@ -209,7 +211,7 @@ pub explored_next : (g : Graph) (limit : ℕ) (b d : Pool) (rs ts : List Recorde
     → IsExplored g limit b rs v d ts
     → ((w : ℕ) → w < v → IsWaiting rs w → ⊥)
     → (w : ℕ) → w < v + 1 → IsWaiting ts w → ⊥
-explored_next g limit b d rs ts v is before w low waits = by_number (apart v w)
+explored_next g limit b d rs ts v is before w low waits = by_number (cases_eq w v)
   where
     by_number : (w ≡ v) ⊎ (w ≡ v → ⊥) → ⊥
     by_number (inl here) = is.done (subst (IsWaiting ts) here waits)
@@ -326,7 +328,8 @@ module _ (g : Graph) (limit : ℕ) (b : Pool) (rs : List Recorded) (u : IsUnderw
   pub all_long : length rs ≡ length (positions_of b)
   all_long = by_order (cases_lt (length rs) (length (positions_of b)))
     where
-      by_order : (length rs < length (positions_of b)) ⊎ (length (positions_of b) ≤ length rs) → length rs ≡ length (positions_of b)
+      by_order : (length rs < length (positions_of b)) ⊎ (length (positions_of b) ≤ length rs) → length rs ≡ length
+          (positions_of b)
       by_order (inl less) = absurd (all (length rs) less (get_or_past rs (length rs) recorded.Waiting (omega arith)))
       by_order (inr more) = omega (arith, u.within)
 

@@ -1,4 +1,5 @@
-// The exploration of a decision: from a position without a choice along both sides of each open or-node, with one branch.
+// The exploration of a decision: from a position without a choice along both sides of each open or-node, with one
+// branch.
 ghost use Rattle.std.specs.Prelude.{◌≡◌, ◌<◌, ◌≤◌, ◌^◌, [], OnOk, IsErrOf, length};
 ghost use Rattle.ml_graph.specs.Graph.{IsGraph};
 ghost use Rattle.ml_sequent.specs.Choice.{with_side};

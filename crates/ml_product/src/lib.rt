@@ -10,8 +10,8 @@
 // the law that bounds its size (`Bound`, proved in `laws`). `proofs/` has lemmas on positions that are reached and
 // on the game of an arena, for the crates above.
 //
-// Inside, a `Pool` holds the positions so far, `take_turn` does what is to be done at one of them, and `explore` goes on until
-// there are no new ones.
+// Inside, a `Pool` holds the positions so far, `take_turn` does what is to be done at one of them, and `explore` goes
+// on until there are no new ones.
 //
 // Below stand `ml_sequent`, the local phase, `ml_history`, the histories of traces, and `ml_parity`.
 #![tactic(auto)]

@@ -6,8 +6,8 @@ use ml_base::NoMemory;
 use ml_parity::Player;
 use std::alloc::Global;
 
-/// What was found at a position: nothing yet, that it is lost, or won, or the numbers of the positions to which its moves
-/// lead.
+/// What was found at a position: nothing yet, that it is lost, or won, or the numbers of the positions to which its
+/// moves lead.
 #[derive(Debug, Drop)]
 pub(crate) enum Recorded {
     Waiting,

@@ -20,8 +20,8 @@ use ml_base::NoMemory;
 use ml_sequent::{Branch, Choice, Side};
 use std::alloc::Global;
 
-/// What is done at a position: nothing more than is recorded of it, or a side is chosen at an or-node, which leads to these
-/// numbers.
+/// What is done at a position: nothing more than is recorded of it, or a side is chosen at an or-node, which leads to
+/// these numbers.
 #[derive(Debug, Drop)]
 pub(crate) enum Turn {
     Ended(Recorded),
@@ -106,7 +106,8 @@ fn choose(
     requires at { IsAt branch.now.graph limit pool.old v branch.now.spread }
     requires no_clash { (x : ClashCause) → ¬ (IsCause branch.now.graph branch.now.spread x) }
     requires least { IsLeastOpenOr branch.now.graph branch.now.spread node }
-    ensures turned { IfOk result (IsTurnOf branch.now.graph limit (positions_of pool.old) v branch.now.spread pool.new) }
+    ensures turned { IfOk result (IsTurnOf branch.now.graph limit (positions_of pool.old) v branch.now.spread
+        pool.new) }
     ensures passed { IsErrOf result refusal.Passed → HasMoreThan branch.now.graph limit }
 {
     let left = chosen(pool, limit, v, terms.neutral, node, Side::Left)?;
@@ -188,7 +189,8 @@ fn go_on(
     requires sequent { branch.old.sequent ≡ (at_place branch.old.graph (positions_of pool.old) v).sequent }
     requires resolved { IsResolved branch.old.graph branch.old.spread }
     ensures same { branch.new ≡ branch.old }
-    ensures turned { IfOk result (IsTurnOf branch.old.graph limit (positions_of pool.old) v branch.old.spread pool.new) }
+    ensures turned { IfOk result (IsTurnOf branch.old.graph limit (positions_of pool.old) v branch.old.spread
+        pool.new) }
     ensures passed { IsErrOf result refusal.Passed → HasMoreThan branch.old.graph limit }
 {
     let diamonds = branch.diamonds()?;
@@ -214,7 +216,8 @@ pub(crate) fn take_turn(
     requires at { IsAt branch.old.graph limit pool.old v branch.old.spread }
     requires sequent { branch.old.sequent ≡ (at_place branch.old.graph (positions_of pool.old) v).sequent }
     ensures same { branch.new ≡ branch.old }
-    ensures turned { IfOk result (IsTurnOf branch.old.graph limit (positions_of pool.old) v branch.old.spread pool.new) }
+    ensures turned { IfOk result (IsTurnOf branch.old.graph limit (positions_of pool.old) v branch.old.spread
+        pool.new) }
     ensures passed { IsErrOf result refusal.Passed → HasMoreThan branch.old.graph limit }
 {
     if branch.is_clashing()? {

@@ -58,7 +58,8 @@ side_without zero (p ∷ c) d n low none = by_test (cases_Bool (p.0 == n))
     by_test (inl test) = inr (eqb-true p.0 n test)
     by_test (inr test) = inl (cond-false (p.0 == n) (Some p.1) (side_of c n) test ∙ none)
 side_without (suc i) (p ∷ c) d n low none =
-    by_first (cond-none (p.0 == n) p.1 (side_of (without i c) n) none) (λ later. side_without i c d n (omega arith) later)
+    by_first (cond-none (p.0 == n) p.1 (side_of (without i c) n) none) (λ later. side_without i c d n (omega arith)
+    later)
   where
     by_first : ((p.0 == n) ≡ false) × (side_of (without i c) n ≡ None)
         → (side_of (without i c) n ≡ None → (side_of c n ≡ None) ⊎ ((get_or c i d).0 ≡ n))

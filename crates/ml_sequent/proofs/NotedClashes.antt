@@ -32,7 +32,8 @@ use Rattle.ml_sequent.specs.private.Trails.{spread_at}
 -- ---- cycles
 
 -- a local child of a node is one of its operands
-operand_of : (c : List (ℕ × Side)) (n m : ℕ) (x : Node) (o : Option Side) → side_of c n ≡ o → IsMember m (children_of c n x)
+operand_of : (c : List (ℕ × Side)) (n m : ℕ) (x : Node) (o : Option Side) → side_of c n ≡ o → IsMember m
+    (children_of c n x)
     → IsMember m (operands x)
 operand_of c n m node.True o is h = h
 operand_of c n m node.False o is h = h
@@ -72,24 +73,34 @@ module _ (g : Graph) (ranks : List ℕ) (falls : Falls g ranks) (c : List (ℕ �
 
 -- ---- clashes
 
-module _ (g : Graph) (ranks nodes : List ℕ) (c : List (ℕ × Side)) (x : NotesList) (is : IsNoted g ranks nodes x.done x) where
+module _ (g : Graph) (ranks nodes : List ℕ) (c : List (ℕ × Side)) (x : NotesList)
+    (is : IsNoted g ranks nodes x.done x) where
   -- where no place has a conflict or may lie on a cycle, nothing clashes
   pub none_clashes : Falls g ranks → x.done ≡ length nodes → x.conflict ≡ None → x.suspect ≡ None
       → (y : ClashCause) → IsCause g (spread_at nodes c) y → ⊥
   none_clashes falls all no_conflict no_suspect = by_cause
     where
       calm : (j : ℕ) → j < length nodes → IsConflict g nodes j → ⊥
-      calm j low = (subst (IsFirstPlace (IsConflict g nodes) x.done) no_conflict is.conflict) j (omega (arith, low, all))
+      calm j low = (subst (IsFirstPlace (IsConflict g nodes) x.done) no_conflict is.conflict) j
+          (omega (arith, low, all))
 
       ranked : (j : ℕ) → j < length nodes → MayCycle g ranks (get_or nodes j 0) → ⊥
       ranked j low =
-          (subst (IsFirstPlace (λ i. MayCycle g ranks (get_or nodes i 0)) x.done) no_suspect is.suspect) j (omega (arith, low, all))
+          (subst (IsFirstPlace (λ i. MayCycle g ranks (get_or nodes i 0)) x.done) no_suspect is.suspect) j
+          (omega (arith, low, all))
 
-      opposed : (i j p : ℕ) (positive : Bool) → i < j → j < length nodes → node_at g (get_or nodes j 0) ≡ node.Lit p positive
+      opposed : (i j p : ℕ) (positive : Bool) → i < j → j < length nodes → node_at g (get_or nodes j 0) ≡ node.Lit
+          p positive
           → node_at g (get_or nodes i 0) ≡ node.Lit p (other positive)
           → ⊥
       opposed i j p positive before low here there =
-          calm j low (inr (record { prop = p; positive = positive; here = here; there = record { place = i; before = before; is = there } }))
+          calm j low (inr (record {
+            prop = p;
+            positive = positive;
+            here = here;
+            there = record
+                { place = i; before = before; is = there };
+          }))
 
       pair : (i j : ℕ) → i < length nodes → j < length nodes → IsPair g (get_or nodes i 0) (get_or nodes j 0)
           → (i < j) ⊎ (j ≤ i)
@@ -122,7 +133,8 @@ module _ (g : Graph) (ranks nodes : List ℕ) (c : List (ℕ × Side)) (x : Note
               ranked p.place p.below (subst (MayCycle g ranks) (sym (p.holds 0)) (odd, unranked))
 
   -- a place with a conflict is a cause
-  pub conflict_told : x.done ≤ length nodes → (x.conflict ≡ None → ⊥) → (y : ClashCause) × IsCause g (spread_at nodes c) y
+  pub conflict_told : x.done ≤ length nodes → (x.conflict ≡ None → ⊥) → (y : ClashCause) × IsCause g
+      (spread_at nodes c) y
   conflict_told within some = by_conflict x.conflict refl
     where
       at : (b : ℕ) → b < length nodes → IsConflict g nodes b → (y : ClashCause) × IsCause g (spread_at nodes c) y

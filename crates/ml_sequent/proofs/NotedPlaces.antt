@@ -1,6 +1,7 @@
 -- What is noted of the places of a trail, when one place more is noted, when the trail grows, and when it is cut.
 --
---   first_more, first_cut, first_same == the first place of a kind: with one place more, of fewer places, of an equal kind
+--   first_more, first_cut, first_same == the first place of a kind: with one place more, of fewer places, of an
+--                                        equal kind
 --   noted_none  == of no places nothing has to be noted
 --   noted_more  == one place more
 --   noted_front == of a trail with the same front
@@ -25,7 +26,8 @@ use Rattle.ml_sequent.proofs.ChoicesWith.{side_kept}
 
 module _ (P : ℕ → Type 0) where
   -- with one place more
-  pub first_more : (k : ℕ) (o : Option ℕ) (b : Bool) → IsFirstPlace P k o → IsTrue b ↔ P k → IsFirstPlace P (k + 1) (noted_first o b k)
+  pub first_more : (k : ℕ) (o : Option ℕ) (b : Bool) → IsFirstPlace P k o → IsTrue b ↔ P k → IsFirstPlace P (k + 1)
+      (noted_first o b k)
   first_more k (Some j) b is told = (omega (arith, is.0), is.1, is.2)
   first_more k None true is told = (omega arith, told.0 refl, is)
   first_more k None false is told = λ j low h. at j low h (cases_lt j k)
@@ -53,7 +55,8 @@ module _ (P : ℕ → Type 0) where
           (λ j low. is.2 j (omega arith))
 
 -- of an equal kind
-pub first_same : (P Q : ℕ → Type 0) (k : ℕ) (o : Option ℕ) → ((j : ℕ) → j < k → P j → Q j) → ((j : ℕ) → j < k → Q j → P j)
+pub first_same : (P Q : ℕ → Type 0) (k : ℕ) (o : Option ℕ) → ((j : ℕ) → j < k → P j → Q j) →
+    ((j : ℕ) → j < k → Q j → P j)
     → IsFirstPlace P k o
     → IsFirstPlace Q k o
 first_same P Q k None to from is = λ j low h. is j low (from j low h)
@@ -82,8 +85,10 @@ noted_more g ranks nodes k x y conflict suspect firsts is_conflict is_suspect co
 }
 
 -- of a trail with the same front
-module _ (g : Graph) (nodes nodes2 : List ℕ) (k : ℕ) (same : (j : ℕ) → j < k → get_or nodes2 j 0 ≡ get_or nodes j 0) where
-  firsts_front : (positive : Bool) (firsts : List ℕ) → AreFirsts g nodes k positive firsts → AreFirsts g nodes2 k positive firsts
+module _ (g : Graph) (nodes nodes2 : List ℕ) (k : ℕ) (same : (j : ℕ) → j < k → get_or nodes2 j 0 ≡ get_or nodes j
+    0) where
+  firsts_front : (positive : Bool) (firsts : List ℕ) → AreFirsts g nodes k positive firsts → AreFirsts g nodes2 k
+      positive firsts
   firsts_front positive firsts are = record {
     sizes = are.sizes;
     first = λ j p low is. first j p low (are.first j p low (ap (node_at g) (sym (same j low)) ∙ is));
@@ -94,7 +99,8 @@ module _ (g : Graph) (nodes nodes2 : List ℕ) (k : ℕ) (same : (j : ℕ) → j
           → (get_or firsts p 0 ≤ j) × (node_at g (get_or nodes2 (get_or firsts p 0) 0) ≡ node.Lit p positive)
       first j p low h = let early = h.0 in (h.0, ap (node_at g) (same (get_or firsts p 0) (omega arith)) ∙ h.1)
 
-  literal_front : (j p : ℕ) (positive : Bool) → j ≤ k → HasLiteral g nodes j p positive → HasLiteral g nodes2 j p positive
+  literal_front : (j p : ℕ) (positive : Bool) → j ≤ k → HasLiteral g nodes j p positive → HasLiteral g nodes2 j p
+      positive
   literal_front j p positive low h = record {
     place = h.place;
     before = h.before;
@@ -121,8 +127,10 @@ noted_front g ranks nodes nodes2 k x same is = record {
   };
   conflict = first_same (IsConflict g nodes) (IsConflict g nodes2) k x.conflict (conflict_front g nodes nodes2 k same)
       (conflict_front g nodes2 nodes k (λ j low. sym (same j low))) is.conflict;
-  suspect = first_same (λ j. MayCycle g ranks (get_or nodes j 0)) (λ j. MayCycle g ranks (get_or nodes2 j 0)) k x.suspect
-      (λ j low h. subst (MayCycle g ranks) (sym (same j low)) h) (λ j low h. subst (MayCycle g ranks) (same j low) h) is.suspect;
+  suspect = first_same (λ j. MayCycle g ranks (get_or nodes j 0)) (λ j. MayCycle g ranks (get_or nodes2 j 0)) k
+      x.suspect
+      (λ j low h. subst (MayCycle g ranks) (sym (same j low)) h) (λ j low h. subst (MayCycle g ranks) (same j low)
+      h) is.suspect;
   room = is.room;
 }
 
@@ -236,7 +244,8 @@ keeps_cut g ranks c nodes len x keeps = record {
   within = omega (arith, keeps.within, length-take len nodes);
   noted = noted_front g ranks nodes (take len nodes) (min x.done len) (cut len x) same
       (noted_fewer g ranks nodes x.done len x keeps.noted);
-  has_open = open_front g c nodes (take len nodes) x.done (min x.done len) x.candidates (omega arith) same keeps.has_open;
+  has_open = open_front g c nodes (take len nodes) x.done (min x.done len) x.candidates (omega arith) same
+      keeps.has_open;
 }
   where
     same : (j : ℕ) → j < min x.done len → get_or (take len nodes) j 0 ≡ get_or nodes j 0
@@ -254,7 +263,8 @@ keeps_closed g ranks c c2 nodes x less keeps = record {
 }
 
 -- with a side more, and a longer trail
-pub keeps_chosen : (g : Graph) (ranks : List ℕ) (c c2 : List (ℕ × Side)) (nodes nodes2 : List ℕ) (x : NotesList) (at : ℕ) (s : Side)
+pub keeps_chosen : (g : Graph) (ranks : List ℕ) (c c2 : List (ℕ × Side)) (nodes nodes2 : List ℕ) (x : NotesList)
+    (at : ℕ) (s : Side)
     → side_of c at ≡ None
     → c2 ≡ with_side c at s
     → take (length nodes) nodes2 ≡ nodes
@@ -262,14 +272,16 @@ pub keeps_chosen : (g : Graph) (ranks : List ℕ) (c c2 : List (ℕ × Side)) (n
     → KeepsNotes g ranks c2 nodes2 x
 keeps_chosen g ranks c c2 nodes nodes2 x at s none is grown keeps =
     keeps_longer g ranks c2 nodes nodes2 x grown
-    (keeps_closed g ranks c c2 nodes x (λ n h. unchosen n (side_of c n) refl (subst (λ d. side_of d n ≡ None) is h)) keeps)
+    (keeps_closed g ranks c c2 nodes x (λ n h. unchosen n (side_of c n) refl
+    (subst (λ d. side_of d n ≡ None) is h)) keeps)
   where
     unchosen : (n : ℕ) (o : Option Side) → side_of c n ≡ o → side_of (with_side c at s) n ≡ None → side_of c n ≡ None
     unchosen n None e h = e
     unchosen n (Some y) e h = let both = sym (side_kept c at s n y none e) ∙ h in absurd (cc)
 
 -- where a side is taken back, and its node is a candidate again
-pub keeps_undone : (g : Graph) (ranks : List ℕ) (c c2 : List (ℕ × Side)) (nodes nodes2 : List ℕ) (len : ℕ) (x y z : NotesList)
+pub keeps_undone : (g : Graph) (ranks : List ℕ) (c c2 : List (ℕ × Side)) (nodes nodes2 : List ℕ) (len : ℕ)
+    (x y z : NotesList)
     (n : ℕ) (left : Option ℕ)
     → nodes2 ≡ take len nodes
     → y ≡ cut len x
@@ -284,7 +296,13 @@ pub keeps_undone : (g : Graph) (ranks : List ℕ) (c c2 : List (ℕ × Side)) (n
 keeps_undone g ranks c c2 nodes nodes2 len x y z n left trail is_cut is_left others same room kept added keeps =
     subst (KeepsNotes g ranks c2 nodes2) (sym same) (record {
       within = short.within;
-      noted = record { literals = short.noted.literals; conflict = short.noted.conflict; suspect = short.noted.suspect; room = room ∙ short.noted.room };
+      noted = record {
+        literals = short.noted.literals;
+        conflict = short.noted.conflict;
+        suspect =
+            short.noted.suspect;
+        room = room ∙ short.noted.room;
+      };
       has_open = λ j low is. at j low is (others (get_or nodes2 j 0) is.unchosen);
     })
   where
@@ -316,7 +334,8 @@ keeps_undone g ranks c c2 nodes nodes2 len x y z n left trail is_cut is_left oth
         subst (Holds z.candidates) own (added fits)
 
 -- where none is taken back
-pub keeps_left : (g : Graph) (ranks : List ℕ) (c c2 : List (ℕ × Side)) (nodes nodes2 : List ℕ) (len : ℕ) (x y : NotesList)
+pub keeps_left : (g : Graph) (ranks : List ℕ) (c c2 : List (ℕ × Side)) (nodes nodes2 : List ℕ) (len : ℕ)
+    (x y : NotesList)
     (left : Option ℕ)
     → nodes2 ≡ take len nodes
     → y ≡ cut len x
@@ -327,7 +346,8 @@ pub keeps_left : (g : Graph) (ranks : List ℕ) (c c2 : List (ℕ × Side)) (nod
 keeps_left g ranks c c2 nodes nodes2 len x y left trail is_cut none others keeps =
     subst (λ xs. KeepsNotes g ranks c2 xs y) (sym trail)
     (subst (KeepsNotes g ranks c2 (take len nodes)) (sym is_cut)
-    (keeps_closed g ranks c c2 (take len nodes) (cut len x) (λ m h. at m (others m h)) (keeps_cut g ranks c nodes len x keeps)))
+    (keeps_closed g ranks c c2 (take len nodes) (cut len x) (λ m h. at m (others m h))
+    (keeps_cut g ranks c nodes len x keeps)))
   where
     at : (m : ℕ) → (side_of c m ≡ None) ⊎ (left ≡ Some m) → side_of c m ≡ None
     at m (inl before) = before
@@ -345,7 +365,13 @@ pub keeps_looked : (g : Graph) (ranks : List ℕ) (c : List (ℕ × Side)) (node
 keeps_looked g ranks c nodes y z all noted has same room kept =
     subst (KeepsNotes g ranks c nodes) (sym same) (record {
       within = omega (arith, all);
-      noted = record { literals = noted.literals; conflict = noted.conflict; suspect = noted.suspect; room = room ∙ noted.room };
+      noted = record {
+        literals = noted.literals;
+        conflict = noted.conflict;
+        suspect = noted.suspect;
+        room = room ∙
+            noted.room;
+      };
       has_open = λ j low is. kept (get_or nodes j 0) (has j low is)
           (record { member = place-member nodes j 0 (omega (arith, low, all)); is_open = is });
     })

@@ -83,7 +83,8 @@ module _ (room place p : ℕ) (slots : List (Option ℕ)) (some : 0 < p) (low : 
   winner = lesser (get_or slots (2 * p) None) (get_or slots (2 * p + 1) None)
 
   other : (k : ℕ) → (k ≡ p → ⊥)
-      → get_or (set slots p (lesser (get_or slots (2 * p) None) (get_or slots (2 * p + 1) None))) k None ≡ get_or slots k None
+      → get_or (set slots p (lesser (get_or slots (2 * p) None) (get_or slots (2 * p + 1) None))) k None ≡ get_or
+      slots k None
   other k apart = get_or-set_other slots p k winner None apart
 
   sides : (i : ℕ) → (2 * i ≡ p → ⊥) → (2 * i + 1 ≡ p → ⊥)
@@ -153,7 +154,8 @@ pub replayed : (room place p n : ℕ) (slots first : List (Option ℕ)) (one oth
     → IsEntered room n x first slots
     → IsSlotted room (set slots p winner) (Meets p) × IsEntered room n x first (set slots p winner)
 replayed room place p n slots first one other winner x low more half left right won is was =
-    let is_left : one ≡ get_or slots (2 * p) None = left ∙ sym (get_or_default slots (2 * p) None one (omega (arith, is.long))) in
+    let is_left : one ≡ get_or slots (2 * p) None = left ∙ sym (get_or_default slots (2 * p) None one
+    (omega (arith, is.long))) in
     let is_right : other ≡ get_or slots (2 * p + 1) None =
     right ∙ sym (get_or_default slots (2 * p + 1) None other (omega (arith, is.long))) in
     let same : winner ≡ lesser (get_or slots (2 * p) None) (get_or slots (2 * p + 1) None) =
@@ -169,13 +171,15 @@ replayed room place p n slots first one other winner x low more half left right 
 
 module _ (room : ℕ) (slots : List (Option ℕ)) (is : IsTournament room slots) where
   abbrev Climbs : ℕ → ℕ → Type 0
-  Climbs fuel n = (p : ℕ) → p < fuel → 0 < p → p < 2 * room → AtMost (get_or slots p None) n → AtMost (get_or slots 1 None) n
+  Climbs fuel n = (p : ℕ) → p < fuel → 0 < p → p < 2 * room → AtMost (get_or slots p None) n → AtMost
+      (get_or slots 1 None) n
 
   abbrev Falls : ℕ → ℕ → Type 0
   Falls fuel n = (p : ℕ) → 2 * room ≤ p + fuel → 0 < p → p < 2 * room → get_or slots p None ≡ Some n
       → Holds (record { room = room; slots = slots }) n
 
-  top_at_most : (fuel k n : ℕ) → k < fuel → 0 < k → k < 2 * room → AtMost (get_or slots k None) n → AtMost (get_or slots 1 None) n
+  top_at_most : (fuel k n : ℕ) → k < fuel → 0 < k → k < 2 * room → AtMost (get_or slots k None) n → AtMost
+      (get_or slots 1 None) n
   top_at_most zero k n short some low a = absurd (omega arith)
   top_at_most (suc fuel) k n short some low a = by_place (λ p. top_at_most fuel p n) (cases_lt 1 k)
     where
@@ -234,5 +238,6 @@ module _ (room : ℕ) (slots : List (Option ℕ)) (is : IsTournament room slots)
       by_top None e = λ n h. (let a = below n h in let is_some = a.is in let both = sym e ∙ is_some in absurd (cc))
       by_top (Some m) e = (
         won_by (2 * room) 1 m (omega arith) (omega arith) (omega arith) e,
-        λ n h. (let a = below n h in let is_some = a.is in let both = sym e ∙ is_some in let same : m ≡ a.number = cc in omega (arith, a.less)),
+        λ n h. (let a = below n h in let is_some = a.is in let both = sym e ∙ is_some in let same : m ≡ a.number =
+            cc in omega (arith, a.less)),
       )

@@ -216,14 +216,14 @@ impl<'a> Branch<'a> {
         self.trail.contains(node) && is_diamond(*self.phase.graph().node(node))
     }
 
-    /// Why the spread clashes: the first cause in the order of variants, and in each by the numbers; `None` exactly where it
-    /// doesn't clash.
+    /// Why the spread clashes: the first cause in the order of variants, and in each by the numbers; `None` exactly
+    /// where it doesn't clash.
     ///
     /// # Errors
     /// `NoMemory` alone.
     ///
-    /// Cost: linear in the nodes that are new since this or another question was asked. Where the spread clashes, or has a
-    /// node of odd priority that may lie on a closed local walk, that of the spread and of its clash.
+    /// Cost: linear in the nodes that are new since this or another question was asked. Where the spread clashes, or
+    /// has a node of odd priority that may lie on a closed local walk, that of the spread and of its clash.
     pub fn clash(&mut self) -> Result<Option<ClashCause>, NoMemory>
         requires { IsSpread self.old.graph self.old.spread }
         ensures same { self.new ≡ self.old }
@@ -244,9 +244,9 @@ impl<'a> Branch<'a> {
     /// # Errors
     /// `NoMemory` alone.
     ///
-    /// Cost: linear in the nodes that are new since this or another question was asked. Where the spread has a node of odd
-    /// priority that may lie on a closed local walk, and neither False nor both literals of a proposition, that of the
-    /// spread and of its clash.
+    /// Cost: linear in the nodes that are new since this or another question was asked. Where the spread has a node of
+    /// odd priority that may lie on a closed local walk, and neither False nor both literals of a proposition, that of
+    /// the spread and of its clash.
     pub fn is_clashing(&mut self) -> Result<bool, NoMemory>
         requires { IsSpread self.old.graph self.old.spread }
         ensures same { self.new ≡ self.old }
@@ -278,8 +278,8 @@ impl<'a> Branch<'a> {
 
     /// The least or-node of the spread for which no side was chosen; `None` exactly where there is none.
     ///
-    /// Cost: linear in the nodes that are new since this or another question was asked, and logarithmic in the graph for
-    /// each or-node that was chosen or taken back since.
+    /// Cost: linear in the nodes that are new since this or another question was asked, and logarithmic in the graph
+    /// for each or-node that was chosen or taken back since.
     pub fn open_or(&mut self) -> Option<u32>
         requires { IsSpread self.old.graph self.old.spread }
         ensures same { self.new ≡ self.old }

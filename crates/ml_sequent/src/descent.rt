@@ -1,4 +1,5 @@
-// Which nodes lie on no closed local walk, whatever is chosen: those with a rank above the ranks of both their children.
+// Which nodes lie on no closed local walk, whatever is chosen: those with a rank above the ranks of both their
+// children.
 ghost use Rattle.std.specs.Prelude.{◌≡◌, ◌<◌, ◌↔◌, ℕ, IfOk, OnOk, IsTrue, IfSome, length, get_or, All};
 ghost use Rattle.ml_lists.specs.Member.{IsMember};
 ghost use Rattle.ml_graph.specs.Graph.{size, node_at};
@@ -12,8 +13,8 @@ use std::alloc::Global;
 use std::cmp::max;
 use std::marker::Model;
 
-/// A rank for each node of a graph, above those of the children of an And or an Or; 0 for those that got none. Contracts
-/// see the list of ranks.
+/// A rank for each node of a graph, above those of the children of an And or an Or; 0 for those that got none.
+/// Contracts see the list of ranks.
 #[derive(Drop)]
 pub(crate) struct Descent {
     ranks: Vec<u32>,
@@ -28,8 +29,8 @@ impl Model for Descent {
 }
 
 impl Descent {
-    /// The ranks of a graph. A node that a node of odd priority reaches by operands gets one where no local walk from it
-    /// closes.
+    /// The ranks of a graph. A node that a node of odd priority reaches by operands gets one where no local walk from
+    /// it closes.
     ///
     /// Cost: linear in the nodes.
     pub fn of(alloc: Global, graph: &ModalGraph) -> Result<Descent, NoMemory>

@@ -11,8 +11,8 @@ use ml_graph::{ModalGraph, Node};
 use std::alloc::Global;
 use std::marker::Model;
 
-/// For each proposition the first place on a trail with a literal of it, for both signs; of others the place may be any.
-/// Contracts see both lists.
+/// For each proposition the first place on a trail with a literal of it, for both signs; of others the place may be
+/// any. Contracts see both lists.
 #[derive(Drop)]
 pub(crate) struct Literals {
     positives: Vec<usize>,

@@ -1,5 +1,5 @@
-// What is noted of the nodes of a trail, place by place, so that a clash and the least open or-node cost no look at all of
-// them.
+// What is noted of the nodes of a trail, place by place, so that a clash and the least open or-node cost no look at all
+// of them.
 ghost use Rattle.std.specs.Prelude.{◌≡◌, ◌<◌, ◌≤◌, ◌+◌, ◌⊎◌, ◌↔◌, ℕ, List, [], None, IfOk, IsTrue, length, get_or};
 ghost use Rattle.ml_graph.specs.Graph.{size, node_at};
 ghost use Rattle.ml_graph.specs.declared.node.Node.TheVariants.{Or};
@@ -20,9 +20,9 @@ use ml_graph::{ModalGraph, Node};
 use std::alloc::Global;
 use std::marker::Model;
 
-/// How many places of a trail were noted, and of these: where its literals stand first; the first place with False or with
-/// a literal whose opposite stands before it; the first one with a node that may lie on a cycle; and among other numbers
-/// all or-nodes without a side.
+/// How many places of a trail were noted, and of these: where its literals stand first; the first place with False or
+/// with a literal whose opposite stands before it; the first one with a node that may lie on a cycle; and among other
+/// numbers all or-nodes without a side.
 #[derive(Drop)]
 pub(crate) struct Notes {
     done: usize,

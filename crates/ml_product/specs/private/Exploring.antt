@@ -12,7 +12,8 @@
 --   IsLed              == the vertices are those of the moves from the position at v, along diamonds
 --   IsTurned           == the pool that was has become that which is, and what is found at the position at v was recorded
 --   AddsUnchosen g ps b == no side is chosen at the positions that are new
---   IsEnded, IsOpened  == so it was, and no side is chosen next, or one is at this or-node, which leads to these numbers
+--   IsEnded, IsOpened  == so it was, and no side is chosen next, or one is at this or-node, which leads to these
+--                         numbers
 --   IsTurnOf           == the one or the other
 --   IsWaiting rs v     == nothing was recorded yet of the position at v
 --   Records rs v r ts  == ts is rs with r recorded at v
@@ -91,7 +92,8 @@ target_of x = To (position_of x)
 
 -- no side is chosen at the positions that are new
 abbrev pub AddsUnchosen : Graph → List Position → Pool → Type 0
-AddsUnchosen g ps b = (w : ℕ) → length ps ≤ w → w < length (positions_of b) → (at_place g (positions_of b) w).choice ≡ []
+AddsUnchosen g ps b = (w : ℕ) → length ps ≤ w → w < length (positions_of b) →
+    (at_place g (positions_of b) w).choice ≡ []
 
 -- and the vertices are those of the moves from the position at v, along diamonds
 pub record IsLed (g : Graph) (limit : ℕ) (ps : List Position) (v : ℕ) (b : Pool) (vs : Vec ℕ) : Type 0 where
@@ -111,7 +113,8 @@ pub record IsEnded (g : Graph) (limit : ℕ) (ps : List Position) (v : ℕ) (b :
   pub unchosen : AddsUnchosen g ps b
 
 -- or a side is chosen at this or-node, which leads to these numbers
-pub record IsOpened (g : Graph) (limit : ℕ) (ps : List Position) (v : ℕ) (sp : SpreadList) (b : Pool) (node l r : ℕ) : Type 0 where
+pub record IsOpened (g : Graph) (limit : ℕ) (ps : List Position) (v : ℕ) (sp : SpreadList) (b : Pool)
+    (node l r : ℕ) : Type 0 where
   pub turned : IsTurned g limit ps v b (recorded.Chosen l r)
   pub is_open : IsOpenOr g sp node
   pub left : slice_get (positions_of b) l ≡ Some (with_chosen g (at_place g ps v) node Left)
@@ -147,7 +150,8 @@ AreWaiting g b rs ws = (v : ℕ) → v < length (positions_of b) → IsWaiting r
     → IsMember v ws ⊎ ((at_place g (positions_of b) v).choice ≡ [])
 
 -- the exploration went on from the position at v
-pub record IsExplored (g : Graph) (limit : ℕ) (b : Pool) (rs : List Recorded) (v : ℕ) (d : Pool) (ts : List Recorded) : Type 0 where
+pub record IsExplored (g : Graph) (limit : ℕ) (b : Pool) (rs : List Recorded) (v : ℕ) (d : Pool)
+    (ts : List Recorded) : Type 0 where
   pub underway : IsUnderway g limit d ts
   pub longer : IsLonger (positions_of b) (positions_of d)
   pub kept : (w : ℕ) → (IsWaiting rs w → ⊥) → IsWaiting ts w → ⊥

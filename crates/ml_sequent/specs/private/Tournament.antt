@@ -1,9 +1,10 @@
 -- Tournaments: the least of numbers that come and go. Only private contracts and proofs cite what stands here.
 --
---   TournamentList      == a bound, and for each place the winner of its match; the number n stands at the place n behind
---                          the bound
+--   TournamentList      == a bound, and for each place the winner of its match; the number n stands n
+--                          places behind the bound
 --   Holds t n           == the number n is one of them
---   IsSlotted room slots open == there is room for all, and each match but those that are open was won by the lesser side
+--   IsSlotted room slots open == there is room for all, and each match but those that are open was won by the lesser
+--                                side
 --   IsTournament room slots == all matches were played, and the places of numbers have these alone
 --   IsEntered room n x slots slots2 == behind the bound slots2 is slots with x at the place of n
 use Rattle.std.specs.Prelude.{ℕ, ◌≡◌, ◌<◌, ◌+◌, ◌*◌, List, Option, Some, None, length, get_or}

@@ -1,5 +1,6 @@
 -- The position is turned, its sides are explored one behind the other, and the branch is as before.
-use Rattle.std.proofs.Common.{◌≡◌, ◌<◌, ◌≤◌, ◌+◌, ◌-◌, ◌*◌, ◌^◌, length, Result, Ok, Err, OnOk, sym, ◌∙◌, subst, arith}
+use Rattle.std.proofs.Common.{◌≡◌, ◌<◌, ◌≤◌, ◌+◌, ◌-◌, ◌*◌, ◌^◌, length, sym, ◌∙◌, subst, arith}
+use Rattle.std.proofs.lemmas.Result.{on_ok_weaker}
 use Rattle.ml_graph.specs.Graph.{Graph, IsGraph, size}
 use Rattle.ml_sequent.specs.declared.choice.Side.TheVariants.{Left, Right}
 use Rattle.ml_sequent.specs.Branch.{BranchList}
@@ -70,7 +71,8 @@ explore_at-explore_side-requires-in-Open t c =
     subst (IsTurnOf g limit (positions_of b) v sp d) c.in-Open.is c.in_ok-found.ensures.turned in
     let e = c.explore_side.new.pool in
     let one : IsExplored g limit d c.record-in-Open.new.self c.in-Open.left e c.explore_side.new.turns =
-    subst (λ (x : BranchList). IsExplored x.graph limit d c.record-in-Open.new.self c.in-Open.left e c.explore_side.new.turns)
+    subst (λ (x : BranchList). IsExplored x.graph limit d c.record-in-Open.new.self c.in-Open.left e
+    c.explore_side.new.turns)
     c.in_ok-found.ensures.same c.in_ok-explore_side-in-Open.ensures.explored in
     let side = side_place g limit b e v c.in-Open.right node Right C sp c.requires.at c.requires.sequent
     (longer_get (positions_of d) (positions_of e) one.longer c.in-Open.right
@@ -101,7 +103,8 @@ explore_at-explore_side-requires-in-Open t c =
       ),
     )
 
-pub explore_at-returns-in_ok-record-in-Ended-clause-explored : goal.explore_at-returns-in_ok-record-in-Ended-clause-explored
+pub explore_at-returns-in_ok-record-in-Ended-clause-explored :
+    goal.explore_at-returns-in_ok-record-in-Ended-clause-explored
 explore_at-returns-in_ok-record-in-Ended-clause-explored t c =
     let g = c.args.branch.now.graph in
     let b = c.args.pool.now in
@@ -112,11 +115,8 @@ explore_at-returns-in_ok-record-in-Ended-clause-explored t c =
     ended_explored g c.args.limit b d c.args.turns.now c.record.new.self c.args.v c.in-Ended.found c.requires.underway
     c.requires.at.number ended c.in_ok-record-in-Ended.ensures
 
-on_ok : {T E : Type 0} {P Q : Type 0} (r : Result T E) → (P → Q) → OnOk r P → OnOk r Q
-on_ok (Ok x) f h = f h
-on_ok (Err e) f h = h
-
-pub explore_at-returns-in_ok-explore_side-in-Open-clause-explored : goal.explore_at-returns-in_ok-explore_side-in-Open-clause-explored
+pub explore_at-returns-in_ok-explore_side-in-Open-clause-explored :
+    goal.explore_at-returns-in_ok-explore_side-in-Open-clause-explored
 explore_at-returns-in_ok-explore_side-in-Open-clause-explored t c =
     let g = c.args.branch.now.graph in
     let limit = c.args.limit in
@@ -134,7 +134,7 @@ explore_at-returns-in_ok-explore_side-in-Open-clause-explored t c =
     let one : IsExplored g limit d ts c.in-Open.left e us =
     subst (λ (x : BranchList). IsExplored x.graph limit d ts c.in-Open.left e us) c.in_ok-found.ensures.same
     c.in_ok-explore_side-in-Open.ensures.explored in
-    on_ok c.explore_side-in-Open.result
+    on_ok_weaker c.explore_side-in-Open.result
     (λ two. explored_both g limit b d e f c.args.turns.now ts us xs v sp c.in-Open.node c.in-Open.left c.in-Open.right
     c.requires.underway c.requires.at.number opened c.in_ok-record-in-Open.ensures one
     (subst (λ (x : BranchList). IsExplored x.graph limit e us c.in-Open.right f xs)
@@ -143,7 +143,8 @@ explore_at-returns-in_ok-explore_side-in-Open-clause-explored t c =
 
 pub explore_side-choose-requires-clause-spread : goal.explore_side-choose-requires-clause-spread
 explore_side-choose-requires-clause-spread t c =
-    own_spread c.args.branch.now.graph c.args.branch.now.sequent c.args.branch.now.spread.choice c.args.branch.now.spread
+    own_spread c.args.branch.now.graph c.args.branch.now.sequent c.args.branch.now.spread.choice
+    c.args.branch.now.spread
     c.requires.spread
 
 pub explore_side-explore_at-requires : goal.explore_side-explore_at-requires

@@ -12,16 +12,20 @@ pub loop-v-preserved : goal.loop-v-preserved
 loop-v-preserved c =
     let g = c.args.branch.now.graph in
     let l = c.loop-v in
-    let explored = subst (λ (h : Graph). IsExplored h c.args.limit l.pool l.turns l.v c.explore_from.new.pool c.explore_from.new.turns)
+    let explored = subst (λ (h : Graph). IsExplored h c.args.limit l.pool l.turns l.v c.explore_from.new.pool
+    c.explore_from.new.turns)
     l.invariant.graph c.in_ok-explore_from.ensures.explored in
     record {
       graph = c.in_ok-explore_from.ensures.graph ∙ l.invariant.graph;
       underway = explored.underway;
-      waiting = explored_waiting g c.args.limit l.pool c.explore_from.new.pool l.turns c.explore_from.new.turns l.v explored l.invariant.waiting;
-      done = explored_next g c.args.limit l.pool c.explore_from.new.pool l.turns c.explore_from.new.turns l.v explored l.invariant.done;
+      waiting = explored_waiting g c.args.limit l.pool c.explore_from.new.pool l.turns c.explore_from.new.turns l.v
+          explored l.invariant.waiting;
+      done = explored_next g c.args.limit l.pool c.explore_from.new.pool l.turns c.explore_from.new.turns l.v
+          explored l.invariant.done;
     }
 
-all_done : (c : goal.After-into_vec) → (v : ℕ) → v < length (positions_of c.loop-v.pool) → IsWaiting c.loop-v.turns v → ⊥
+all_done : (c : goal.After-into_vec) → (v : ℕ) → v < length (positions_of c.loop-v.pool) → IsWaiting c.loop-v.turns
+    v → ⊥
 all_done c v low =
     let pool = c.loop-v.pool in
     let long = length-map pool.positions.keys (seen pool.sequents.keys pool.histories.keys) in
@@ -30,9 +34,11 @@ all_done c v low =
 pub returns-clause-turned : goal.returns-clause-turned
 returns-clause-turned c =
     subst (AreTurned c.args.branch.now.graph c.args.limit c.loop-v.pool) (sym c.into_vec.ensures)
-    (all_turned c.args.branch.now.graph c.args.limit c.loop-v.pool c.loop-v.turns c.loop-v.invariant.underway (all_done c))
+    (all_turned c.args.branch.now.graph c.args.limit c.loop-v.pool c.loop-v.turns c.loop-v.invariant.underway
+    (all_done c))
 
 pub returns-clause-whole : goal.returns-clause-whole
 returns-clause-whole c =
     ap length c.into_vec.ensures
-    ∙ all_long c.args.branch.now.graph c.args.limit c.loop-v.pool c.loop-v.turns c.loop-v.invariant.underway (all_done c)
+    ∙ all_long c.args.branch.now.graph c.args.limit c.loop-v.pool c.loop-v.turns c.loop-v.invariant.underway
+    (all_done c)

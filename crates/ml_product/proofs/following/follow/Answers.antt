@@ -30,7 +30,8 @@ letter_of-requires-clause-room c =
     (trace_room g C sp c.args.diamond c.in_ok-sequent.sequent c.in_ok-sequent.traces c.requires.is_graph c.requires.small
     (own_choice g C c.args.view.choice.now sp c.requires.spread) c.requires.diamond.member
     (reached_low g c.requires.is_graph (viewed c.args.view) c.requires.reached)
-    (subst (λ (ns : List ℕ). IsStep c.args.branch.now.graph ns c.args.branch.now.spread c.args.diamond c.in_ok-sequent.sequent
+    (subst (λ (ns : List ℕ). IsStep c.args.branch.now.graph ns c.args.branch.now.spread c.args.diamond
+    c.in_ok-sequent.sequent
     c.in_ok-sequent.traces) c.requires.sequent c.in_ok-sequent.ensures.step))
 
 pub priority_of-requires : goal.priority_of-requires
@@ -39,13 +40,15 @@ priority_of-requires c =
     let p = viewed c.args.view in
     subst (λ k. FitsBelow k c.in_ok-history.mark) (sym c.requires.terms.neutral_is)
     (subst (FitsBelow (neutral g)) (sym c.in_ok-history.ensures.mark)
-    (mark_fits g p (reached_facts g p c.requires.reached) c.args.branch.now.spread c.requires.spread c.in_ok-letter.letter))
+    (mark_fits g p (reached_facts g p c.requires.reached) c.args.branch.now.spread c.requires.spread
+    c.in_ok-letter.letter))
 
 pub returns-clause-follows : goal.returns-clause-follows
 returns-clause-follows c = record {
   traces = c.in_ok-sequent.traces;
   letter = c.in_ok-letter.letter;
-  is_step = subst (λ (ns : List ℕ). IsStep c.args.branch.now.graph ns c.args.branch.now.spread c.args.diamond c.in_ok-sequent.sequent
+  is_step = subst (λ (ns : List ℕ). IsStep c.args.branch.now.graph ns c.args.branch.now.spread c.args.diamond
+      c.in_ok-sequent.sequent
       c.in_ok-sequent.traces) c.requires.sequent c.in_ok-sequent.ensures.step;
   is_letter = subst (λ odds. IsLetterOf odds c.in_ok-sequent.traces c.in_ok-letter.letter)
       (c.deref.ensures.value ∙ c.requires.terms.odds) c.in_ok-letter.ensures;

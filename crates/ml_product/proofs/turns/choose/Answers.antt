@@ -26,9 +26,11 @@ returns-in_err-left-clause-passed c = λ e.
     (at_place g (positions_of b) v) (stands_at g c.args.limit b v sp at))
 
 -- what the first side makes of the pool
-once : (c : goal.After-chosen-arg-2-1) → IsAt c.args.branch.now.graph c.args.limit c.chosen.new.pool c.args.v c.args.branch.now.spread
+once : (c : goal.After-chosen-arg-2-1) → IsAt c.args.branch.now.graph c.args.limit c.chosen.new.pool c.args.v
+    c.args.branch.now.spread
 once c =
-    still_chosen c.args.branch.now.graph c.args.limit c.args.pool.now c.chosen.new.pool c.args.v c.args.branch.now.spread
+    still_chosen c.args.branch.now.graph c.args.limit c.args.pool.now c.chosen.new.pool c.args.v
+    c.args.branch.now.spread
     c.args.terms.now.neutral c.args.node c.in_ok-left.left c.requires.at c.requires.terms.neutral_is
     c.requires.no_clash c.requires.least c.in_ok-left.ensures.ok
 

@@ -18,7 +18,8 @@ follow-requires-clause-diamond c =
 pub loop-diamond-preserved : goal.loop-diamond-preserved
 loop-diamond-preserved c = (
   c.in_ok-follow.ensures.same ∙ c.loop-diamond.invariant.0,
-  steps_pushed c.args.branch.now.graph (viewed c.args.view) c.args.branch.now.spread c.args.diamonds.now c.loop-diamond.diamond-index
+  steps_pushed c.args.branch.now.graph (viewed c.args.view) c.args.branch.now.spread c.args.diamonds.now
+      c.loop-diamond.diamond-index
       c.loop-diamond.made.items c.push.new.self.items c.in_ok-follow.field-0 c.loop-diamond-test.true
       c.in_ok-push.ensures.items c.loop-diamond.invariant.1
       (subst (λ (b : BranchList). Follows b.graph (viewed c.args.view) b.spread

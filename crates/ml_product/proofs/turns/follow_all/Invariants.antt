@@ -6,4 +6,5 @@ use Rattle.ml_product.proofs.turns.follow_all.Given as goal
 
 abbrev pub invariant-loop-diamond : goal.invariant-loop-diamond
 invariant-loop-diamond l = (l.branch ≡ l.fn.branch)
-    × AreSteps l.fn.branch.graph (viewed l.view) l.fn.branch.spread (take l.diamond-index l.diamonds) (map target_of l.made.items)
+    × AreSteps l.fn.branch.graph (viewed l.view) l.fn.branch.spread (take l.diamond-index l.diamonds)
+    (map target_of l.made.items)

@@ -16,7 +16,8 @@ follow_all-requires-clause-reached c =
     let g = c.args.branch.now.graph in
     let b = c.args.pool.now in
     subst (IsReached g)
-    (sym (only_there g c.args.limit b c.args.v c.args.branch.now.spread c.requires.at (viewed c.view-view.result) c.view-view.ensures))
+    (sym (only_there g c.args.limit b c.args.v c.args.branch.now.spread c.requires.at (viewed c.view-view.result)
+    c.view-view.ensures))
     (reached_at g c.args.limit b c.args.v c.args.branch.now.spread c.requires.at)
 
 pub follow_all-requires-clause-spread : goal.follow_all-requires-clause-spread
@@ -24,7 +25,8 @@ follow_all-requires-clause-spread c =
     let g = c.args.branch.now.graph in
     let b = c.args.pool.now in
     subst (λ (p : Position). IsSpreadOf g p.sequent p.choice c.args.branch.now.spread)
-    (sym (only_there g c.args.limit b c.args.v c.args.branch.now.spread c.requires.at (viewed c.view-view.result) c.view-view.ensures))
+    (sym (only_there g c.args.limit b c.args.v c.args.branch.now.spread c.requires.at (viewed c.view-view.result)
+    c.view-view.ensures))
     c.requires.at.is_spread
 
 pub returns-in_err-number-clause-passed : goal.returns-in_err-number-clause-passed

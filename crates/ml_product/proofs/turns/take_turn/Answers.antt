@@ -14,7 +14,8 @@ is_clashing-requires c =
 pub returns-then-branch-clause-turned : goal.returns-then-branch-clause-turned
 returns-then-branch-clause-turned c =
     let found = c.in_ok-is_clashing.ensures.yes c.if-branch.true in
-    clashed c.args.branch.now.graph c.args.limit c.args.pool.now c.args.v c.args.branch.now.spread c.requires.at found.0 found.1
+    clashed c.args.branch.now.graph c.args.limit c.args.pool.now c.args.v c.args.branch.now.spread c.requires.at
+    found.0 found.1
 
 pub open_or-requires : goal.open_or-requires
 open_or-requires c =
@@ -24,7 +25,8 @@ open_or-requires c =
 pub go_on-requires-clause-resolved : goal.go_on-requires-clause-resolved
 go_on-requires-clause-resolved c =
     let before = sym (c.in-None.ensures.same ∙ c.in_ok-is_clashing.ensures.same) in
-    let none = subst (λ (b : BranchList). (n : ℕ) → IsOpenOr b.graph b.spread n → ⊥) c.in_ok-is_clashing.ensures.same c.in-None.ensures.least in
+    let none = subst (λ (b : BranchList). (n : ℕ) → IsOpenOr b.graph b.spread n → ⊥)
+    c.in_ok-is_clashing.ensures.same c.in-None.ensures.least in
     let calm : (x : ClashCause) → IsCause c.args.branch.now.graph c.args.branch.now.spread x → ⊥ =
     λ x h. (let yes = c.in_ok-is_clashing.ensures.no x h in let other = c.if-branch.false in absurd (cc)) in
     subst (λ (b : BranchList). IsResolved b.graph b.spread) before (record { no_clash = calm; none_open = none })

@@ -20,13 +20,16 @@ decide-decide_side-requires t c =
     let w = c.sides_of-l.result.0 in
     let o = c.in-Open.node in
     let turn = subst (IsTurnAt g a s c.args.v) c.in-Open.is c.in_ok-cause.ensures.turn in
-    let less = fewer_left g a s c.requires.odd c.args.v o c.sides_of-l.result.0 c.sides_of-l.result.1 c.sides_of-l.ensures in
-    let more = side_more g a s c.args.v w o Left c.args.branch.now c.requires.graph c.requires.sequent c.requires.spread turn
+    let less = fewer_left g a s c.requires.odd c.args.v o c.sides_of-l.result.0 c.sides_of-l.result.1
+    c.sides_of-l.ensures in
+    let more = side_more g a s c.args.v w o Left c.args.branch.now c.requires.graph c.requires.sequent
+    c.requires.spread turn
     c.sides_of-l.ensures.left in
     subst (λ (x : BranchList). (2 * (size g - length (position_at g a w).choice) + 2 < t)
     × (OddWins g a s × (IsWon a s w × ((x.graph ≡ g) × (IsSpreadOf x.graph x.sequent x.spread.choice x.spread
     × (IsOpenOr x.graph x.spread o × ((x.sequent ≡ (position_at g a w).sequent)
-    × ((with_side x.spread.choice o Left ≡ (position_at g a w).choice) × AreNumbered g a s c.args.vertices.now.keys))))))))
+    × ((with_side x.spread.choice o Left ≡ (position_at g a w).choice) × AreNumbered g a s
+    c.args.vertices.now.keys))))))))
     (sym c.in_ok-cause.ensures.same) (
       omega (arith, less, c.decreases),
       (
@@ -61,13 +64,16 @@ decide-decide_side-requires-in-Open t c =
     let w = c.sides_of-l.result.1 in
     let o = c.in-Open.node in
     let turn = subst (IsTurnAt g a s c.args.v) c.in-Open.is c.in_ok-cause.ensures.turn in
-    let less = fewer_right g a s c.requires.odd c.args.v o c.sides_of-l.result.0 c.sides_of-l.result.1 c.sides_of-l.ensures in
-    let more = side_more g a s c.args.v w o Right c.args.branch.now c.requires.graph c.requires.sequent c.requires.spread turn
+    let less = fewer_right g a s c.requires.odd c.args.v o c.sides_of-l.result.0 c.sides_of-l.result.1
+    c.sides_of-l.ensures in
+    let more = side_more g a s c.args.v w o Right c.args.branch.now c.requires.graph c.requires.sequent
+    c.requires.spread turn
     c.sides_of-l.ensures.right in
     subst (λ (x : BranchList). (2 * (size g - length (position_at g a w).choice) + 2 < t)
     × (OddWins g a s × (IsWon a s w × ((x.graph ≡ g) × (IsSpreadOf x.graph x.sequent x.spread.choice x.spread
     × (IsOpenOr x.graph x.spread o × ((x.sequent ≡ (position_at g a w).sequent)
-    × ((with_side x.spread.choice o Right ≡ (position_at g a w).choice) × AreNumbered g a s c.decide_side.new.vertices.keys))))))))
+    × ((with_side x.spread.choice o Right ≡ (position_at g a w).choice) × AreNumbered g a s
+    c.decide_side.new.vertices.keys))))))))
     (sym (c.in_ok-left-in-Open.ensures.same ∙ c.in_ok-cause.ensures.same)) (
       omega (arith, less, c.decreases),
       (
@@ -96,14 +102,16 @@ decide-decide_side-requires-in-Open t c =
 
 pub decide-returns-in_ok-new-in-Open-2-clause-decided : goal.decide-returns-in_ok-new-in-Open-2-clause-decided
 decide-returns-in_ok-new-in-Open-2-clause-decided t c =
-    let turn = subst (IsTurnAt c.args.game.now.graph.now c.args.game.now.arena.now c.args.game.now.solution.now c.args.v)
+    let turn = subst (IsTurnAt c.args.game.now.graph.now c.args.game.now.arena.now c.args.game.now.solution.now
+    c.args.v)
     c.in-Open.is c.in_ok-cause.ensures.turn in
     let left_is : decision_of c.in_ok-left-in-Open.left ≡ decision_of c.in_ok-new-in-Open.field-0.value =
     ap decision_of (sym c.in_ok-new-in-Open.ensures.ok) in
     let right_is : decision_of c.in_ok-right-in-Open.right ≡ decision_of c.in_ok-new-in-Open-2.field-0.value =
     ap decision_of (sym c.in_ok-new-in-Open-2.ensures.ok) in
     split_decided c.args.game.now.graph.now c.args.game.now.arena.now c.args.game.now.solution.now c.requires.odd
-    c.args.vertices.now.keys c.decide_side.new.vertices.keys c.decide_side-in-Open.new.vertices.keys c.args.v c.in-Open.node
+    c.args.vertices.now.keys c.decide_side.new.vertices.keys c.decide_side-in-Open.new.vertices.keys c.args.v
+    c.in-Open.node
     c.sides_of-l.result.0 c.sides_of-l.result.1 (decision_of c.in_ok-new-in-Open.field-0.value)
     (decision_of c.in_ok-new-in-Open-2.field-0.value) turn c.sides_of-l.ensures
     (subst (IsDecided c.args.game.now.graph.now c.args.game.now.arena.now c.args.game.now.solution.now
@@ -115,7 +123,8 @@ decide-returns-in_ok-new-in-Open-2-clause-decided t c =
 
 pub decide_side-choose-requires-clause-spread : goal.decide_side-choose-requires-clause-spread
 decide_side-choose-requires-clause-spread t c =
-    own_spread c.args.branch.now.graph c.args.branch.now.sequent c.args.branch.now.spread.choice c.args.branch.now.spread
+    own_spread c.args.branch.now.graph c.args.branch.now.sequent c.args.branch.now.spread.choice
+    c.args.branch.now.spread
     c.requires.spread
 
 pub decide_side-decide-requires : goal.decide_side-decide-requires
@@ -123,7 +132,8 @@ decide_side-decide-requires t c =
     let g = c.args.game.now.graph.now in
     let a = c.args.game.now.arena.now in
     let at = spread_more g c.args.branch.now.graph a c.args.w c.args.node c.args.side c.args.branch.now.sequent
-    c.args.branch.now.spread c.choose.new.self.spread c.requires.graph c.requires.spread c.requires.sequent c.requires.choice
+    c.args.branch.now.spread c.choose.new.self.spread c.requires.graph c.requires.spread c.requires.sequent
+    c.requires.choice
     c.in_ok-choose.ensures.of c.in_ok-choose.ensures.is_spread in (
       omega (arith, c.decreases),
       (

@@ -8,7 +8,8 @@ use Rattle.ml_refute.proofs.lost_game.LostGame.diamond_of.Goals as goal
 
 pub index-requires : goal.index-requires
 index-requires c =
-    let leaves = leaving_by _ _ _ c.requires.odd c.args.v c.requires.won c.args.branch.now.spread c.in_ok-diamonds.diamonds.items
+    let leaves = leaving_by _ _ _ c.requires.odd c.args.v c.requires.won c.args.branch.now.spread
+    c.in_ok-diamonds.diamonds.items
     c.place_of_choice-place.result c.requires.spread c.requires.resolved
     (c.in_ok-diamonds.ensures ∙ ap (λ (g : Graph). diamonds_of g c.args.branch.now.spread) c.requires.graph)
     c.place_of_choice-place.ensures in
@@ -16,7 +17,8 @@ index-requires c =
 
 pub returns : goal.returns
 returns c =
-    let leaves = leaving_by _ _ _ c.requires.odd c.args.v c.requires.won c.args.branch.now.spread c.in_ok-diamonds.diamonds.items
+    let leaves = leaving_by _ _ _ c.requires.odd c.args.v c.requires.won c.args.branch.now.spread
+    c.in_ok-diamonds.diamonds.items
     c.place_of_choice-place.result c.requires.spread c.requires.resolved
     (c.in_ok-diamonds.ensures ∙ ap (λ (g : Graph). diamonds_of g c.args.branch.now.spread) c.requires.graph)
     c.place_of_choice-place.ensures in

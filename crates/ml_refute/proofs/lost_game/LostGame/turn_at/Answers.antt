@@ -16,7 +16,8 @@ resolved : (g : Graph) (before after : BranchList) (cause : Option ClashCause)
     → before.graph ≡ g
     → after ≡ before
     → cause ≡ None
-    → MatchOption cause ((x : ClashCause) → IsCause before.graph before.spread x → ⊥) (IsFirstCause before.graph before.spread)
+    → MatchOption cause ((x : ClashCause) → IsCause before.graph before.spread x → ⊥)
+    (IsFirstCause before.graph before.spread)
     → ((n : ℕ) → IsOpenOr after.graph after.spread n → ⊥)
     → IsResolved g before.spread
 resolved g before after cause graph same none calm shut =
@@ -41,7 +42,8 @@ returns-in_ok-diamond_of-in-None-open_or-clause-turn c =
       holds = (
         resolved c.args.self.now.graph.now c.args.branch.now c.clash.new.self c.in_ok-cause.field-0 c.requires.graph
             c.in_ok-cause.ensures.same c.in-None.is c.in_ok-cause.ensures.cause c.in-None-open_or.ensures.least,
-        subst (λ (b : BranchList). LeavesTo c.args.self.now.graph.now c.args.self.now.arena.now c.args.self.now.solution.now
+        subst (λ (b : BranchList). LeavesTo c.args.self.now.graph.now c.args.self.now.arena.now
+            c.args.self.now.solution.now
             c.args.v b.spread c.in_ok-diamond_of-in-None-open_or.field-0)
             (c.in-None-open_or.ensures.same ∙ c.in_ok-cause.ensures.same) c.in_ok-diamond_of-in-None-open_or.ensures,
       );

@@ -64,8 +64,10 @@ pub invariant_of-self-in_err-push : goal.invariant_of-self-in_err-push
 invariant_of-self-in_err-push c = record {
   places = c.self.invariant.places;
   falls = c.self.invariant.falls;
-  notes = keeps_chosen c.self.inside.phase c.self.inside.descent c.self.inside.choice c.take.new.self c.self.inside.trail.nodes
-      c.self.inside.trail.nodes c.self.inside.notes c.args.node c.args.side (unchosen _ c.args.self.now c.args.node c.self.view_is c.requires.node) c.in_ok-place.ensures.taken
+  notes = keeps_chosen c.self.inside.phase c.self.inside.descent c.self.inside.choice c.take.new.self
+      c.self.inside.trail.nodes
+      c.self.inside.trail.nodes c.self.inside.notes c.args.node c.args.side
+      (unchosen _ c.args.self.now c.args.node c.self.view_is c.requires.node) c.in_ok-place.ensures.taken
       (grown_same c.self.inside.trail.nodes) c.self.invariant.notes;
 }
 
@@ -73,8 +75,10 @@ pub invariant_of-self-in_err-reach : goal.invariant_of-self-in_err-reach
 invariant_of-self-in_err-reach c = record {
   places = c.reach.ensures.room ∙ c.self.invariant.places;
   falls = c.self.invariant.falls;
-  notes = keeps_chosen c.self.inside.phase c.self.inside.descent c.self.inside.choice c.take.new.self c.self.inside.trail.nodes
-      c.reach.new.self.nodes c.self.inside.notes c.args.node c.args.side (unchosen _ c.args.self.now c.args.node c.self.view_is c.requires.node) c.in_ok-place.ensures.taken
+  notes = keeps_chosen c.self.inside.phase c.self.inside.descent c.self.inside.choice c.take.new.self
+      c.self.inside.trail.nodes
+      c.reach.new.self.nodes c.self.inside.notes c.args.node c.args.side
+      (unchosen _ c.args.self.now c.args.node c.self.view_is c.requires.node) c.in_ok-place.ensures.taken
       c.reach.ensures.grown c.self.invariant.notes;
 }
 
@@ -82,8 +86,11 @@ pub invariant_of-self-2 : goal.invariant_of-self-2
 invariant_of-self-2 c = record {
   places = c.grow.ensures.room ∙ c.in_ok-reach.ensures.room ∙ c.self.invariant.places;
   falls = c.self.invariant.falls;
-  notes = keeps_chosen c.self.inside.phase c.self.inside.descent c.self.inside.choice c.take.new.self c.self.inside.trail.nodes
-      c.grow.new.trail.nodes c.self.inside.notes c.args.node c.args.side (unchosen _ c.args.self.now c.args.node c.self.view_is c.requires.node) c.in_ok-place.ensures.taken
-      (grown_twice c.self.inside.trail.nodes c.reach.new.self.nodes c.grow.new.trail.nodes c.in_ok-reach.ensures.grown c.grow.ensures.grown)
+  notes = keeps_chosen c.self.inside.phase c.self.inside.descent c.self.inside.choice c.take.new.self
+      c.self.inside.trail.nodes
+      c.grow.new.trail.nodes c.self.inside.notes c.args.node c.args.side
+      (unchosen _ c.args.self.now c.args.node c.self.view_is c.requires.node) c.in_ok-place.ensures.taken
+      (grown_twice c.self.inside.trail.nodes c.reach.new.self.nodes c.grow.new.trail.nodes
+      c.in_ok-reach.ensures.grown c.grow.ensures.grown)
       c.self.invariant.notes;
 }

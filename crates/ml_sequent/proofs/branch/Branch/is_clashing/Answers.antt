@@ -10,5 +10,6 @@ pub returns-then-has_conflict-clause-yes : goal.returns-then-has_conflict-clause
 returns-then-has_conflict-clause-yes c = λ _.
     let a = c.self.inside in
     subst (λ (b : BranchList). (x : ClashCause) × IsCause b.graph b.spread x) (c.self.view_is ∙ c.is_calm.ensures.same)
-    (conflict_told a.phase a.descent a.trail.nodes a.choice a.notes c.self.invariant.notes.noted c.self.invariant.notes.within
+    (conflict_told a.phase a.descent a.trail.nodes a.choice a.notes c.self.invariant.notes.noted
+    c.self.invariant.notes.within
     (c.has_conflict.ensures.0 c.if-has_conflict.true))

@@ -11,6 +11,7 @@ invariant_of-result-2 c =
     record {
       places = ap (λ (t : TrailList). t.room) c.in_ok-trail.ensures ∙ c.size.ensures.value ∙ ap size (sym same);
       falls = subst (λ g. Falls g c.in_ok-descent.descent) (sym same) c.in_ok-descent.ensures;
-      notes = subst (λ g. KeepsNotes g c.in_ok-descent.descent c.empty.result c.in_ok-trail.trail.nodes c.in_ok-notes.notes) (sym same)
+      notes = subst (λ g. KeepsNotes g c.in_ok-descent.descent c.empty.result c.in_ok-trail.trail.nodes
+          c.in_ok-notes.notes) (sym same)
           (c.in_ok-notes.ensures c.in_ok-descent.descent c.empty.result c.in_ok-trail.trail.nodes);
     }

@@ -21,7 +21,8 @@ invariant_of-self c =
       notes = keeps_looked a.phase a.descent a.choice a.trail.nodes y z c.note_all.ensures.done
           (subst (λ g. IsNoted g a.descent a.trail.nodes y.done y) c.graph-graph.ensures c.note_all.ensures.noted)
           (subst (λ g. HasOpen g a.choice a.trail.nodes a.notes.done a.notes.candidates
-          → HasOpen g a.choice a.trail.nodes y.done y.candidates) c.graph-graph.ensures has c.self.invariant.notes.has_open)
+          → HasOpen g a.choice a.trail.nodes y.done y.candidates) c.graph-graph.ensures has
+          c.self.invariant.notes.has_open)
           c.least_open.ensures.others c.least_open.ensures.room
           (subst (λ g. (n : ℕ) → Holds y.candidates n → IsOpenAt g a.choice a.trail.nodes n → Holds z.candidates n)
           c.graph-graph.ensures c.least_open.ensures.kept);

@@ -12,7 +12,8 @@ invariant_of-self c =
 
 pub returns-then-place-len-clause-left : goal.returns-then-place-len-clause-left
 returns-then-place-len-clause-left c =
-    c.remove-node.ensures.items ∙ remove_is c.args.place c.self.inside.pairs.items ∙ ap (without c.args.place) c.self.view_is
+    c.remove-node.ensures.items ∙ remove_is c.args.place c.self.inside.pairs.items ∙ ap (without c.args.place)
+    c.self.view_is
 
 pub returns-then-place-len-clause-others : goal.returns-then-place-len-clause-others
 returns-then-place-len-clause-others c = λ n none.
@@ -23,7 +24,8 @@ returns-then-place-len-clause-others c = λ n none.
     by_kind n c.remove-node.ensures.value (side_without c.args.place pairs c.remove-node.result n low here)
   where
     by_kind : (n : ℕ) → c.remove-node.result ≡ get_or c.self.inside.pairs.items c.args.place c.remove-node.result
-        → (side_of c.self.inside.pairs.items n ≡ None) ⊎ ((get_or c.self.inside.pairs.items c.args.place c.remove-node.result).0 ≡ n)
+        → (side_of c.self.inside.pairs.items n ≡ None) ⊎ ((get_or c.self.inside.pairs.items c.args.place
+        c.remove-node.result).0 ≡ n)
         → (side_of c.args.self.now n ≡ None) ⊎ (Some c.remove-node.result.0 ≡ Some n)
     by_kind n read (inl before) = inl (subst (λ (xs : List (ℕ × Side)). side_of xs n ≡ None) c.self.view_is before)
     by_kind n read (inr is) = inr (ap (λ (p : ℕ × Side). Some p.0) read ∙ ap Some is)

@@ -14,7 +14,8 @@ no_ranks g = record {
   where
     rank : (n : ℕ) → (n < size g) ⊎ (size g ≤ n) → get_or {A = ℕ} (replicate (size g) 0) n 0 ≡ 0
     rank n (inl low) = get_or-replicate (size g) n 0 0 low
-    rank n (inr high) = get_or_past {X = ℕ} (replicate (size g) 0) n 0 (omega (arith, length-replicate {A = ℕ} (size g) 0))
+    rank n (inr high) = get_or_past {X = ℕ} (replicate (size g) 0) n 0 (omega
+        (arith, length-replicate {A = ℕ} (size g) 0))
 
 pub loop-init : goal.loop-init
 loop-init c =

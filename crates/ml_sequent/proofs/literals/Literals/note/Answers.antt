@@ -12,26 +12,34 @@ known_prop g ok n room p positive low same is = prop_in_range g ok n (subst (λ 
 
 pub note_first-requires-clause-prop : goal.note_first-requires-clause-prop
 note_first-requires-clause-prop c =
-    let is : node_at c.args.graph.now c.node.result ≡ Lit c.in-Lit-default-true.prop c.in-Lit-default-true.positive = cc in
-    known_prop c.args.graph.now c.size-size.ensures.is_graph c.node.result c.args.trail.now.room c.in-Lit-default-true.prop
+    let is : node_at c.args.graph.now c.node.result ≡ Lit c.in-Lit-default-true.prop c.in-Lit-default-true.positive
+    = cc in
+    known_prop c.args.graph.now c.size-size.ensures.is_graph c.node.result c.args.trail.now.room
+    c.in-Lit-default-true.prop
     c.in-Lit-default-true.positive c.node.ensures.low c.requires.room is
 
 pub stands_before-requires-clause-prop : goal.stands_before-requires-clause-prop
 stands_before-requires-clause-prop c =
-    let is : node_at c.args.graph.now c.node.result ≡ Lit c.in-Lit-default-true.prop c.in-Lit-default-true.positive = cc in
-    known_prop c.args.graph.now c.size-size.ensures.is_graph c.node.result c.args.trail.now.room c.in-Lit-default-true.prop
+    let is : node_at c.args.graph.now c.node.result ≡ Lit c.in-Lit-default-true.prop c.in-Lit-default-true.positive
+    = cc in
+    known_prop c.args.graph.now c.size-size.ensures.is_graph c.node.result c.args.trail.now.room
+    c.in-Lit-default-true.prop
     c.in-Lit-default-true.positive c.node.ensures.low c.requires.room is
 
 pub note_first-requires-in-Lit-default-false-clause-prop :
     goal.note_first-requires-in-Lit-default-false-clause-prop
 note_first-requires-in-Lit-default-false-clause-prop c =
-    let is : node_at c.args.graph.now c.node.result ≡ Lit c.in-Lit-default-false.prop c.in-Lit-default-false.positive = cc in
-    known_prop c.args.graph.now c.size-size.ensures.is_graph c.node.result c.args.trail.now.room c.in-Lit-default-false.prop
+    let is : node_at c.args.graph.now c.node.result ≡ Lit c.in-Lit-default-false.prop
+    c.in-Lit-default-false.positive = cc in
+    known_prop c.args.graph.now c.size-size.ensures.is_graph c.node.result c.args.trail.now.room
+    c.in-Lit-default-false.prop
     c.in-Lit-default-false.positive c.node.ensures.low c.requires.room is
 
 pub stands_before-requires-in-Lit-default-false-clause-prop :
     goal.stands_before-requires-in-Lit-default-false-clause-prop
 stands_before-requires-in-Lit-default-false-clause-prop c =
-    let is : node_at c.args.graph.now c.node.result ≡ Lit c.in-Lit-default-false.prop c.in-Lit-default-false.positive = cc in
-    known_prop c.args.graph.now c.size-size.ensures.is_graph c.node.result c.args.trail.now.room c.in-Lit-default-false.prop
+    let is : node_at c.args.graph.now c.node.result ≡ Lit c.in-Lit-default-false.prop
+    c.in-Lit-default-false.positive = cc in
+    known_prop c.args.graph.now c.size-size.ensures.is_graph c.node.result c.args.trail.now.room
+    c.in-Lit-default-false.prop
     c.in-Lit-default-false.positive c.node.ensures.low c.requires.room is

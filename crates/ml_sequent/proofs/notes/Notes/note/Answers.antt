@@ -11,7 +11,13 @@ returns-clause-noted c =
     let ranks = c.args.descent.now in
     let nodes = c.args.trail.now.nodes in
     let a = c.self.inside in
-    let x : NotesList = record { done = a.done; literals = a.literals; conflict = a.conflict; suspect = a.suspect; candidates = a.candidates } in
+    let x : NotesList = record {
+      done = a.done;
+      literals = a.literals;
+      conflict = a.conflict;
+      suspect = a.suspect;
+      candidates = a.candidates;
+    } in
     let y : NotesList = record {
       done = a.done + 1;
       literals = c.note-is_conflict.new.self;
@@ -19,8 +25,10 @@ returns-clause-noted c =
       suspect = c.noted_first-self-inside-2.result;
       candidates = c.add_candidate.new.candidates;
     } in
-    let was : IsNoted g ranks nodes a.done x = subst (λ (z : NotesList). IsNoted g ranks nodes z.done z) (sym c.self.view_is) c.requires.noted in
-    let suspect = subst (λ n. IsTrue c.may_cycle-is_suspect.result ↔ MayCycle g ranks n) c.node-node.ensures.value c.may_cycle-is_suspect.ensures in
+    let was : IsNoted g ranks nodes a.done x = subst (λ (z : NotesList). IsNoted g ranks nodes z.done z)
+    (sym c.self.view_is) c.requires.noted in
+    let suspect = subst (λ n. IsTrue c.may_cycle-is_suspect.result ↔ MayCycle g ranks n) c.node-node.ensures.value
+    c.may_cycle-is_suspect.ensures in
     subst (λ (z : NotesList). IsNoted g ranks nodes (z.done + 1) y) c.self.view_is
     (noted_more g ranks nodes a.done x y c.note-is_conflict.result c.may_cycle-is_suspect.result
     c.note-is_conflict.ensures.firsts c.note-is_conflict.ensures.conflict suspect c.noted_first-self-inside.ensures
@@ -31,6 +39,8 @@ returns-clause-has_open c = λ choice.
     let g = c.args.graph.now in
     let nodes = c.args.trail.now.nodes in
     let after = c.add_candidate.new.candidates in
-    subst (λ (z : NotesList). HasOpen g choice nodes z.done z.candidates → HasOpen g choice nodes (z.done + 1) after) c.self.view_is
-    (open_more g choice nodes c.self.inside.done c.node-node.result c.self.inside.candidates after c.node-node.ensures.value
+    subst (λ (z : NotesList). HasOpen g choice nodes z.done z.candidates → HasOpen g choice nodes (z.done + 1)
+    after) c.self.view_is
+    (open_more g choice nodes c.self.inside.done c.node-node.result c.self.inside.candidates after
+    c.node-node.ensures.value
     c.add_candidate.ensures.kept c.add_candidate.ensures.added)
