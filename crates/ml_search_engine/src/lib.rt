@@ -25,11 +25,10 @@ mod terms;
 mod trees;
 
 use crate::rounds::Engine;
+pub use candidates::Candidate;
 use ml_base::NoMemory;
 use ml_graph::ModalGraph;
 use std::alloc::Global;
-
-pub use candidates::Candidate;
 
 /// A candidate for an answer; `None` where the engine gives up.
 ///

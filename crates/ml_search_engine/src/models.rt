@@ -1,6 +1,6 @@
 // The structure of Even's moves.
-use crate::candidates::Candidate;
 use crate::arrays::small;
+use crate::candidates::Candidate;
 use crate::games::{Solved, Vertex};
 use crate::positions::Positions;
 use crate::terms::Terms;

@@ -1,6 +1,6 @@
 // The refutation of Odd's moves.
-use crate::candidates::Candidate;
 use crate::arrays::{NONE, small};
+use crate::candidates::Candidate;
 use crate::games::{Solved, Vertex};
 use crate::positions::Positions;
 use crate::terms::Terms;

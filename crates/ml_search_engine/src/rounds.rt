@@ -1,6 +1,6 @@
 // Rounds: both games are solved, and what waits on Even's way is made.
-use crate::candidates::Candidate;
 use crate::arrays::{NONE, flag, set_flag, small};
+use crate::candidates::Candidate;
 use crate::games::{Mood, Solved, Vertex, play, waits};
 use crate::models::model;
 use crate::positions::Positions;
@@ -16,12 +16,17 @@ use std::alloc::Global;
 /// How much is made for each position of the limit.
 const WORK: usize = 8;
 
+/// So many vertices of a game that is solved count as one thing that is made.
+const VERTICES: usize = 16;
+
 /// What was made of a graph, and how much may be made.
 #[derive(Drop)]
 pub(crate) struct Engine<'a> {
     terms: Terms<'a>,
     trees: Trees,
     positions: Positions,
+    /// How many vertices the games had that were solved.
+    solved: usize,
     most: usize,
 }
 
@@ -55,13 +60,24 @@ impl<'a> Engine<'a> {
             terms,
             trees,
             positions,
+            solved: 0,
             most: (limit as usize).saturating_mul(WORK),
         })
     }
 
     /// How much was made.
     fn spent(&self) -> usize {
-        self.trees.spent.saturating_add(self.positions.all.len())
+        let made = self.trees.spent.saturating_add(self.positions.all.len());
+        made.saturating_add(self.solved / VERTICES)
+    }
+
+    /// The game on what was made, solved.
+    fn play(&mut self, mood: Mood) -> Result<Option<Solved>, NoMemory> {
+        let game = play(&self.terms, &self.trees, &self.positions, mood)?;
+        if let Some(game) = &game {
+            self.solved = self.solved.saturating_add(game.vertices.len());
+        }
+        Ok(game)
     }
 
     /// Rounds until something is found or enough is made.
@@ -69,10 +85,9 @@ impl<'a> Engine<'a> {
         if self.positions.all.is_empty() {
             return Ok(None);
         }
-        self.advance(vec![in self.terms.alloc; 0]?)?;
+        let _ = self.advance(vec![in self.terms.alloc; 0]?)?;
         for _ in 0..u64::MAX {
-            let Some(careful) = play(&self.terms, &self.trees, &self.positions, Mood::Careful)?
-            else {
+            let Some(careful) = self.play(Mood::Careful)? else {
                 return Ok(None);
             };
             if careful.is_won(0) {
@@ -94,7 +109,8 @@ impl<'a> Engine<'a> {
                 }
                 continue;
             }
-            self.advance(way.waiting)?;
+            let made = self.advance(way.waiting)?;
+            self.widen(&hopeful, made)?;
         }
         Ok(None)
     }
@@ -102,7 +118,7 @@ impl<'a> Engine<'a> {
     /// The hopeful game, where Even may hope at more positions until it is won, or there are none.
     fn hopeful(&mut self) -> Result<Option<Solved>, NoMemory> {
         for _ in 0..u64::MAX {
-            let Some(game) = play(&self.terms, &self.trees, &self.positions, Mood::Hopeful)? else {
+            let Some(game) = self.play(Mood::Hopeful)? else {
                 return Ok(None);
             };
             if game.is_won(0) || !self.hope(&game) {
@@ -180,8 +196,8 @@ impl<'a> Engine<'a> {
         Ok(way)
     }
 
-    /// Makes leaves at positions, and goes on depth first from what is new.
-    fn advance(&mut self, mut work: Vec<usize>) -> Result<(), NoMemory> {
+    /// Makes leaves at positions, and goes on depth first from what is new; tells how many.
+    fn advance(&mut self, mut work: Vec<usize>) -> Result<usize, NoMemory> {
         let half = self.trees.leaves.len() / 2;
         let most = half.max(8);
         let mut made: usize = 0;
@@ -197,6 +213,23 @@ impl<'a> Engine<'a> {
             made = made.saturating_add(1);
             for next in known..self.positions.all.len() {
                 work.push(next)?;
+            }
+        }
+        Ok(made)
+    }
+
+    /// Where few leaves were made on Even's way, makes more where something waits and Even hopes. So what is made grows by a
+    /// part of itself in each round.
+    fn widen(&mut self, game: &Solved, made: usize) -> Result<(), NoMemory> {
+        let most = self.trees.leaves.len() / 8;
+        let mut made = made;
+        for p in 0..game.at.len() {
+            if made >= most || self.spent() >= self.most {
+                break;
+            }
+            if game.is_won(p) && waits(&self.trees, &self.positions, p) {
+                self.grow(p)?;
+                made = made.saturating_add(1);
             }
         }
         Ok(())
