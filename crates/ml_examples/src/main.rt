@@ -23,7 +23,7 @@ use std::fs;
 use std::io::Print;
 use std::rt::Files;
 
-const FILES: [&str; 20] = [
+const FILES: [&str; 21] = [
     "examples",
     "patterns",
     "words",
@@ -44,6 +44,7 @@ const FILES: [&str; 20] = [
     "games",
     "automata",
     "quotients",
+    "realize",
 ];
 
 /// The rows of a file, and how many they are.
