@@ -10,6 +10,9 @@ use ml_refutation::Cause;
 use ml_sequent::{Sequent, Side};
 use ml_trace::Letter;
 
+/// So many leaves that are looked at, to ask for less, count as one thing that is made.
+const LEAVES: usize = 256;
+
 /// What stands at a node of a tree.
 #[derive(Clone, Copy)]
 pub(crate) enum Kind {
@@ -389,6 +392,8 @@ impl Trees {
         }
         let next = self.branch.next_or(terms);
         if !self.is_plain(at) && (next.is_none() || self.branch.modals().len() != modals) {
+            let looked = self.leaves_of(sequent).len() / LEAVES;
+            self.spent = self.spent.saturating_add(looked);
             if let Some(less) = self.less(terms, sequent)? {
                 self.weak_leaf(terms, sequent, at, nodes, less)?;
                 return Ok(true);
