@@ -3,50 +3,13 @@ ghost use Rattle.std.specs.Prelude.{◌≡◌, ◌<◌, OnOk, All};
 ghost use Rattle.ml_graph.specs.Graph.{size};
 ghost use Rattle.ml_sequent.specs.Spread.{IsSpread, IsOpenOr};
 
-use crate::graph_tests::{NOT_P, P, large_graph};
+use crate::random_graphs::random_graph;
 use crate::sequent_tests::sequent_of;
-use ml_graph::{ModalGraph, Node};
+use ml_graph::ModalGraph;
 use ml_sequent::{Branch, Sequent, Side, clash, diamonds, open_or, spread};
 use ml_tests::numbers::Numbers;
 use std::alloc::Global;
 use std::test::Fail;
-
-// A node that refers to nodes below `size`: an And or an Or in most cases.
-fn random_node(numbers: &mut Numbers, size: u32) -> Node
-    requires { 0 < size }
-{
-    let left = numbers.below(size as u64) as u32;
-    let right = numbers.below(size as u64) as u32;
-    match numbers.below(12) {
-        0 => Node::True,
-        1 => Node::False,
-        2 => P,
-        3 => NOT_P,
-        4 => Node::Diamond {
-            action: 0,
-            to: left,
-        },
-        5 => Node::Square {
-            action: 0,
-            to: left,
-        },
-        6 | 7 | 8 => Node::And { left, right },
-        _ => Node::Or { left, right },
-    }
-}
-
-// A graph of so many nodes. With few priorities most of them are even.
-fn random_graph(alloc: Global, numbers: &mut Numbers, size: u32) -> Result<ModalGraph, Fail>
-    requires { 0 < size }
-{
-    let mut nodes = Vec::new(alloc);
-    let mut priorities = Vec::new(alloc);
-    for _ in 0..size {
-        nodes.push(random_node(numbers, size))?;
-        priorities.push(numbers.below(8) as u32 / 2)?;
-    }
-    large_graph(alloc, nodes, priorities)
-}
 
 // Does the branch answer as the functions do of the spread that they make?
 fn answers_alike(alloc: Global, graph: &ModalGraph, branch: &mut Branch) -> Result<bool, Fail>
@@ -150,7 +113,7 @@ fn is_alike(alloc: Global, seed: u64, size: u32, draws: u32) -> Result<bool, Fai
     requires { 0 < size }
 {
     let mut numbers = Numbers::new(seed);
-    let graph = random_graph(alloc, &mut numbers, size)?;
+    let graph = random_graph(alloc, &mut numbers, size, 0, 0)?;
     match sequent_of(alloc, &graph, &[graph.root()])? {
         Some(sequent) => begun_alike(alloc, &graph, &mut numbers, sequent, draws),
         None => Err(Fail::new("no root")),

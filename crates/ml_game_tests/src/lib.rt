@@ -6,6 +6,8 @@
 //   branch_tests   branches of random graphs against spreads that are made anew
 //   graph_tests    graphs built and refused, and the graphs that other tests take
 //   product_tests  decision games explored
+//   random_graphs  graphs that are drawn
+//   search_tests   what is found of random graphs against their decision games
 //   sequent_tests  spreads, clashes, splits and steps
 #![tactic(auto)]
 
@@ -17,5 +19,9 @@ mod branch_tests;
 mod graph_tests;
 #[cfg(test)]
 mod product_tests;
+#[cfg(test)]
+mod random_graphs;
+#[cfg(test)]
+mod search_tests;
 #[cfg(test)]
 mod sequent_tests;
