@@ -6,7 +6,7 @@
 --   OneSize             == a task is large exactly where the graph of a reading has more than the most nodes
 --   OneGame             == where the game of one reading has more than n positions, that of each other one has
 --   SomeOutcome         == a task is large, or its game has more than n positions, or an outcome is found
---   FoundAreRight       == an outcome that is found is right
+--   FoundAreRight       == an outcome that is found of a task as it is read is right
 --   ValuationsAreSets   == the letter of a valuation has the names of its set of inputs, and then those of its set of outputs
 use Rattle.std.specs.Prelude.{ℕ, ◌≡◌, ◌^◌, ◌<◌, ◌++◌, ◌↔◌, ◌⊎◌, List, length}
 use Rattle.ml_graph.specs.Graph.{size}

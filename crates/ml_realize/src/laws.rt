@@ -17,7 +17,8 @@ pub fn one_game()
     ensures one { OneGame }
 {}
 
-/// Each task is large, or its game has more than so many positions, or an outcome is found; and what is found is right.
+/// Each task is large, or its game has more than so many positions, or an outcome is found; and what is found of a task as it
+/// is read is right.
 ///
 /// Does nothing when called. It rests on the determinacy law of parity games.
 pub fn some_outcome()
