@@ -7,16 +7,24 @@
 // be found good; one that `migrate` or `quotient` writes has to be
 // found as the one that it is written of.
 //
-//   answers  what the program answers, and what is said of a document by the command that checks it
-//   failure  why the rows were not all run
-//   row      a row, its lines, and whether an answer is as it says
+// Of each page in `data/pages` the command lines are run too, and those are printed that print something else than the page
+// says.
+//
+//   answers       what the program answers, and what is said of a document by the command that checks it
+//   command_line  a command line of a page, taken apart
+//   failure       why the rows were not all run
+//   pages         the command lines of a page, run
+//   row           a row, its lines, and whether an answer is as it says
 #![tactic(auto)]
 
 mod answers;
+mod command_line;
 mod failure;
+mod pages;
 mod row;
 
 use crate::failure::Failure;
+use crate::pages::run_page;
 use crate::row::{Counts, Row, finish, read_line};
 use std::alloc::AllocGlobal;
 use std::fs;
@@ -47,6 +55,8 @@ const FILES: [&str; 21] = [
     "realize",
 ];
 
+const PAGES: [&str; 1] = ["GUIDE"];
+
 /// The rows of a file, and how many they are.
 fn run_file<R: Files + Print + AllocGlobal>(rt: &R, name: &str) -> Result<(), Failure> {
     let path = format!(in rt.alloc(); "rows/{name}.rows")?;
@@ -66,6 +76,9 @@ fn run_file<R: Files + Print + AllocGlobal>(rt: &R, name: &str) -> Result<(), Fa
 fn main(rt: HostRuntime) -> Result<(), Failure> {
     for name in FILES {
         run_file(&rt, name)?;
+    }
+    for page in PAGES {
+        run_page(&rt, page)?;
     }
     Ok(())
 }

@@ -113,7 +113,7 @@ fn cut(line: &str) -> (&str, &str) {
 }
 
 /// A line with its end.
-fn push_line(to: &mut Vec<u8>, line: &str) -> Result<(), AllocError> {
+pub(crate) fn push_line(to: &mut Vec<u8>, line: &str) -> Result<(), AllocError> {
     to.extend_from_slice(line.as_bytes())?;
     to.push(b'\n')?;
     Ok(())
