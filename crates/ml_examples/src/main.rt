@@ -55,7 +55,7 @@ const FILES: [&str; 21] = [
     "realize",
 ];
 
-const PAGES: [&str; 1] = ["GUIDE"];
+const PAGES: [&str; 5] = ["GUIDE", "DOCUMENTS", "GAMES", "AUTOMATA", "REALIZE"];
 
 /// The rows of a file, and how many they are.
 fn run_file<R: Files + Print + AllocGlobal>(rt: &R, name: &str) -> Result<(), Failure> {
