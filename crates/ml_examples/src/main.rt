@@ -13,6 +13,7 @@
 //   answers       what the program answers, and what is said of a document by the command that checks it
 //   command_line  a command line of a page, taken apart
 //   failure       why the rows were not all run
+//   manual        what the manual page has to have
 //   pages         the command lines of a page, run
 //   row           a row, its lines, and whether an answer is as it says
 #![tactic(auto)]
@@ -20,10 +21,12 @@
 mod answers;
 mod command_line;
 mod failure;
+mod manual;
 mod pages;
 mod row;
 
 use crate::failure::Failure;
+use crate::manual::read_manual;
 use crate::pages::run_page;
 use crate::row::{Counts, Row, finish, read_line};
 use std::alloc::AllocGlobal;
@@ -31,7 +34,7 @@ use std::fs;
 use std::io::Print;
 use std::rt::Files;
 
-const FILES: [&str; 21] = [
+const FILES: [&str; 22] = [
     "examples",
     "patterns",
     "words",
@@ -39,6 +42,7 @@ const FILES: [&str; 21] = [
     "pdl_texts",
     "ctl_texts",
     "ltl_texts",
+    "spellings",
     "mu",
     "pdl",
     "ctl",
@@ -80,5 +84,5 @@ fn main(rt: HostRuntime) -> Result<(), Failure> {
     for page in PAGES {
         run_page(&rt, page)?;
     }
-    Ok(())
+    read_manual(&rt)
 }
