@@ -36,22 +36,22 @@ started_explores g limit b some is = record {
 -- where what was recorded has as many entries as there are positions, they are an arena's
 module _ (g : Graph) (limit : ℕ) (b : Pool) (rs : List Recorded) (t : AreTurned g limit b rs)
     (whole : length rs ≡ length (positions_of b)) (small : limit < 2 ^ 32) where
-  stored_length : length (positions_of b) ≡ length b.positions.keys
-  stored_length = length-map b.positions.keys (seen b.sequents.keys b.histories.keys)
+  stored_length : length (positions_of b) ≡ length b.positions
+  stored_length = length-map b.positions (seen b.sequents.keys b.histories.keys)
 
   game : IsGame (game_of (arena_of b rs))
   game = is_game g (arena_of b rs) (is_arena g limit b rs t whole)
 
-  goes_on : (v : ℕ) → v < length b.positions.keys
+  goes_on : (v : ℕ) → v < length b.positions
       → 0 < length (get_or (map (moves_of (length (positions_of b))) rs) v [])
   goes_on v low =
       let arena = is_arena g limit b rs t whole in
       subst (λ ms. 0 < length ms) (moves_at g (arena_of b rs) arena v (omega (arith, stored_length)))
       (game.goes_on v (omega (arith, size_is g (arena_of b rs) arena, stored_length)))
 
-  in_range : (v w : ℕ) → (v < length b.positions.keys) ⊎ (length b.positions.keys ≤ v)
+  in_range : (v w : ℕ) → (v < length b.positions) ⊎ (length b.positions ≤ v)
       → Contains (get_or (map (moves_of (length (positions_of b))) rs) v []) w
-      → w < length b.positions.keys + 2
+      → w < length b.positions + 2
   in_range v w (inl low) move =
       let arena = is_arena g limit b rs t whole in
       let below = game.in_range v w
@@ -62,7 +62,7 @@ module _ (g : Graph) (limit : ℕ) (b : Pool) (rs : List Recorded) (t : AreTurne
       (omega (arith, length-map rs (moves_of (length (positions_of b))), stored_length)) in
       absurd (contains_none w (subst (λ ms. Contains ms w) none move))
 
-  pub held_of : IsHeld b.sequents.keys b.histories.keys b.positions.keys (map owner_of rs)
+  pub held_of : IsHeld b.sequents.keys b.histories.keys b.positions (map owner_of rs)
       (map (moves_of (length (positions_of b))) rs)
   held_of = record {
     within = t.explores.is_pool.within;
@@ -70,5 +70,5 @@ module _ (g : Graph) (limit : ℕ) (b : Pool) (rs : List Recorded) (t : AreTurne
     moves_each = omega (arith, length-map rs (moves_of (length (positions_of b))), stored_length);
     small = omega (arith, t.explores.few, stored_length);
     goes_on = goes_on;
-    in_range = λ v w move. in_range v w (cases_lt v (length b.positions.keys)) move;
+    in_range = λ v w move. in_range v w (cases_lt v (length b.positions)) move;
   }

@@ -11,7 +11,7 @@ use Rattle.ml_parity.specs.declared.players.Player.{Player}
 use Rattle.ml_parity.specs.declared.players.Player.TheVariants.{Even}
 use Rattle.ml_parity.specs.Game.{ParityGame, IsGame, HasMove, size, moves_of}
 use Rattle.ml_trace.specs.Stack.{Item}
-use Rattle.ml_product.specs.declared.stored.Stored.{Stored}
+use Rattle.ml_product.specs.private.Placed.{Placed}
 use Rattle.ml_product.specs.private.Shared.{IsHeld, seen, shown}
 use Rattle.ml_product.specs.Position.{Position}
 use Rattle.ml_product.specs.Arena.{Arena, game_of}
@@ -100,7 +100,7 @@ module _ (a : Arena) (n : ℕ)
 abbrev pub of_lists : List Player → List ℕ → List (List ℕ) → ParityGame
 of_lists os ps ms = record { owner = os; priority = ps; successors = ms }
 
-module _ (ss : List (List ℕ)) (hs : List (List (Item ℕ))) (xs : List Stored) (owners : List Player)
+module _ (ss : List (List ℕ)) (hs : List (List (Item ℕ))) (xs : List Placed) (owners : List Player)
     (moves : List (List ℕ)) where
   abbrev held : Arena
   held = record { positions = shown ss hs xs; owners = owners; moves = moves }
@@ -111,7 +111,7 @@ module _ (ss : List (List ℕ)) (hs : List (List (Item ℕ))) (xs : List Stored)
       → (os : List Player) (ps : List ℕ) (ms : List (List ℕ)) (n : ℕ)
       → n ≡ length xs
       → os ≡ owners ++ Even ∷ Even ∷ []
-      → ps ≡ map (λ (x : Stored). x.priority) xs ++ 1 ∷ 0 ∷ []
+      → ps ≡ map (λ (x : Placed). x.priority) xs ++ 1 ∷ 0 ∷ []
       → ms ≡ moves ++ (n ∷ []) ∷ ((n + 1) ∷ []) ∷ []
       → of_lists os ps ms ≡ game_of now
   game_from now is os ps ms n count o p m = λ i. record {

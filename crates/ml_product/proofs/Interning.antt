@@ -2,23 +2,30 @@
 --
 --   different_more == different positions, and one that isn't among them, are different
 --   shown_same     == what was added to the tables changes no position
---   beside_pool, beside_added == the same for a position that has the sequent and the history of another one
+--   chosen_pool, chosen_added == the same for a position with a side more, which is a new one
+--   has_site, first_shown == the first position without a choice that has the sequent and the history of another one
 --   still_pool, still_added == behind an addition the pool keeps what it has to, and has the position
 use Rattle.std.proofs.Common.{ℕ, suc, ◌≡◌, ◌+◌, ◌<◌, ◌≤◌, ◌⊎◌, inl, inr, List, [], ◌∷◌, ◌++◌, length, map, slice_get, get_or, Some, refl, sym, ap, ◌∙◌, subst, arith}
 use Rattle.std.specs.Option.{option_map}
-use Rattle.std.proofs.lemmas.List.{map_push}
+use Rattle.std.proofs.lemmas.List.{length-map, map_push}
 use Rattle.std.proofs.lemmas.Option.{slice_get_within, slice_get-get_or, slice_get-map, get_or_from_slice_get}
 use Rattle.ml_lists.specs.Member.{IsMember}
-use Rattle.ml_lists.proofs.Member.{Image, member-map_from, member-append}
+use Rattle.ml_lists.proofs.Member.{Image, member-map, member-map_from, member-append}
 use Rattle.ml_sequent.specs.declared.choice.Side.{Side}
+use Rattle.ml_sequent.specs.Choice.{with_side}
 use Rattle.ml_trace.specs.Stack.{Item}
 use Rattle.ml_product.specs.Position.{Position}
 use Rattle.ml_product.specs.DecisionGame.{AreDifferent}
-use Rattle.ml_product.specs.declared.stored.Stored.{Stored}
+use Rattle.ml_product.specs.declared.stored.Site.{Site}
+use Rattle.ml_product.specs.declared.stored.Top.{Top}
+use Rattle.ml_product.specs.private.Numbers.{Leads, IsFirstAt}
+use Rattle.ml_product.specs.private.Placed.{Placed, nowhere, choice_at, site_of, top_of}
 use Rattle.ml_product.specs.private.Shared.{seen, shown, IsWithin, AreWithin}
-use Rattle.ml_product.specs.private.Pools.{IsPool, beside}
+use Rattle.ml_product.specs.private.Pools.{IsPool, IsFirst, beside}
 use Rattle.ml_lists.specs.Added.{IsAdded}
+use Rattle.ml_product.proofs.Naming.{stands_last, still_leads}
 use Rattle.ml_product.proofs.OnePlace.{PlaceOf, place_of}
+use Rattle.ml_product.proofs.ReachedChoices.{with_side_length}
 use Rattle.ml_lists.proofs.Added.{added_all, added_once, added_long, added_early, added_get}
 
 -- different positions, and one that isn't among them
@@ -37,6 +44,10 @@ different_more (q ∷ ps) p apart new = (
     by_part (inr (inl same)) = new (inl (sym same))
     by_part (inr (inr none)) = none
 
+-- a choice with a side more has one
+with_side_some : (c : List (ℕ × Side)) (n : ℕ) (s : Side) → with_side c n s ≡ [] → ⊥
+with_side_some c n s e = let long = with_side_length c n s in let none = ap length e in omega arith
+
 -- maps that agree where something stands
 map_alike : {X Y : Type 0} (f h : X → Y) (xs : List X) → ((k : ℕ) (x : X) → slice_get xs k ≡ Some x → f x ≡ h x)
     → map f xs ≡ map h xs
@@ -46,13 +57,13 @@ map_alike f h (x ∷ xs) alike =
     let rest = map_alike f h xs (λ k y at. alike (suc k) y at) in
     λ i. here i ∷ rest i
 
-module _ (ss ts : List (List ℕ)) (hs gs : List (List (Item ℕ))) (xs ys : List Stored)
-    (s : List ℕ) (h : List (Item ℕ)) (x : Stored) (v : ℕ)
-    (pool : IsPool ss hs xs)
+module _ (ss ts : List (List ℕ)) (hs gs : List (List (Item ℕ))) (xs ys : List Placed)
+    (s : List ℕ) (h : List (Item ℕ)) (x : Placed) (v : ℕ) (ks : List Top) (ls : List ℕ) (bs : List Site) (ms : List ℕ)
+    (pool : IsPool ss hs xs ks ls bs ms)
     (at_s : IsAdded ss s ts x.sequent)
     (at_h : IsAdded hs h gs x.history)
     (at_x : IsAdded xs x ys v) where
-  seen_same : (k : ℕ) (y : Stored) → slice_get xs k ≡ Some y → seen ts gs y ≡ seen ss hs y
+  seen_same : (k : ℕ) (y : Placed) → slice_get xs k ≡ Some y → seen ts gs y ≡ seen ss hs y
   seen_same k y at =
       let w = pool.within k y at in
       let sequents = added_get ss ts s x.sequent at_s y.sequent [] w.sequent in
@@ -69,7 +80,7 @@ module _ (ss ts : List (List ℕ)) (hs gs : List (List (Item ℕ))) (xs ys : Lis
     history = slice_get_within gs x.history h at_h.stands;
   }
 
-  old_within : (k : ℕ) (y : Stored) → slice_get xs k ≡ Some y → IsWithin ts gs y
+  old_within : (k : ℕ) (y : Placed) → slice_get xs k ≡ Some y → IsWithin ts gs y
   old_within k y at =
       let w = pool.within k y at in record {
         sequent = omega (arith, w.sequent, (added_long ss ts s x.sequent at_s).0);
@@ -93,7 +104,7 @@ module _ (ss ts : List (List ℕ)) (hs gs : List (List (Item ℕ))) (xs ys : Lis
           let e : length ys ≡ length xs + 1 = ap length new.0 ∙ more xs in
           omega (arith, (added_long us bs b i a).1)
         where
-          more : (zs : List Stored) → length (zs ++ x ∷ []) ≡ length zs + 1
+          more : (zs : List Placed) → length (zs ++ x ∷ []) ≡ length zs + 1
           more [] = refl
           more (z ∷ zs) = let e = more zs in omega arith
 
@@ -101,7 +112,7 @@ module _ (ss ts : List (List ℕ)) (hs gs : List (List (Item ℕ))) (xs ys : Lis
   early old = pool.within v x (subst (λ zs. slice_get zs v ≡ Some x) old at_x.stands)
 
   -- two positions that show the same are stored as one
-  stored_same : (y : Stored) → IsWithin ts gs y → seen ts gs x ≡ seen ts gs y → x ≡ y
+  stored_same : (y : Placed) → IsWithin ts gs y → seen ts gs x ≡ seen ts gs y → x ≡ y
   stored_same y w e =
       let sequents : x.sequent ≡ y.sequent =
       added_once ss ts s x.sequent at_s pool.sequents_once x.sequent y.sequent (get_or ts y.sequent [])
@@ -146,14 +157,19 @@ module _ (ss ts : List (List ℕ)) (hs gs : List (List (Item ℕ))) (xs ys : Lis
       by_kind (inr new) =
           subst AreDifferent (sym new.0) (different_more (shown ss hs xs) (seen ts gs x) pool.are_different new.1)
 
-  pub still_pool : IsPool ts gs ys
-  still_pool = record {
+  pub still_pool : (cs : List Top) (ns : List ℕ) (ds : List Site) (os : List ℕ)
+      → Leads top_of ys cs ns
+      → Leads site_of ys ds os
+      → IsPool ts gs ys cs ns ds os
+  still_pool cs ns ds os tops sites = record {
     sequents_once = added_once ss ts s x.sequent at_s pool.sequents_once;
     histories_once = added_once hs gs h x.history at_h pool.histories_once;
     within = all_within;
     few_sequents = few ss ts s x.sequent at_s pool.few_sequents (λ old. (early old).sequent);
     few_histories = few hs gs h x.history at_h pool.few_histories (λ old. (early old).history);
     are_different = different;
+    tops = tops;
+    sites = sites;
   }
 
   seen_made : seen ts gs x ≡ record { sequent = s; history = h; priority = x.priority; choice = x.choice }
@@ -173,34 +189,133 @@ module _ (ss ts : List (List ℕ)) (hs gs : List (List (Item ℕ))) (xs ys : Lis
       (shown ts gs ys) v
   still_added = subst (λ p. IsAdded (shown ss hs xs) p (shown ts gs ys) v) seen_made seen_added
 
--- the same for a position that has the sequent and the history of another one
-module _ (ss : List (List ℕ)) (hs : List (List (Item ℕ))) (xs ys : List Stored)
-    (old : Stored) (k priority : ℕ) (choice : List (ℕ × Side)) (v : ℕ) (p : Position)
-    (pool : IsPool ss hs xs)
-    (old_at : slice_get xs k ≡ Some old)
+-- the same for a position that has the sequent and the history of another one, with a side more
+module _ (ss : List (List ℕ)) (hs : List (List (Item ℕ))) (xs : List Placed) (k priority : ℕ)
+    (node : ℕ) (side : Side) (p : Position) (ks : List Top) (ls : List ℕ) (bs : List Site) (ms : List ℕ)
+    (pool : IsPool ss hs xs ks ls bs ms)
+    (low : k < length xs)
     (at : slice_get (shown ss hs xs) k ≡ Some p)
-    (at_x : IsAdded xs (record { sequent = old.sequent; history = old.history; priority = priority; choice = choice }) ys v) where
-  abbrev new : Stored
-  new = record { sequent = old.sequent; history = old.history; priority = priority; choice = choice }
+    (new : ¬ (IsMember (beside p priority (with_side p.choice node side)) (shown ss hs xs))) where
+  abbrev old : Placed
+  old = get_or xs k nowhere
+
+  abbrev more : Placed
+  more = record {
+    sequent = (get_or xs k nowhere).sequent;
+    history = (get_or xs k nowhere).history;
+    priority = priority;
+    choice = with_side (choice_at xs k) node side;
+  }
+
+  old_at : slice_get xs k ≡ Some old
+  old_at = slice_get-get_or xs k nowhere low
 
   same_position : seen ss hs old ≡ p
   same_position =
       let e : Some (seen ss hs old) ≡ Some p =
       ap (option_map (seen ss hs)) (sym old_at) ∙ sym (slice_get-map (seen ss hs) xs k) ∙ at in cc
 
-  stands_still : {Y : Type 0} (us : List Y) (y d : Y) (i : ℕ) → i < length us → get_or us i d ≡ y → IsAdded us y us i
-  stands_still us y d i low is = record { stands = slice_get-get_or us i d low ∙ ap Some is; grown = inl refl }
+  seen_more : seen ss hs more ≡ beside p priority (with_side p.choice node side)
+  seen_more = ap (λ (q : Position). beside q priority (with_side q.choice node side)) same_position
 
-  at_s : IsAdded ss p.sequent ss old.sequent
+  stands_still : {Y : Type 0} (us : List Y) (y d : Y) (i : ℕ) → i < length us → get_or us i d ≡ y → IsAdded us y us i
+  stands_still us y d i inside is =
+      record { stands = slice_get-get_or us i d inside ∙ ap Some is; grown = inl refl }
+
+  at_s : IsAdded ss p.sequent ss more.sequent
   at_s = stands_still ss p.sequent [] old.sequent (pool.within k old old_at).sequent
       (ap (λ (q : Position). q.sequent) same_position)
 
-  at_h : IsAdded hs p.history hs old.history
+  at_h : IsAdded hs p.history hs more.history
   at_h = stands_still hs p.history [] old.history (pool.within k old old_at).history
       (ap (λ (q : Position). q.history) same_position)
 
-  pub beside_pool : IsPool ss hs ys
-  beside_pool = still_pool ss ss hs hs xs ys p.sequent p.history new v pool at_s at_h at_x
+  not_there : ¬ (IsMember more xs)
+  not_there m =
+      new (subst (λ q. IsMember q (shown ss hs xs)) seen_more (member-map (seen ss hs) more xs m))
 
-  pub beside_added : IsAdded (shown ss hs xs) (beside p priority choice) (shown ss hs ys) v
-  beside_added = still_added ss ss hs hs xs ys p.sequent p.history new v pool at_s at_h at_x
+  at_x : IsAdded xs more (xs ++ more ∷ []) (length xs)
+  at_x = record { stands = stands_last xs more; grown = inr (refl, not_there) }
+
+  some_side : more.choice ≡ [] → ⊥
+  some_side e = with_side_some (choice_at xs k) node side e
+
+  pub chosen_pool : IsPool ss hs (xs ++ more ∷ []) ks ls bs ms
+  chosen_pool =
+      still_pool ss ss hs hs xs (xs ++ more ∷ []) p.sequent p.history more (length xs) ks ls bs ms pool at_s at_h at_x
+      ks ls bs ms (still_leads top_of xs ks ls pool.tops more some_side)
+      (still_leads site_of xs bs ms pool.sites more some_side)
+
+  choices_are : with_side (choice_at xs k) node side ≡ with_side p.choice node side
+  choices_are = ap (λ (q : Position). with_side q.choice node side) same_position
+
+  pub chosen_added : IsAdded (shown ss hs xs) (beside p priority (with_side p.choice node side))
+      (shown ss hs (xs ++ more ∷ [])) (length xs)
+  chosen_added =
+      subst (λ c. IsAdded (shown ss hs xs) (beside p priority c) (shown ss hs (xs ++ more ∷ [])) (length xs)) choices_are
+      (still_added ss ss hs hs xs (xs ++ more ∷ []) p.sequent p.history more (length xs) ks ls bs ms pool at_s at_h at_x)
+
+-- the first position without a choice that has the sequent and the history of another one
+module _ (ss : List (List ℕ)) (hs : List (List (Item ℕ))) (xs : List Placed) (k : ℕ)
+    (ks : List Top) (ls : List ℕ) (bs : List Site) (ms : List ℕ)
+    (pool : IsPool ss hs xs ks ls bs ms)
+    (low : k < length xs)
+    (none : choice_at xs k ≡ []) where
+  abbrev here : Placed
+  here = get_or xs k nowhere
+
+  here_at : slice_get xs k ≡ Some here
+  here_at = slice_get-get_or xs k nowhere low
+
+  -- its site has a number
+  pub has_site : IsMember (site_of (get_or xs k nowhere)) bs
+  has_site = pool.sites.all k here here_at none
+
+  -- a position with the same lists is stored with the same numbers
+  same_site : (y z : Placed) → IsWithin ss hs y → IsWithin ss hs z
+      → (seen ss hs y).sequent ≡ (seen ss hs z).sequent
+      → (seen ss hs y).history ≡ (seen ss hs z).history
+      → site_of y ≡ site_of z
+  same_site y z in_y in_z s h =
+      let sequents = pool.sequents_once y.sequent z.sequent (get_or ss z.sequent [])
+      (slice_get-get_or ss y.sequent [] in_y.sequent ∙ ap Some s) (slice_get-get_or ss z.sequent [] in_z.sequent) in
+      let histories = pool.histories_once y.history z.history (get_or hs z.history [])
+      (slice_get-get_or hs y.history [] in_y.history ∙ ap Some h) (slice_get-get_or hs z.history [] in_z.history) in
+      λ i. record { sequent = sequents i; history = histories i }
+
+  -- and that of the first one
+  pub first_shown : (i : ℕ) (p : Position)
+      → slice_get bs i ≡ Some (site_of (get_or xs k nowhere))
+      → slice_get (shown ss hs xs) k ≡ Some p
+      → IsFirst (shown ss hs xs) p (get_or ms i 0)
+  first_shown i p at there = record {
+    entry = seen ss hs f.entry;
+    stands = slice_get-map (seen ss hs) xs (get_or ms i 0) ∙ ap (option_map (seen ss hs)) f.stands;
+    unchosen = f.unchosen;
+    sequent = ap (λ (s : Site). get_or ss s.sequent []) f.key_is ∙ ap (λ (q : Position). q.sequent) same;
+    history = ap (λ (s : Site). get_or hs s.history []) f.key_is ∙ ap (λ (q : Position). q.history) same;
+    least = λ u q at_u other s h. by_entry u q at_u other s h (slice_get_within (shown ss hs xs) u q at_u);
+  }
+    where
+      f : IsFirstAt site_of xs (site_of here) (get_or ms i 0)
+      f = pool.sites.leads i (site_of here) at
+
+      same : seen ss hs here ≡ p
+      same =
+          let e : Some (seen ss hs here) ≡ Some p =
+          ap (option_map (seen ss hs)) (sym here_at) ∙ sym (slice_get-map (seen ss hs) xs k) ∙ there in cc
+
+      by_entry : (u : ℕ) (q : Position) → slice_get (shown ss hs xs) u ≡ Some q → q.choice ≡ []
+          → q.sequent ≡ p.sequent → q.history ≡ p.history → u < length (shown ss hs xs)
+          → get_or ms i 0 ≤ u
+      by_entry u q at_u other s h inside =
+          let u_low : u < length xs = omega (arith, inside, length-map xs (seen ss hs)) in
+          let y = get_or xs u nowhere in
+          let at_y = slice_get-get_or xs u nowhere u_low in
+          let e : Some (seen ss hs y) ≡ Some q =
+          ap (option_map (seen ss hs)) (sym at_y) ∙ sym (slice_get-map (seen ss hs) xs u) ∙ at_u in
+          let is : seen ss hs y ≡ q = cc in
+          let site = same_site y here (pool.within u y at_y) (pool.within k here here_at)
+          (ap (λ (r : Position). r.sequent) is ∙ s ∙ ap (λ (r : Position). r.sequent) (sym same))
+          (ap (λ (r : Position). r.history) is ∙ h ∙ ap (λ (r : Position). r.history) (sym same)) in
+          f.least u y at_y (ap (λ (r : Position). r.choice) is ∙ other) site

@@ -16,8 +16,16 @@ pub mod bound
 pub mod SomeSolution
 -- a position gets a number
 pub mod Interning
--- stored positions are equal if they are one
-pub mod StoredEquality
+-- keys of the tables of a pool are equal if they are one
+pub mod KeyEquality
+-- positions as they are stored, one more
+pub mod Placing
+-- tables of keys with numbers, when a position joins
+pub mod Naming
+-- positions of one tree
+pub mod Below
+-- positions that differ in their priority alone, and the first one of each such kind
+pub mod Roots
 -- what there is one of: where a step leads, and the moves of a position
 pub mod OneTurn
 -- the sequents of positions that are reached

@@ -7,12 +7,11 @@ use Rattle.std.proofs.Common.{ℕ, ◌≡◌, ◌<◌, ◌≤◌, ◌⊎◌, inl
 use Rattle.std.specs.Result.{IfOk, IsErrOf}
 use Rattle.std.proofs.lemmas.Option.{slice_get_within}
 use Rattle.ml_lists.specs.Member.{IsMember}
-use Rattle.ml_sequent.specs.declared.choice.Side.{Side}
 use Rattle.ml_product.specs.Position.{Position}
 use Rattle.ml_product.specs.declared.pool.Pool.{Pool}
 use Rattle.ml_product.specs.declared.refusals.ExploreRefusal.{ExploreRefusal}
 use Rattle.ml_product.specs.declared.refusals.ExploreRefusal.TheVariants as refusal
-use Rattle.ml_product.specs.private.Pools.{positions_of, IsInterned, beside}
+use Rattle.ml_product.specs.private.Pools.{positions_of, IsInterned}
 use Rattle.ml_product.specs.private.Exploring.{IsNumbered, HasNoRoom}
 use Rattle.ml_lists.proofs.Member.{member_of_get}
 use Rattle.ml_lists.proofs.Added.{last_or}
@@ -58,13 +57,13 @@ module _ (limit : ℕ) (ps : List Position) (p : Position) (b : Pool) (n : ℕ) 
       → HasNoRoom limit ps p
   for_err r high e = no_room (high e)
 
--- a position with another choice
-module _ (limit : ℕ) (ps : List Position) (v k : ℕ) (choice : List (ℕ × Side)) (b : Pool) (n : ℕ)
+-- a position that is made of another one
+module _ (limit : ℕ) (ps : List Position) (v : ℕ) (made : Position → Position) (b : Pool) (n : ℕ)
     (few : length ps ≤ limit)
-    (is : (p : Position) → slice_get ps v ≡ Some p → IsInterned ps (beside p k choice) b n) where
+    (is : (p : Position) → slice_get ps v ≡ Some p → IsInterned ps (made p) b n) where
   pub beside_ok : (r : Result ℕ ExploreRefusal) → IfOk r (λ w. (w ≡ n) × (w < limit))
-      → IfOk r (λ w. (p : Position) → slice_get ps v ≡ Some p → IsNumbered limit ps (beside p k choice) b w)
-  beside_ok (Ok w) i = λ p at. for_ok limit ps (beside p k choice) b n few (is p at) (Ok w) i
+      → IfOk r (λ w. (p : Position) → slice_get ps v ≡ Some p → IsNumbered limit ps (made p) b w)
+  beside_ok (Ok w) i = λ p at. for_ok limit ps (made p) b n few (is p at) (Ok w) i
   beside_ok (Err x) i = tt
 
 -- an answer that hands on another's refusal refuses for the same cause

@@ -3,7 +3,13 @@
 --   viewed x == the position that the view x shows
 use Rattle.ml_product.specs.Position.{Position}
 use Rattle.ml_product.specs.declared.view.View.{View}
+use Rattle.ml_product.specs.private.Placed.{choice_at}
 
 -- the position that the view shows
 abbrev pub viewed : View → Position
-viewed x = record { sequent = x.sequent.now; history = x.history.now; priority = x.priority; choice = x.choice.now }
+viewed x = record {
+  sequent = x.sequent.now;
+  history = x.history.now;
+  priority = x.priority;
+  choice = choice_at x.positions.now x.number;
+}

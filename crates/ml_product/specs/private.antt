@@ -1,5 +1,9 @@
 -- how positions are held
 pub mod Shared
+-- positions as they are stored
+pub mod Placed
+-- tables of keys, with a number for each
+pub mod Numbers
 -- the positions so far
 pub mod Pools
 -- what is recorded of a position

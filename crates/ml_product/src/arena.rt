@@ -38,13 +38,13 @@ impl Model for Arena {
       moves = lists_of a.moves.items;
     } };
 
-    ghost invariant = { λ a. IsHeld a.pool.sequents.keys a.pool.histories.keys a.pool.positions.keys a.owners.items (lists_of a.moves.items) };
+    ghost invariant = { λ a. IsHeld a.pool.sequents.keys a.pool.histories.keys a.pool.positions a.owners.items (lists_of a.moves.items) };
 }
 
 impl Arena {
     // the arena of these positions, with their owners and moves
     pub(crate) fn of(pool: Pool, owners: Vec<Player>, moves: Vec<Vec<u64>>) -> Arena
-        requires { IsHeld pool.sequents.keys pool.histories.keys pool.positions.keys owners.items (lists_of moves.items) }
+        requires { IsHeld pool.sequents.keys pool.histories.keys pool.positions owners.items (lists_of moves.items) }
         ensures { result ≡ record { positions = positions_of pool; owners = owners.items; moves = lists_of moves.items } }
     {
         Arena {
@@ -65,12 +65,12 @@ impl Arena {
 
     /// A position.
     ///
-    /// Cost: constant.
+    /// Cost: constant; its choice is read when it is asked for.
     pub fn position(&self, v: u32) -> View<'_>
         requires { v < length self.now.positions }
         ensures { slice_get self.now.positions v ≡ Some (viewed result) }
     {
-        self.pool.view(v as usize)
+        self.pool.view(v)
     }
 
     /// The moves of a position: vertices of the game.
@@ -105,7 +105,7 @@ impl Arena {
         let alloc = *self.owners.allocator();
         let size = self.pool.len() as u64;
         let owner = owners_of(alloc, &self.owners)?;
-        let priority = priorities_of(alloc, self.pool.stored())?;
+        let priority = priorities_of(alloc, self.pool.positions())?;
         let successors = successors_of(alloc, &self.moves, size)?;
         Ok(Game {
             owner,

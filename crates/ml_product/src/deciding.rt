@@ -1,14 +1,15 @@
 // The exploration of a decision: from a position without a choice along both sides of each open or-node, with one
 // branch.
-ghost use Rattle.std.specs.Prelude.{◌≡◌, ◌<◌, ◌≤◌, ◌^◌, [], OnOk, IsErrOf, length};
+ghost use Rattle.std.specs.Prelude.{◌≡◌, ◌<◌, ◌≤◌, ◌^◌, ℕ, [], OnOk, IsErrOf, length, get_or};
 ghost use Rattle.ml_graph.specs.Graph.{IsGraph};
 ghost use Rattle.ml_sequent.specs.Choice.{with_side};
 ghost use Rattle.ml_sequent.specs.Spread.{IsSpreadOf, IsOpenOr};
+ghost use Rattle.ml_product.specs.declared.recorded.Recorded.TheVariants.{Waiting};
 ghost use Rattle.ml_product.specs.declared.refusals.ExploreRefusal.TheVariants as refusal;
 ghost use Rattle.ml_product.specs.Position.{automaton_states};
 ghost use Rattle.ml_product.specs.DecisionGame.{HasMoreThan};
 ghost use Rattle.ml_product.specs.private.Pools.{positions_of};
-ghost use Rattle.ml_product.specs.private.Exploring.{AreTerms, Explores, at_place, IsAt, IsUnderway, IsWaiting, IsExplored};
+ghost use Rattle.ml_product.specs.private.Exploring.{AreTerms, Explores, at_place, HasNoneBelow, IsAt, IsUnderway, IsWaiting, Records, IsExplored, AreRooted};
 
 use crate::following::Terms;
 use crate::pool::Pool;
@@ -37,6 +38,7 @@ fn explore_at(
     requires underway { IsUnderway branch.old.graph limit pool.old turns.old }
     requires at { IsAt branch.old.graph limit pool.old v branch.old.spread }
     requires sequent { branch.old.sequent ≡ (at_place branch.old.graph (positions_of pool.old) v).sequent }
+    requires fresh { HasNoneBelow (positions_of pool.old) (at_place branch.old.graph (positions_of pool.old) v) }
     ensures same { OnOk result (branch.new ≡ branch.old) }
     ensures explored { OnOk result (IsExplored branch.old.graph limit pool.old turns.old v pool.new turns.new) }
     ensures passed { IsErrOf result refusal.Passed → HasMoreThan branch.old.graph limit }
@@ -71,7 +73,7 @@ fn explore_at(
     }
 }
 
-// the same from the position with a side more, unless it was met before
+// the same from the position with a side more
 #[cycle(deciding)]
 fn explore_side(
     alloc: Global,
@@ -94,13 +96,11 @@ fn explore_side(
     requires sequent { branch.old.sequent ≡ (at_place branch.old.graph (positions_of pool.old) w).sequent }
     requires choice { with_side branch.old.spread.choice node side
         ≡ (at_place branch.old.graph (positions_of pool.old) w).choice }
+    requires fresh { HasNoneBelow (positions_of pool.old) (at_place branch.old.graph (positions_of pool.old) w) }
     ensures same { OnOk result (branch.new ≡ branch.old) }
     ensures explored { OnOk result (IsExplored branch.old.graph limit pool.old turns.old w pool.new turns.new) }
     ensures passed { IsErrOf result refusal.Passed → HasMoreThan branch.old.graph limit }
 {
-    if !turns.is_waiting(w) {
-        return Ok(());
-    }
     branch.choose(node, side)?;
     explore_at(alloc, branch, terms, pool, turns, limit, w)?;
     branch.undo();
@@ -118,11 +118,45 @@ fn begin_at(branch: &mut Branch, pool: &Pool, limit: u32, v: u32) -> Result<(), 
     ensures sequent { OnOk result
         (branch.new.sequent ≡ (at_place branch.old.graph (positions_of pool.now) v).sequent) }
 {
-    let view = pool.view(v as usize);
+    let view = pool.view(v);
     branch.begin(view.sequent.copy()?)
 }
 
-// from a position without a choice, unless it was met before
+// from a position without a choice, with whose sequent and history no side was chosen yet
+fn explore_first(
+    alloc: Global,
+    branch: &mut Branch,
+    terms: &Terms,
+    pool: &mut Pool,
+    turns: &mut Turns,
+    limit: u32,
+    v: u32,
+) -> Result<(), ExploreRefusal>
+    requires is_graph { IsGraph branch.old.graph }
+    requires small { automaton_states branch.old.graph ≤ 2 ^ 30 }
+    requires terms { AreTerms branch.old.graph terms.now }
+    requires underway { IsUnderway branch.old.graph limit pool.old turns.old }
+    requires number { v < length (positions_of pool.old) }
+    requires unchosen { (at_place branch.old.graph (positions_of pool.old) v).choice ≡ [] }
+    requires fresh { HasNoneBelow (positions_of pool.old) (at_place branch.old.graph (positions_of pool.old) v) }
+    ensures graph { OnOk result (branch.new.graph ≡ branch.old.graph) }
+    ensures explored { OnOk result (IsExplored branch.old.graph limit pool.old turns.old v pool.new turns.new) }
+    ensures passed { IsErrOf result refusal.Passed → HasMoreThan branch.old.graph limit }
+{
+    begin_at(branch, pool, limit, v)?;
+    explore_at(alloc, branch, terms, pool, turns, limit, v)
+}
+
+// records of a position what was found at another one
+fn repeat(turns: &mut Turns, v: u32, other: u32) -> Result<(), NoMemory>
+    ensures { OnOk result (Records turns.old v (get_or turns.old other Waiting) turns.new) }
+{
+    let found = turns.found(other)?;
+    turns.record(v, found)
+}
+
+// from a position without a choice, unless this was done before; where it was done from one that differs in its
+// priority alone, the same was found
 pub(crate) fn explore_from(
     alloc: Global,
     branch: &mut Branch,
@@ -138,13 +172,19 @@ pub(crate) fn explore_from(
     requires underway { IsUnderway branch.old.graph limit pool.old turns.old }
     requires number { v < length (positions_of pool.old) }
     requires unchosen { IsWaiting turns.old v → (at_place branch.old.graph (positions_of pool.old) v).choice ≡ [] }
+    requires rooted { AreRooted (positions_of pool.old) turns.old }
+    requires done { (w : ℕ) → w < v → IsWaiting turns.old w → ⊥ }
     ensures graph { OnOk result (branch.new.graph ≡ branch.old.graph) }
     ensures explored { OnOk result (IsExplored branch.old.graph limit pool.old turns.old v pool.new turns.new) }
+    ensures rooted { OnOk result (AreRooted (positions_of pool.new) turns.new) }
     ensures passed { IsErrOf result refusal.Passed → HasMoreThan branch.old.graph limit }
 {
     if !turns.is_waiting(v) {
         return Ok(());
     }
-    begin_at(branch, pool, limit, v)?;
-    explore_at(alloc, branch, terms, pool, turns, limit, v)
+    let first = pool.first(v);
+    if first < v {
+        return Ok(repeat(turns, v, first)?);
+    }
+    explore_first(alloc, branch, terms, pool, turns, limit, v)
 }

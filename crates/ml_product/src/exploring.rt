@@ -22,7 +22,7 @@ use ml_base::NoMemory;
 use ml_graph::ModalGraph;
 use ml_history::History;
 use ml_parity::Player;
-use ml_sequent::{Branch, Choice, Sequent};
+use ml_sequent::{Branch, Sequent};
 use ml_trace::{AutomatonState, STATE_LIMIT, number};
 use std::alloc::Global;
 
@@ -65,7 +65,6 @@ fn started(alloc: Global, graph: &ModalGraph, terms: &Terms) -> Result<Pool, NoM
         sequent: Sequent::of(alloc, &[node])?,
         history: History::start(alloc, state)?,
         priority: terms.neutral,
-        choice: Choice::empty(alloc),
     };
     let mut pool = Pool::new(alloc);
     pool.intern(fresh)?;
@@ -144,7 +143,7 @@ fn vertices(alloc: Global, turns: Vec<Recorded>, size: u64) -> Result<Vec<Vec<u6
 
 // the arena of what was found
 fn closed(alloc: Global, pool: Pool, turns: Vec<Recorded>) -> Result<Arena, NoMemory>
-    requires { IsHeld pool.sequents.keys pool.histories.keys pool.positions.keys
+    requires { IsHeld pool.sequents.keys pool.histories.keys pool.positions
         (map owner_of turns.items) (map (moves_of (length (positions_of pool))) turns.items) }
     ensures { IfOk result (λ arena. arena ≡ arena_of pool turns.items) }
 {

@@ -14,7 +14,7 @@ use crate::pool::Fresh;
 use crate::view::View;
 use ml_base::NoMemory;
 use ml_history::Mark;
-use ml_sequent::{Branch, Choice};
+use ml_sequent::Branch;
 use ml_trace::letter_of;
 use std::alloc::Global;
 
@@ -50,7 +50,7 @@ pub(crate) fn follow(
     requires terms { AreTerms branch.old.graph terms.now }
     requires reached { IsReached branch.old.graph (viewed view) }
     requires sequent { branch.old.sequent ≡ view.sequent.now }
-    requires spread { IsSpreadOf branch.old.graph view.sequent.now view.choice.now branch.old.spread }
+    requires spread { IsSpreadOf branch.old.graph view.sequent.now (viewed view).choice branch.old.spread }
     requires diamond { IsDiamondOf branch.old.graph branch.old.spread diamond }
     ensures same { branch.new ≡ branch.old }
     ensures follows { IfOk result (λ fresh.
@@ -63,6 +63,5 @@ pub(crate) fn follow(
         sequent,
         history,
         priority: priority_of(mark, terms.neutral),
-        choice: Choice::empty(alloc),
     })
 }

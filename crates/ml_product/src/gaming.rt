@@ -3,7 +3,7 @@ ghost use Rattle.std.specs.Prelude.{◌≡◌, ◌+◌, ◌<◌, ◌^◌, [], �
 ghost use Rattle.ml_parity.specs.declared.players.Player.TheVariants.{Even};
 ghost use Rattle.ml_parity.specs.Refusal.{lists_of};
 
-use crate::stored::Stored;
+use crate::store::Store;
 use ml_base::NoMemory;
 use ml_parity::Player;
 use std::alloc::Global;
@@ -20,9 +20,10 @@ pub(crate) fn owners_of(alloc: Global, owners: &[Player]) -> Result<Vec<Player>,
 }
 
 // the priorities: of Lost an odd one, of Won an even one
-pub(crate) fn priorities_of(alloc: Global, positions: &[Stored]) -> Result<Vec<u32>, NoMemory>
+pub(crate) fn priorities_of(alloc: Global, positions: &Store) -> Result<Vec<u32>, NoMemory>
     ensures { IfOk result (λ all. all.items ≡ map (λ x. x.priority) positions.now ++ 1 ∷ 0 ∷ []) }
 {
+    let positions = positions.stored();
     let mut all = Vec::with_capacity(alloc, positions.len() + 2)?;
     for position in positions {
         all.push(position.priority)?;

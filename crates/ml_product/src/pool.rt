@@ -1,17 +1,23 @@
 // Positions over shared parts: equal sequents are held once, and so are equal histories.
-ghost use Rattle.std.specs.Prelude.{◌≡◌, ◌<◌, ◌^◌, length, slice_get, Some, IfOk};
+ghost use Rattle.std.specs.Prelude.{◌≡◌, ◌<◌, ◌≤◌, ◌^◌, [], length, slice_get, Some, None, IfOk, OnOk};
+ghost use Rattle.ml_lists.specs.Added.{IsAdded};
+ghost use Rattle.ml_lists.specs.Member.{IsMember};
+ghost use Rattle.ml_sequent.specs.Choice.{side_of, with_side};
 ghost use Rattle.ml_product.specs.Position.{Position};
 ghost use Rattle.ml_product.specs.View.{viewed};
+ghost use Rattle.ml_product.specs.private.Placed.{choice_at, site_of, top_of};
+ghost use Rattle.ml_product.specs.private.Numbers.{Leads};
 ghost use Rattle.ml_product.specs.private.Shared.{AreWithin};
-ghost use Rattle.ml_product.specs.private.Pools.{positions_of, position_of, beside, KeepsPool, IsInterned, IsEmptyPool};
-ghost use Rattle.ml_lists.specs.Added.{IsAdded};
+ghost use Rattle.ml_product.specs.private.Pools.{positions_of, position_of, beside, KeepsPool, IsInterned, IsEmptyPool, IsFirst};
 
-use crate::stored::Stored;
+use crate::numbers::{number_of_site, number_of_top};
+use crate::store::Store;
+use crate::stored::{Site, Top};
 use crate::view::View;
 use indexmap::IndexSet;
 use ml_base::NoMemory;
 use ml_history::History;
-use ml_sequent::{Choice, Sequent};
+use ml_sequent::{Sequent, Side};
 use std::alloc::Global;
 
 /// Positions by their numbers, each once, and the sequents and histories that they share.
@@ -19,16 +25,21 @@ use std::alloc::Global;
 pub(crate) struct Pool {
     sequents: IndexSet<Sequent>,
     histories: IndexSet<History>,
-    positions: IndexSet<Stored>,
+    positions: Store,
+    // the positions without a choice, with their numbers
+    tops: IndexSet<Top>,
+    top_numbers: Vec<u32>,
+    // what they have of sequents with histories, with the numbers of the first ones
+    sites: IndexSet<Site>,
+    site_numbers: Vec<u32>,
 }
 
-/// A position that was made, before it has a number.
+/// A position without a choice that was made, before it has a number.
 #[derive(Drop)]
 pub(crate) struct Fresh {
     pub(crate) sequent: Sequent,
     pub(crate) history: History,
     pub(crate) priority: u32,
-    pub(crate) choice: Choice,
 }
 
 // the number of a sequent
@@ -47,14 +58,6 @@ fn add_history(table: &mut IndexSet<History>, history: History) -> Result<usize,
     Ok(number)
 }
 
-// the number of a position
-fn add_position(table: &mut IndexSet<Stored>, position: Stored) -> Result<usize, NoMemory>
-    ensures { IfOk result (IsAdded table.old.keys position table.new.keys) }
-{
-    let (number, _) = table.insert_full(position)?;
-    Ok(number)
-}
-
 impl Pool {
     // no positions
     pub(crate) fn new(alloc: Global) -> Pool
@@ -63,77 +66,125 @@ impl Pool {
         Pool {
             sequents: IndexSet::new(alloc),
             histories: IndexSet::new(alloc),
-            positions: IndexSet::new(alloc),
+            positions: Store::new(alloc),
+            tops: IndexSet::new(alloc),
+            top_numbers: Vec::new(alloc),
+            sites: IndexSet::new(alloc),
+            site_numbers: Vec::new(alloc),
         }
     }
 
     // how many positions there are
     pub(crate) fn len(&self) -> usize
-        ensures { result ≡ length self.now.positions.keys }
+        ensures { result ≡ length self.now.positions }
     {
         self.positions.len()
     }
 
-    // the positions as they are stored
-    pub(crate) fn stored(&self) -> &[Stored]
-        ensures { result.now ≡ self.now.positions.keys }
+    // the positions in the order of their numbers
+    pub(crate) fn positions(&self) -> &Store
+        ensures { result.now ≡ self.now.positions }
     {
-        self.positions.as_slice()
+        &self.positions
     }
 
     // the position with a number
-    pub(crate) fn view(&self, v: usize) -> View<'_>
-        requires number { v < length self.now.positions.keys }
-        requires within { AreWithin self.now.sequents.keys self.now.histories.keys self.now.positions.keys }
+    pub(crate) fn view(&self, v: u32) -> View<'_>
+        requires number { v < length self.now.positions }
+        requires within { AreWithin self.now.sequents.keys self.now.histories.keys self.now.positions }
         ensures { slice_get (positions_of self.now) v ≡ Some (viewed result) }
     {
-        let stored = &self.positions.as_slice()[v];
+        let stored = self.positions.at(v as usize);
         View {
             sequent: &self.sequents.as_slice()[stored.sequent as usize],
             history: &self.histories.as_slice()[stored.history as usize],
             priority: stored.priority,
-            choice: &stored.choice,
+            positions: &self.positions,
+            number: v,
+        }
+    }
+
+    // the number of the first position without a choice that has the sequent and the history of this one
+    pub(crate) fn first(&self, v: u32) -> u32
+        requires pool { KeepsPool self.now }
+        requires number { v < length self.now.positions }
+        requires unchosen { choice_at self.now.positions v ≡ [] }
+        ensures { (p : Position) → slice_get (positions_of self.now) v ≡ Some p
+            → IsFirst (positions_of self.now) p result }
+    {
+        let stored = self.positions.at(v as usize);
+        let site = Site {
+            sequent: stored.sequent,
+            history: stored.history,
+        };
+        match self.sites.get_index_of(&site) {
+            Some(place) => self.site_numbers[place],
+            None => v,
         }
     }
 
     // the number of a position that was made
     pub(crate) fn intern(&mut self, fresh: Fresh) -> Result<usize, NoMemory>
         requires pool { KeepsPool self.old }
-        requires room { length self.old.positions.keys < 2 ^ 32 }
+        requires room { length self.old.positions < 2 ^ 32 }
         ensures { IfOk result (IsInterned (positions_of self.old) (position_of fresh) self.new) }
     {
         let sequent = add_sequent(&mut self.sequents, fresh.sequent)? as u32;
         let history = add_history(&mut self.histories, fresh.history)? as u32;
-        let position = Stored {
-            sequent,
-            history,
-            priority: fresh.priority,
-            choice: fresh.choice,
-        };
-        let number = add_position(&mut self.positions, position)?;
-        Ok(number)
+        self.intern_placed(sequent, history, fresh.priority)
     }
 
-    // the number of the position that has the sequent and the history of another one
-    pub(crate) fn beside(
+    // the number of a position without a choice
+    fn intern_placed(
         &mut self,
-        v: usize,
+        sequent: u32,
+        history: u32,
         priority: u32,
-        choice: Choice,
+    ) -> Result<usize, NoMemory>
+        requires room { length self.old.positions < 2 ^ 32 }
+        requires tops { Leads top_of self.old.positions self.old.tops.keys self.old.top_numbers.items }
+        requires sites { Leads site_of self.old.positions self.old.sites.keys self.old.site_numbers.items }
+        ensures sequents { OnOk result (self.new.sequents ≡ self.old.sequents) }
+        ensures histories { OnOk result (self.new.histories ≡ self.old.histories) }
+        ensures added { IfOk result (IsAdded self.old.positions
+            (record { sequent = sequent; history = history; priority = priority; choice = [] }) self.new.positions) }
+        ensures tops { OnOk result (Leads top_of self.new.positions self.new.tops.keys self.new.top_numbers.items) }
+        ensures sites { OnOk result (Leads site_of self.new.positions self.new.sites.keys self.new.site_numbers.items) }
+    {
+        let next = self.positions.len();
+        let top = Top {
+            sequent,
+            history,
+            priority,
+        };
+        let number = number_of_top(&mut self.tops, &mut self.top_numbers, top, next as u32)? as usize;
+        if number < next {
+            return Ok(number);
+        }
+        let site = Site { sequent, history };
+        number_of_site(&mut self.sites, &mut self.site_numbers, site, next as u32)?;
+        self.positions.push_unchosen(sequent, history, priority)?;
+        Ok(next)
+    }
+
+    // the number of the position with a side chosen at one node more, which is a new one
+    pub(crate) fn add_chosen(
+        &mut self,
+        v: u32,
+        priority: u32,
+        node: u32,
+        side: Side,
     ) -> Result<usize, NoMemory>
         requires pool { KeepsPool self.old }
-        requires number { v < length self.old.positions.keys }
+        requires number { v < length self.old.positions }
+        requires unchosen { side_of (choice_at self.old.positions v) node ≡ None }
+        requires is_new { (p : Position) → slice_get (positions_of self.old) v ≡ Some p
+            → ¬ (IsMember (beside p priority (with_side p.choice node side)) (positions_of self.old)) }
         ensures { IfOk result (λ w. (p : Position) → slice_get (positions_of self.old) v ≡ Some p
-            → IsInterned (positions_of self.old) (beside p priority choice) self.new w) }
+            → IsInterned (positions_of self.old) (beside p priority (with_side p.choice node side)) self.new w) }
     {
-        let stored = &self.positions.as_slice()[v];
-        let position = Stored {
-            sequent: stored.sequent,
-            history: stored.history,
-            priority,
-            choice,
-        };
-        let number = add_position(&mut self.positions, position)?;
-        Ok(number)
+        let next = self.positions.len();
+        self.positions.push_chosen(v, priority, node, side)?;
+        Ok(next)
     }
 }

@@ -28,6 +28,22 @@ impl Recorded {
         }
     }
 
+    // the same again
+    pub(crate) fn copy(&self, alloc: Global) -> Result<Recorded, NoMemory>
+        ensures { IfOk result (λ copied. copied ≡ self.now) }
+    {
+        match self {
+            Recorded::Waiting => Ok(Recorded::Waiting),
+            Recorded::Lost => Ok(Recorded::Lost),
+            Recorded::Won => Ok(Recorded::Won),
+            Recorded::Chosen { left, right } => Ok(Recorded::Chosen {
+                left: *left,
+                right: *right,
+            }),
+            Recorded::Led(moves) => Ok(Recorded::Led(Vec::from_slice(alloc, moves)?)),
+        }
+    }
+
     // the moves as vertices of the game, where there are so many positions
     pub(crate) fn into_moves(self, alloc: Global, size: u64) -> Result<Vec<u64>, NoMemory>
         requires { size < 2 ^ 32 }

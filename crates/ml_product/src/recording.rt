@@ -1,5 +1,5 @@
 // What was found at the positions so far, by their numbers.
-ghost use Rattle.std.specs.Prelude.{◌≡◌, ◌<◌, ◌≤◌, ◌↔◌, ℕ, [], IsTrue, OnOk, length, get_or};
+ghost use Rattle.std.specs.Prelude.{◌≡◌, ◌<◌, ◌≤◌, ◌↔◌, ℕ, [], IsTrue, IfOk, OnOk, length, get_or};
 ghost use Rattle.ml_product.specs.declared.recorded.Recorded.TheVariants.{Waiting};
 ghost use Rattle.ml_product.specs.private.Exploring.{IsWaiting, Records};
 
@@ -50,6 +50,16 @@ impl Turns {
         make_room(&mut self.all, v as usize)?;
         self.all[v as usize] = found;
         Ok(())
+    }
+
+    // what was found at the position with this number, once more
+    pub(crate) fn found(&self, v: u32) -> Result<Recorded, NoMemory>
+        ensures { IfOk result (λ found. found ≡ get_or self.now v Waiting) }
+    {
+        match self.all.get(v as usize) {
+            Some(found) => found.copy(*self.all.allocator()),
+            None => Ok(Recorded::Waiting),
+        }
     }
 
     // what was found, in the order of numbers

@@ -1,6 +1,7 @@
 // What is done at a position: its verdict, and the numbers of the positions to which its moves lead.
 ghost use Rattle.std.specs.Prelude.{◌≡◌, ◌<◌, ◌≤◌, ◌^◌, ℕ, None, Some, IfOk, OnOk, IfSome, IfNone, IsErrOf, length, map, slice_get};
 ghost use Rattle.ml_graph.specs.Graph.{IsGraph};
+ghost use Rattle.ml_lists.specs.Member.{IsMember};
 ghost use Rattle.ml_sequent.specs.Choice.{side_of, with_side};
 ghost use Rattle.ml_sequent.specs.Spread.{IsSpreadOf, IsCause, IsLeastOpenOr};
 ghost use Rattle.ml_sequent.specs.declared.clashes.ClashCause.{ClashCause};
@@ -9,7 +10,7 @@ ghost use Rattle.ml_product.specs.Position.{Position, automaton_states};
 ghost use Rattle.ml_product.specs.DecisionGame.{IsReached, HasMoreThan, IsResolved, AreSteps, diamonds_of};
 ghost use Rattle.ml_product.specs.View.{viewed};
 ghost use Rattle.ml_product.specs.private.Pools.{positions_of, position_of, KeepsPool, beside};
-ghost use Rattle.ml_product.specs.private.Exploring.{AreTerms, IsNumbered, HasNoRoom, at_place, target_of, IsAt, IsLed, IsTurnOf};
+ghost use Rattle.ml_product.specs.private.Exploring.{AreTerms, IsNumbered, HasNoRoom, at_place, target_of, IsAt, IsLed, IsTurnOf, HasNoneBelow};
 
 use crate::following::{Terms, follow};
 use crate::pool::{Fresh, Pool};
@@ -17,7 +18,7 @@ use crate::recorded::Recorded;
 use crate::refusals::ExploreRefusal;
 use crate::view::View;
 use ml_base::NoMemory;
-use ml_sequent::{Branch, Choice, Side};
+use ml_sequent::{Branch, Side};
 use std::alloc::Global;
 
 /// What is done at a position: nothing more than is recorded of it, or a side is chosen at an or-node, which leads to
@@ -51,27 +52,7 @@ fn number(pool: &mut Pool, limit: u32, fresh: Fresh) -> Result<u32, ExploreRefus
     within(number, limit)
 }
 
-// the number of the position with another choice
-fn number_beside(
-    pool: &mut Pool,
-    limit: u32,
-    v: u32,
-    neutral: u32,
-    choice: Choice,
-) -> Result<u32, ExploreRefusal>
-    requires pool { KeepsPool pool.old }
-    requires few { length (positions_of pool.old) ≤ limit }
-    requires number { v < length (positions_of pool.old) }
-    ensures ok { IfOk result (λ w. (p : Position) → slice_get (positions_of pool.old) v ≡ Some p
-        → IsNumbered limit (positions_of pool.old) (beside p neutral choice) pool.new w) }
-    ensures passed { IsErrOf result refusal.Passed → (p : Position) → slice_get (positions_of pool.old) v ≡ Some p
-        → HasNoRoom limit (positions_of pool.old) (beside p neutral choice) }
-{
-    let number = pool.beside(v as usize, neutral, choice)?;
-    within(number, limit)
-}
-
-// the number of the position with one more side chosen
+// the number of the position with one more side chosen, which is a new one
 fn chosen(
     pool: &mut Pool,
     limit: u32,
@@ -84,13 +65,15 @@ fn chosen(
     requires few { length (positions_of pool.old) ≤ limit }
     requires number { v < length (positions_of pool.old) }
     requires unchosen { (p : Position) → slice_get (positions_of pool.old) v ≡ Some p → side_of p.choice node ≡ None }
+    requires is_new { (p : Position) → slice_get (positions_of pool.old) v ≡ Some p
+        → ¬ (IsMember (beside p neutral (with_side p.choice node side)) (positions_of pool.old)) }
     ensures ok { IfOk result (λ w. (p : Position) → slice_get (positions_of pool.old) v ≡ Some p
         → IsNumbered limit (positions_of pool.old) (beside p neutral (with_side p.choice node side)) pool.new w) }
     ensures passed { IsErrOf result refusal.Passed → (p : Position) → slice_get (positions_of pool.old) v ≡ Some p
         → HasNoRoom limit (positions_of pool.old) (beside p neutral (with_side p.choice node side)) }
 {
-    let choice = pool.view(v as usize).choice.with(node, side)?;
-    number_beside(pool, limit, v, neutral, choice)
+    let number = pool.add_chosen(v, neutral, node, side)?;
+    within(number, limit)
 }
 
 // where an or-node is open: the positions with a side chosen at the least one
@@ -106,6 +89,7 @@ fn choose(
     requires at { IsAt branch.now.graph limit pool.old v branch.now.spread }
     requires no_clash { (x : ClashCause) → ¬ (IsCause branch.now.graph branch.now.spread x) }
     requires least { IsLeastOpenOr branch.now.graph branch.now.spread node }
+    requires fresh { HasNoneBelow (positions_of pool.old) (at_place branch.now.graph (positions_of pool.old) v) }
     ensures turned { IfOk result (IsTurnOf branch.now.graph limit (positions_of pool.old) v branch.now.spread
         pool.new) }
     ensures passed { IsErrOf result refusal.Passed → HasMoreThan branch.now.graph limit }
@@ -128,7 +112,7 @@ fn follow_all(
     requires terms { AreTerms branch.old.graph terms.now }
     requires reached { IsReached branch.old.graph (viewed view) }
     requires sequent { branch.old.sequent ≡ view.sequent.now }
-    requires spread { IsSpreadOf branch.old.graph view.sequent.now view.choice.now branch.old.spread }
+    requires spread { IsSpreadOf branch.old.graph view.sequent.now (viewed view).choice branch.old.spread }
     requires diamonds { diamonds.now ≡ diamonds_of branch.old.graph branch.old.spread }
     ensures same { branch.new ≡ branch.old }
     ensures steps { IfOk result (λ made.
@@ -163,7 +147,7 @@ fn lead(
     ensures led { IfOk result (IsLed branch.old.graph limit (positions_of pool.old) v pool.new) }
     ensures passed { IsErrOf result refusal.Passed → HasMoreThan branch.old.graph limit }
 {
-    let view = pool.view(v as usize);
+    let view = pool.view(v);
     let made = follow_all(alloc, branch, terms, view, diamonds)?;
     let mut moves = Vec::with_capacity(alloc, made.len())?;
     for fresh in made {
@@ -215,6 +199,7 @@ pub(crate) fn take_turn(
     requires terms { AreTerms branch.old.graph terms.now }
     requires at { IsAt branch.old.graph limit pool.old v branch.old.spread }
     requires sequent { branch.old.sequent ≡ (at_place branch.old.graph (positions_of pool.old) v).sequent }
+    requires fresh { HasNoneBelow (positions_of pool.old) (at_place branch.old.graph (positions_of pool.old) v) }
     ensures same { branch.new ≡ branch.old }
     ensures turned { IfOk result (IsTurnOf branch.old.graph limit (positions_of pool.old) v branch.old.spread
         pool.new) }

@@ -11,6 +11,10 @@
 --   target_of x        == the target that is the position made as x
 --   IsLed              == the vertices are those of the moves from the position at v, along diamonds
 --   IsTurned           == the pool that was has become that which is, and what is found at the position at v was recorded
+--   Extends c d        == all sides of c are sides of d
+--   IsBelow p q        == q has the sequent and the history of p, and all of its sides
+--   HasNoneBelow ps p  == no other choice below p is among ps
+--   AddsBelow ps p qs  == those of qs that aren't among ps have no choice, or are below p
 --   AddsUnchosen g ps b == no side is chosen at the positions that are new
 --   IsEnded, IsOpened  == so it was, and no side is chosen next, or one is at this or-node, which leads to these
 --                         numbers
@@ -21,6 +25,9 @@
 --   AreWaiting g b rs ws == a position of which nothing was recorded is one of ws, or has no choice
 --   IsExplored g limit b rs v d ts == the exploration went on from the position at v, until nothing waits behind it but
 --                         positions without a choice
+--   IsRooted ps rs q   == the exploration went on from the first position without a choice that has the sequent and the
+--                         history of q
+--   AreRooted ps rs    == so it did for all that have a choice
 --   IsStarted g b      == the pool has the start alone
 --   arena_of b rs      == the arena of the pool with what was recorded
 --   AreTurned          == so it was for all positions with numbers below that of what was recorded
@@ -28,7 +35,9 @@ use Rattle.std.specs.Prelude.{ℕ, ◌≡◌, ◌<◌, ◌≤◌, ◌⊎◌, Lis
 use Rattle.std.specs.Global.{Vec}
 use Rattle.ml_lists.specs.Member.{IsMember}
 use Rattle.ml_graph.specs.Graph.{Graph, odd_priorities}
+use Rattle.ml_sequent.specs.declared.choice.Side.{Side}
 use Rattle.ml_sequent.specs.declared.choice.Side.TheVariants.{Left, Right}
+use Rattle.ml_sequent.specs.Choice.{side_of}
 use Rattle.ml_sequent.specs.Spread.{SpreadList, IsSpreadOf, IsOpenOr}
 use Rattle.ml_product.specs.Position.{Position, start_of, neutral, with_chosen}
 use Rattle.ml_product.specs.DecisionGame.{Target, To, IsReached}
@@ -40,7 +49,7 @@ use Rattle.ml_product.specs.declared.recorded.Recorded.{Recorded}
 use Rattle.ml_product.specs.declared.recorded.Recorded.TheVariants as recorded
 use Rattle.ml_product.specs.declared.turns.Turn.{Turn}
 use Rattle.ml_product.specs.declared.turns.Turn.TheVariants as turn
-use Rattle.ml_product.specs.private.Pools.{positions_of, position_of, KeepsPool}
+use Rattle.ml_product.specs.private.Pools.{positions_of, position_of, KeepsPool, IsFirst}
 use Rattle.ml_lists.specs.Added.{IsAdded}
 use Rattle.ml_product.specs.private.Recorded.{owner_of, moves_of, IsRecorded}
 
@@ -89,6 +98,24 @@ pub record IsAt (g : Graph) (limit : ℕ) (b : Pool) (v : ℕ) (sp : SpreadList)
 -- the target of a position that was made
 abbrev pub target_of : Fresh → Target
 target_of x = To (position_of x)
+
+-- all sides that are chosen in the one choice are in the other
+abbrev pub Extends : List (ℕ × Side) → List (ℕ × Side) → Type 0
+Extends c d = (n : ℕ) (s : Side) → side_of c n ≡ Some s → side_of d n ≡ Some s
+
+-- q has the sequent and the history of p, and all of its sides
+pub record IsBelow (p q : Position) : Type 0 where
+  pub sequent : q.sequent ≡ p.sequent
+  pub history : q.history ≡ p.history
+  pub sides : Extends p.choice q.choice
+
+-- no position has more sides than p
+abbrev pub HasNoneBelow : List Position → Position → Type 0
+HasNoneBelow ps p = (q : Position) → IsMember q ps → IsBelow p q → q.choice ≡ p.choice
+
+-- those that are new have no choice, or all sides of p
+abbrev pub AddsBelow : List Position → Position → List Position → Type 0
+AddsBelow ps p qs = (q : Position) → IsMember q qs → IsMember q ps ⊎ (q.choice ≡ []) ⊎ IsBelow p q
 
 -- no side is chosen at the positions that are new
 abbrev pub AddsUnchosen : Graph → List Position → Pool → Type 0
@@ -157,6 +184,17 @@ pub record IsExplored (g : Graph) (limit : ℕ) (b : Pool) (rs : List Recorded) 
   pub kept : (w : ℕ) → (IsWaiting rs w → ⊥) → IsWaiting ts w → ⊥
   pub done : IsWaiting ts v → ⊥
   pub waiting : (ws : List ℕ) → AreWaiting g b rs (v ∷ ws) → AreWaiting g d ts ws
+  pub adds : AddsBelow (positions_of b) (at_place g (positions_of b) v) (positions_of d)
+
+-- the exploration went on from the first position without a choice that has the sequent and the history of q
+pub record IsRooted (ps : List Position) (rs : List Recorded) (q : Position) : Type 0 where
+  pub root : ℕ
+  pub is_first : IsFirst ps q root
+  pub found : IsWaiting rs root → ⊥
+
+-- so it did for each position with a choice
+abbrev pub AreRooted : List Position → List Recorded → Type 0
+AreRooted ps rs = (q : Position) → IsMember q ps → (q.choice ≡ [] → ⊥) → IsRooted ps rs q
 
 -- so it was for all positions with numbers below that of what was recorded
 pub record AreTurned (g : Graph) (limit : ℕ) (b : Pool) (rs : List Recorded) : Type 0 where

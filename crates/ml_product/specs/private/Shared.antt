@@ -12,10 +12,10 @@ use Rattle.std.specs.Prelude.{ℕ, ◌≡◌, ◌+◌, ◌<◌, ◌^◌, List, [
 use Rattle.ml_parity.specs.declared.players.Player.{Player}
 use Rattle.ml_trace.specs.Stack.{Item}
 use Rattle.ml_product.specs.Position.{Position}
-use Rattle.ml_product.specs.declared.stored.Stored.{Stored}
+use Rattle.ml_product.specs.private.Placed.{Placed}
 
 -- the position for which x stands
-abbrev pub seen : List (List ℕ) → List (List (Item ℕ)) → Stored → Position
+abbrev pub seen : List (List ℕ) → List (List (Item ℕ)) → Placed → Position
 seen ss hs x = record {
   sequent = get_or ss x.sequent [];
   history = get_or hs x.history [];
@@ -24,20 +24,20 @@ seen ss hs x = record {
 }
 
 -- the positions for which xs stand
-abbrev pub shown : List (List ℕ) → List (List (Item ℕ)) → List Stored → List Position
+abbrev pub shown : List (List ℕ) → List (List (Item ℕ)) → List Placed → List Position
 shown ss hs xs = map (seen ss hs) xs
 
 -- the places that x has are places of the tables
-pub record IsWithin (ss : List (List ℕ)) (hs : List (List (Item ℕ))) (x : Stored) : Type 0 where
+pub record IsWithin (ss : List (List ℕ)) (hs : List (List (Item ℕ))) (x : Placed) : Type 0 where
   pub sequent : x.sequent < length ss
   pub history : x.history < length hs
 
 -- the places that each of xs has are
-abbrev pub AreWithin : List (List ℕ) → List (List (Item ℕ)) → List Stored → Type 0
-AreWithin ss hs xs = (v : ℕ) (x : Stored) → slice_get xs v ≡ Some x → IsWithin ss hs x
+abbrev pub AreWithin : List (List ℕ) → List (List (Item ℕ)) → List Placed → Type 0
+AreWithin ss hs xs = (v : ℕ) (x : Placed) → slice_get xs v ≡ Some x → IsWithin ss hs x
 
 -- what an arena keeps
-pub record IsHeld (ss : List (List ℕ)) (hs : List (List (Item ℕ))) (xs : List Stored) (owners : List Player) (moves : List (List ℕ)) : Type 0 where
+pub record IsHeld (ss : List (List ℕ)) (hs : List (List (Item ℕ))) (xs : List Placed) (owners : List Player) (moves : List (List ℕ)) : Type 0 where
   pub within : AreWithin ss hs xs
   pub an_owner_each : length owners ≡ length xs
   pub moves_each : length moves ≡ length xs

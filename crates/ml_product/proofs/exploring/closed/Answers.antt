@@ -16,23 +16,23 @@ use Rattle.ml_product.proofs.exploring.closed.Goals as goal
 module _ (pool : Pool) (turns now : List Recorded) (owners : List Player) (moves : List (Vec ℕ)) (n : ℕ)
     (shown_is : now ≡ turns)
     (owners_are : owners ≡ map owner_of now)
-    (size_is : n ≡ length pool.positions.keys)
+    (size_is : n ≡ length pool.positions)
     (moves_are : lists_of moves ≡ map (moves_of n) turns) where
   players_of : owners ≡ map owner_of turns
   players_of = owners_are ∙ ap (map owner_of) shown_is
 
   count : n ≡ length (positions_of pool)
-  count = size_is ∙ sym (length-map pool.positions.keys (seen pool.sequents.keys pool.histories.keys))
+  count = size_is ∙ sym (length-map pool.positions (seen pool.sequents.keys pool.histories.keys))
 
   vertices_of : lists_of moves ≡ map (moves_of (length (positions_of pool))) turns
   vertices_of = moves_are ∙ ap (λ m. map (moves_of m) turns) count
 
-  held : IsHeld pool.sequents.keys pool.histories.keys pool.positions.keys (map owner_of turns)
+  held : IsHeld pool.sequents.keys pool.histories.keys pool.positions (map owner_of turns)
       (map (moves_of (length (positions_of pool))) turns)
-      → IsHeld pool.sequents.keys pool.histories.keys pool.positions.keys owners (lists_of moves)
+      → IsHeld pool.sequents.keys pool.histories.keys pool.positions owners (lists_of moves)
   held h =
-      subst (λ os. IsHeld pool.sequents.keys pool.histories.keys pool.positions.keys os (lists_of moves)) (sym players_of)
-      (subst (IsHeld pool.sequents.keys pool.histories.keys pool.positions.keys (map owner_of turns)) (sym vertices_of) h)
+      subst (λ os. IsHeld pool.sequents.keys pool.histories.keys pool.positions os (lists_of moves)) (sym players_of)
+      (subst (IsHeld pool.sequents.keys pool.histories.keys pool.positions (map owner_of turns)) (sym vertices_of) h)
 
   made : (a : Arena)
       → a ≡ record { positions = positions_of pool; owners = owners; moves = lists_of moves }

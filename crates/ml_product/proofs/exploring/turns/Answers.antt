@@ -28,7 +28,7 @@ all_done : (c : goal.After-into_vec) → (v : ℕ) → v < length (positions_of 
     v → ⊥
 all_done c v low =
     let pool = c.loop-v.pool in
-    let long = length-map pool.positions.keys (seen pool.sequents.keys pool.histories.keys) in
+    let long = length-map pool.positions (seen pool.sequents.keys pool.histories.keys) in
     c.loop-v.invariant.done v (omega (arith, long, low, c.len.ensures, c.loop-v-test.false))
 
 pub returns-clause-turned : goal.returns-clause-turned

@@ -1,6 +1,6 @@
 -- The terms are those of the graph, and what is reached keeps to its nodes; so numbers of states are small, and marks
 -- stand below the neutral priority.
-use Rattle.std.proofs.Common.{ℕ, List, ◌%◌, ◌==◌, sym, ap, ◌∙◌, subst}
+use Rattle.std.proofs.Common.{ℕ, List, ◌%◌, ◌==◌, refl, sym, ap, ◌∙◌, subst}
 use Rattle.std.specs.List.{filter}
 use Rattle.ml_lists.specs.Ascending.{IsAscending}
 use Rattle.ml_lists.proofs.Ascending.{ascending-is}
@@ -28,7 +28,7 @@ letter_of-requires-clause-room c =
     let sp = c.args.branch.now.spread in
     subst (λ odds. AllHaveRoom odds c.in_ok-sequent.traces) (sym (c.deref.ensures.value ∙ c.requires.terms.odds))
     (trace_room g C sp c.args.diamond c.in_ok-sequent.sequent c.in_ok-sequent.traces c.requires.is_graph c.requires.small
-    (own_choice g C c.args.view.choice.now sp c.requires.spread) c.requires.diamond.member
+    (own_choice g C (viewed c.args.view).choice sp c.requires.spread) c.requires.diamond.member
     (reached_low g c.requires.is_graph (viewed c.args.view) c.requires.reached)
     (subst (λ (ns : List ℕ). IsStep c.args.branch.now.graph ns c.args.branch.now.spread c.args.diamond
     c.in_ok-sequent.sequent
@@ -55,5 +55,5 @@ returns-clause-follows c = record {
   history = c.in_ok-history.ensures.history;
   marked = c.priority_of.ensures ∙ ap (λ k. priority k c.in_ok-history.mark) c.requires.terms.neutral_is
       ∙ ap (priority (neutral c.args.branch.now.graph)) c.in_ok-history.ensures.mark;
-  unchosen = c.empty.ensures;
+  unchosen = refl;
 }

@@ -12,6 +12,17 @@ chosen-requires-clause-unchosen c =
     unchosen_at c.args.branch.now.graph c.args.limit c.args.pool.now c.args.v c.args.branch.now.spread c.requires.at
     c.args.terms.now.neutral c.requires.terms.neutral_is c.args.node c.requires.no_clash c.requires.least
 
+-- what is there is the position at which no side was chosen
+unchosen_there : (c : goal.After-chosen-arg-1) → side_of (at_place c.args.branch.now.graph (positions_of c.args.pool.now)
+    c.args.v).choice c.args.node ≡ None
+unchosen_there c = ?
+
+pub chosen-requires-clause-is_new : goal.chosen-requires-clause-is_new
+chosen-requires-clause-is_new c = ?
+
+pub chosen-requires-2-clause-is_new : goal.chosen-requires-2-clause-is_new
+chosen-requires-2-clause-is_new c = ?
+
 pub returns-in_err-left-clause-passed : goal.returns-in_err-left-clause-passed
 returns-in_err-left-clause-passed c = λ e.
     let g = c.args.branch.now.graph in

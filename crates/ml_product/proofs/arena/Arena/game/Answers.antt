@@ -12,7 +12,7 @@ pub returns : goal.returns
 returns c =
     let i = c.self.inside in
     let n = c.len-size.result in
-    game_from i.pool.sequents.keys i.pool.histories.keys i.pool.positions.keys i.owners.items (lists_of i.moves.items) c.args.self.now
+    game_from i.pool.sequents.keys i.pool.histories.keys i.pool.positions i.owners.items (lists_of i.moves.items) c.args.self.now
     c.self.view_is c.in_ok-owner.owner.items c.in_ok-priority.priority.items
     (lists_of c.in_ok-successors.successors.items) n c.len-size.ensures
     (c.in_ok-owner.ensures ∙ ap (λ xs. xs ++ Even ∷ Even ∷ []) c.deref.ensures.value)
@@ -24,5 +24,5 @@ pub invariant_of-result : goal.invariant_of-result
 invariant_of-result c =
     let i = c.self.inside in
     subst IsGame (ap game_of c.self.view_is ∙ sym (returns c))
-    (held_is_game i.pool.sequents.keys i.pool.histories.keys i.pool.positions.keys i.owners.items (lists_of i.moves.items)
+    (held_is_game i.pool.sequents.keys i.pool.histories.keys i.pool.positions i.owners.items (lists_of i.moves.items)
     c.self.invariant)

@@ -1,14 +1,54 @@
--- What the three additions say is what the pool keeps.
+-- What the additions say is what the pool keeps.
+use Rattle.std.proofs.Common.{ℕ, ◌≡◌, List, [], Result, Ok, Err, IfOk, OnOk, ap, sym, subst}
+use Rattle.std.proofs.lemmas.Result.{on_ok_weaker}
+use Rattle.ml_base.specs.declared.no_memory.NoMemory.{NoMemory}
+use Rattle.ml_lists.specs.Added.{IsAdded}
+use Rattle.ml_trace.specs.Stack.{Item}
+use Rattle.ml_product.specs.declared.pool.Fresh.{Fresh}
+use Rattle.ml_product.specs.declared.pool.Pool.{Pool}
+use Rattle.ml_product.specs.private.Numbers.{Leads}
+use Rattle.ml_product.specs.private.Placed.{Placed, site_of, top_of}
+use Rattle.ml_product.specs.private.Pools.{IsPool, KeepsPool, IsInterned, positions_of, position_of}
+use Rattle.ml_product.specs.private.Shared.{shown}
 use Rattle.ml_product.proofs.Interning.{still_pool, still_added}
 use Rattle.ml_product.proofs.pool.Pool.intern.Goals as goal
 
+module _ (a d : Pool) (x : Fresh) (ts : List (List ℕ)) (gs : List (List (Item ℕ))) (s h : ℕ) (pool : KeepsPool a)
+    (at_s : IsAdded a.sequents.keys x.sequent ts s)
+    (at_h : IsAdded a.histories.keys x.history gs h) where
+  abbrev made : Placed
+  made = record { sequent = s; history = h; priority = x.priority; choice = [] }
+
+  interned : (v : ℕ) → d.sequents.keys ≡ ts → d.histories.keys ≡ gs → IsAdded a.positions made d.positions v
+      → Leads top_of d.positions d.tops.keys d.top_numbers.items
+      → Leads site_of d.positions d.sites.keys d.site_numbers.items
+      → IsInterned (positions_of a) (position_of x) d v
+  interned v es eh added tops sites = record {
+    is_pool = subst (λ ss. IsPool ss d.histories.keys d.positions d.tops.keys d.top_numbers.items d.sites.keys
+        d.site_numbers.items) (sym es)
+        (subst (λ hs. IsPool ts hs d.positions d.tops.keys d.top_numbers.items d.sites.keys d.site_numbers.items) (sym eh)
+        (still_pool a.sequents.keys ts a.histories.keys gs a.positions d.positions x.sequent x.history made v a.tops.keys
+        a.top_numbers.items a.sites.keys a.site_numbers.items pool at_s at_h added d.tops.keys d.top_numbers.items
+        d.sites.keys d.site_numbers.items tops sites));
+    added = subst (λ ss. IsAdded (positions_of a) (position_of x) (shown ss d.histories.keys d.positions) v) (sym es)
+        (subst (λ hs. IsAdded (positions_of a) (position_of x) (shown ts hs d.positions) v) (sym eh)
+        (still_added a.sequents.keys ts a.histories.keys gs a.positions d.positions x.sequent x.history made v
+        a.tops.keys a.top_numbers.items a.sites.keys a.site_numbers.items pool at_s at_h added));
+  }
+
+  of_answer : (r : Result ℕ NoMemory) → OnOk r (d.sequents.keys ≡ ts) → OnOk r (d.histories.keys ≡ gs)
+      → IfOk r (IsAdded a.positions made d.positions)
+      → OnOk r (Leads top_of d.positions d.tops.keys d.top_numbers.items)
+      → OnOk r (Leads site_of d.positions d.sites.keys d.site_numbers.items)
+      → IfOk r (IsInterned (positions_of a) (position_of x) d)
+  of_answer (Ok v) es eh added tops sites = interned v es eh added tops sites
+  of_answer (Err e) es eh added tops sites = tt
+
 pub returns : goal.returns
 returns c =
-    let a = c.args.self.now in record {
-      is_pool = still_pool a.sequents.keys c.add_sequent.new.table.keys a.histories.keys c.add_history.new.table.keys
-          a.positions.keys c.add_position.new.table.keys c.args.fresh.sequent c.args.fresh.history _
-          c.in_ok-number.number c.requires.pool c.in_ok-sequent.ensures c.in_ok-history.ensures c.in_ok-number.ensures;
-      added = still_added a.sequents.keys c.add_sequent.new.table.keys a.histories.keys c.add_history.new.table.keys
-          a.positions.keys c.add_position.new.table.keys c.args.fresh.sequent c.args.fresh.history _
-          c.in_ok-number.number c.requires.pool c.in_ok-sequent.ensures c.in_ok-history.ensures c.in_ok-number.ensures;
-    }
+    let h = c.intern_placed.ensures in
+    of_answer c.args.self.now c.intern_placed.new.self c.args.fresh c.add_sequent.new.table.keys
+    c.add_history.new.table.keys c.in_ok-sequent.field-0 c.in_ok-history.field-0 c.requires.pool c.in_ok-sequent.ensures
+    c.in_ok-history.ensures c.intern_placed.result
+    (on_ok_weaker c.intern_placed.result (ap (λ t. t.keys)) h.sequents)
+    (on_ok_weaker c.intern_placed.result (ap (λ t. t.keys)) h.histories) h.added h.tops h.sites
