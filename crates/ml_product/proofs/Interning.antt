@@ -3,6 +3,7 @@
 --   different_more == different positions, and one that isn't among them, are different
 --   shown_same     == what was added to the tables changes no position
 --   chosen_pool, chosen_added == the same for a position with a side more, which is a new one
+--   shown_at       == a position is shown at its place
 --   has_site, first_shown == the first position without a choice that has the sequent and the history of another one
 --   still_pool, still_added == behind an addition the pool keeps what it has to, and has the position
 use Rattle.std.proofs.Common.{ℕ, suc, ◌≡◌, ◌+◌, ◌<◌, ◌≤◌, ◌⊎◌, inl, inr, List, [], ◌∷◌, ◌++◌, length, map, slice_get, get_or, Some, refl, sym, ap, ◌∙◌, subst, arith}
@@ -254,6 +255,13 @@ module _ (ss : List (List ℕ)) (hs : List (List (Item ℕ))) (xs : List Placed)
   chosen_added =
       subst (λ c. IsAdded (shown ss hs xs) (beside p priority c) (shown ss hs (xs ++ more ∷ [])) (length xs)) choices_are
       (still_added ss ss hs hs xs (xs ++ more ∷ []) p.sequent p.history more (length xs) ks ls bs ms pool at_s at_h at_x)
+
+-- a position is shown at its place
+pub shown_at : (ss : List (List ℕ)) (hs : List (List (Item ℕ))) (xs : List Placed) (v : ℕ) → v < length (shown ss hs xs)
+    → (v < length xs) × (slice_get (shown ss hs xs) v ≡ Some (seen ss hs (get_or xs v nowhere)))
+shown_at ss hs xs v inside =
+    let low : v < length xs = omega (arith, inside, length-map xs (seen ss hs)) in
+    (low, slice_get-map (seen ss hs) xs v ∙ ap (option_map (seen ss hs)) (slice_get-get_or xs v nowhere low))
 
 -- the first position without a choice that has the sequent and the history of another one
 module _ (ss : List (List ℕ)) (hs : List (List (Item ℕ))) (xs : List Placed) (k : ℕ)

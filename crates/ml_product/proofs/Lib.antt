@@ -24,7 +24,9 @@ pub mod Placing
 pub mod Naming
 -- positions of one tree
 pub mod Below
--- positions that differ in their priority alone, and the first one of each such kind
+-- positions that differ in their priority alone
+pub mod Twins
+-- the first one of them
 pub mod Roots
 -- what there is one of: where a step leads, and the moves of a position
 pub mod OneTurn

@@ -1,6 +1,5 @@
--- Positions that differ in their priority alone, and the first one of each such kind.
+-- The first one of the positions that differ in their priority alone.
 --
---   twin_recorded   == what is found at the one is found at the other
 --   first_longer    == the first one stays so
 --   first_low       == it doesn't stand behind a position of its kind
 --   fresh_first     == while nothing was found at it, no side was chosen with its sequent and its history
@@ -12,72 +11,14 @@ use Rattle.std.proofs.lemmas.Bool.{cases_lt}
 use Rattle.std.proofs.lemmas.Option.{slice_get_within, get_or_from_slice_get}
 use Rattle.ml_lists.specs.Member.{IsMember}
 use Rattle.ml_graph.specs.Graph.{Graph}
-use Rattle.ml_sequent.specs.Spread.{SpreadList}
-use Rattle.ml_product.specs.Position.{Position, start_of, Follows}
-use Rattle.ml_product.specs.DecisionGame.{Verdict, Clashing, Open, Leading, Settled, Target, AreSteps, AreMoves, Turn}
+use Rattle.ml_product.specs.Position.{Position, start_of}
 use Rattle.ml_product.specs.declared.pool.Pool.{Pool}
 use Rattle.ml_product.specs.declared.recorded.Recorded.{Recorded}
 use Rattle.ml_product.specs.private.Pools.{positions_of, IsFirst}
-use Rattle.ml_product.specs.private.Recorded.{IsRecorded}
 use Rattle.ml_product.specs.private.Exploring.{IsLonger, at_place, IsBelow, HasNoneBelow, IsWaiting, AreWaiting, IsExplored, IsRooted, AreRooted}
 use Rattle.ml_product.proofs.Below.{longer_back}
 use Rattle.ml_product.proofs.OnePlace.{PlaceOf, place_of}
 use Rattle.ml_product.proofs.Vertices.{longer_get}
-
--- ---- what is found at a position of the same kind
-
-module _ (g : Graph) (p : Position) (k : ℕ) where
-  abbrev twin : Position
-  twin = record { sequent = p.sequent; history = p.history; priority = k; choice = p.choice }
-
-  twin_steps : (sp : SpreadList) (ds : List ℕ) (ts : List Target) → AreSteps g p sp ds ts → AreSteps g twin sp ds ts
-  twin_steps sp [] ts steps = steps
-  twin_steps sp (d ∷ ds) ts (q, others, follows, rest, is) = (
-    q,
-    others,
-    record {
-      traces = follows.traces;
-      letter = follows.letter;
-      is_step = follows.is_step;
-      is_letter = follows.is_letter;
-      history = follows.history;
-      marked = follows.marked;
-      unchosen = follows.unchosen;
-    },
-    twin_steps sp ds others rest,
-    is,
-  )
-
-  twin_moves : (sp : SpreadList) (v : Verdict) (ts : List Target) → AreMoves g p sp v ts → AreMoves g twin sp v ts
-  twin_moves sp Clashing ts are = are
-  twin_moves sp (Open o) ts are = are
-  twin_moves sp (Leading ds) ts are = twin_steps sp ds ts are
-  twin_moves sp Settled ts are = are
-
-  twin_found : (ps : List Position) (r : Recorded) → IsRecorded g ps p r → IsRecorded g ps twin r
-  twin_found ps r is = record {
-    turn = record {
-      spread = is.turn.spread;
-      verdict = is.turn.verdict;
-      targets = is.turn.targets;
-      is_spread = is.turn.is_spread;
-      is_verdict = is.turn.is_verdict;
-      are_moves = twin_moves is.turn.spread is.turn.verdict is.turn.targets is.turn.are_moves;
-    };
-    owner_is = is.owner_is;
-    moves_are = is.moves_are;
-  }
-
--- what is found at the one is found at the other
-pub twin_recorded : (g : Graph) (ps : List Position) (p q : Position) (r : Recorded) → p.sequent ≡ q.sequent
-    → p.history ≡ q.history
-    → p.choice ≡ q.choice
-    → IsRecorded g ps p r
-    → IsRecorded g ps q r
-twin_recorded g ps p q r s h c is =
-    let same : twin g p q.priority ≡ q =
-    λ i. record { sequent = s i; history = h i; priority = q.priority; choice = c i } in
-    subst (λ x. IsRecorded g ps x r) same (twin_found g p q.priority ps r is)
 
 -- ---- the first one
 

@@ -5,6 +5,7 @@
 --   clashed     == where the spread clashes, the position is lost
 --   settled     == where there is nothing to do, it is won
 --   unchosen_at == no side is chosen at the least open or-node
+--   first_new, second_new == where none is below it, the positions with the one side and with the other are new
 --   chosen_becomes, chosen_passed, chosen_turned == a side is chosen there, and then the other
 --   new_place   == a number that is new belongs to the position that was added
 --   both_opened == only the positions with these sides are new
@@ -37,8 +38,9 @@ use Rattle.ml_product.specs.declared.pool.Pool.{Pool}
 use Rattle.ml_product.specs.declared.recorded.Recorded.TheVariants as recorded
 use Rattle.ml_product.specs.private.Pools.{positions_of, position_of, beside}
 use Rattle.ml_product.specs.private.Recorded.{AreVerticesAt, IsRecorded}
-use Rattle.ml_product.specs.private.Exploring.{IsNumbered, HasNoRoom, IsLonger, at_place, target_of, Becomes, IsAt, AddsUnchosen, IsLed, IsTurned, IsEnded, IsOpened}
+use Rattle.ml_product.specs.private.Exploring.{IsNumbered, HasNoRoom, IsLonger, at_place, target_of, Becomes, IsAt, HasNoneBelow, AddsUnchosen, IsLed, IsTurned, IsEnded, IsOpened}
 use Rattle.ml_product.proofs.ArenaGame.{same_entry}
+use Rattle.ml_product.proofs.Below.{new_beside, other_beside}
 use Rattle.ml_product.proofs.Explored.{passed, joined}
 use Rattle.ml_product.proofs.Vertices.{longer_get, longer_place, longer_self, longer_both, vertices_more, vertices_later}
 
@@ -137,6 +139,15 @@ module _ (g : Graph) (limit : ℕ) (b : Pool) (v : ℕ) (sp : SpreadList) (at : 
         ap (λ (r : Position). side_of r.choice o) (only_there q there)
         ∙ ap (λ c. side_of c o) (sym at.is_spread.choice) ∙ least.is_open.is_open.unchosen
 
+    -- a position with the first side is a new one
+    pub first_new : HasNoneBelow (positions_of b) (at_place g (positions_of b) v)
+        → (q : Position)
+        → slice_get (positions_of b) v ≡ Some q
+        → ¬ (IsMember (beside q k (with_side q.choice o Left)) (positions_of b))
+    first_new fresh q there =
+        let same = only_there q there in
+        new_beside q k o (unchosen_at q there) ps Left (subst (HasNoneBelow ps) (sym same) fresh)
+
     abbrev open_turn : Turn g here
     open_turn =
         turn_of (Open o) (To (with_chosen g here o Left) ∷ To (with_chosen g here o Right) ∷ []) (no_clash, least) refl
@@ -204,6 +215,29 @@ still_chosen g limit b d v sp k o l at k_is no_clash least first =
     still_at g limit b v sp at d
     (chosen_becomes g limit b v sp at k k_is o no_clash least Left d l
     (first (at_place g (positions_of b) v) (stands_at g limit b v sp at)))
+
+-- and one with the second side is one then
+pub second_new : (g : Graph) (limit : ℕ) (b d : Pool) (v : ℕ) (sp : SpreadList) (k o l : ℕ)
+    → IsAt g limit b v sp
+    → k ≡ neutral g
+    → ((x : ClashCause) → ¬ (IsCause g sp x))
+    → IsLeastOpenOr g sp o
+    → HasNoneBelow (positions_of b) (at_place g (positions_of b) v)
+    → ((q : Position) → slice_get (positions_of b) v ≡ Some q
+    → IsNumbered limit (positions_of b) (beside q k (with_side q.choice o Left)) d l)
+    → (q : Position)
+    → slice_get (positions_of d) v ≡ Some q
+    → ¬ (IsMember (beside q k (with_side q.choice o Right)) (positions_of d))
+second_new g limit b d v sp k o l at k_is no_clash least fresh first q there =
+    let here = at_place g (positions_of b) v in
+    let stands = stands_at g limit b v sp at in
+    let left = first here stands in
+    let once = chosen_becomes g limit b v sp at k k_is o no_clash least Left d l left in
+    let same : q ≡ here = sym (get_or_from_slice_get (positions_of d) v q (start_of g) there)
+    ∙ longer_place g (positions_of b) (positions_of d) once.longer v at.number in
+    subst (λ (p : Position). ¬ (IsMember (beside p k (with_side p.choice o Right)) (positions_of d))) (sym same)
+    (other_beside here k o (unchosen_at g limit b v sp at k k_is o no_clash least here stands) (positions_of b)
+    (positions_of d) l fresh left.added)
 
 -- both sides of the least open or-node are chosen, one behind the other
 pub chosen_turned : (g : Graph) (limit : ℕ) (b d e : Pool) (v : ℕ) (sp : SpreadList) (k o l r : ℕ)

@@ -4,6 +4,9 @@
 --   ended_explored  == where no side is chosen next, the exploration went on from it
 --   opened_waiting  == where one is, only the positions with a side more wait
 --   explored_both   == both of them are explored, one behind the other
+--   opened_members  == what is there behind a turn
+--   fresh_sides     == the sides have none below them, the second when the first is explored
+--   repeated_explored == where the same was found before, it is recorded
 --   explored_before == from a position that was met before there is nothing to do
 --   explored_next, explored_waiting == so it is for all numbers up to this one, and what waits has no choice
 --   side_place, own_at == the position with a side more, and the spread of the branch's own sequent
@@ -12,7 +15,7 @@
 --   fewer_sides     == a side more is left for fewer
 --   started_underway, started_waiting == the start alone
 --   all_turned      == where nothing waits, all positions are turned
-use Rattle.std.proofs.Common.{ℕ, ◌≡◌, ◌+◌, ◌-◌, ◌*◌, ◌<◌, ◌≤◌, ◌⊎◌, inl, inr, List, [], ◌∷◌, length, length-append, slice_get, get_or, Some, refl, sym, ap, ◌∙◌, subst, arith}
+use Rattle.std.proofs.Common.{ℕ, ◌≡◌, ◌+◌, ◌-◌, ◌*◌, ◌<◌, ◌≤◌, ◌⊎◌, inl, inr, List, [], ◌∷◌, length, length-append, slice_get, get_or, None, Some, refl, sym, ap, ◌∙◌, subst, arith}
 use Rattle.std.proofs.lemmas.Bool.{cases_lt, cases_eq}
 use Rattle.std.proofs.lemmas.List.{get_or_past, get_or_default}
 use Rattle.std.proofs.lemmas.Option.{slice_get_within, get_or_from_slice_get}
@@ -20,7 +23,8 @@ use Rattle.ml_lists.specs.Member.{IsMember}
 use Rattle.ml_lists.proofs.Member.{place-member}
 use Rattle.ml_graph.specs.Graph.{Graph, size}
 use Rattle.ml_sequent.specs.declared.choice.Side.{Side}
-use Rattle.ml_sequent.specs.Choice.{with_side}
+use Rattle.ml_sequent.specs.declared.choice.Side.TheVariants.{Left, Right}
+use Rattle.ml_sequent.specs.Choice.{side_of, with_side}
 use Rattle.ml_sequent.specs.Spread.{SpreadList, IsSpreadOf}
 use Rattle.ml_product.specs.Position.{Position, start_of, with_chosen}
 use Rattle.ml_product.specs.declared.pool.Pool.{Pool}
@@ -28,9 +32,11 @@ use Rattle.ml_product.specs.declared.recorded.Recorded.{Recorded}
 use Rattle.ml_product.specs.declared.recorded.Recorded.TheVariants as recorded
 use Rattle.ml_product.specs.private.Pools.{positions_of}
 use Rattle.ml_product.specs.private.Recorded.{IsRecorded}
-use Rattle.ml_product.specs.private.Exploring.{Explores, IsLonger, at_place, IsAt, IsStarted, IsTurned, IsEnded, IsOpened, IsWaiting, Records, IsUnderway, AreWaiting, IsExplored, AreTurned}
+use Rattle.ml_product.specs.private.Exploring.{Explores, IsLonger, at_place, IsAt, HasNoneBelow, AddsBelow, Repeats, IsStarted, IsTurned, IsEnded, IsOpened, IsWaiting, Records, IsUnderway, AreWaiting, IsExplored, AreTurned}
+use Rattle.ml_product.proofs.Below.{opened_among, fresh_left, fresh_right, adds_ended, adds_both}
 use Rattle.ml_product.proofs.Ended.{started_explores}
 use Rattle.ml_product.proofs.ReachedChoices.{with_side_length, chosen_few}
+use Rattle.ml_product.proofs.Twins.{like_recorded, twin_recorded}
 use Rattle.ml_product.proofs.Vertices.{longer_get, longer_place, longer_self, longer_both, recorded_later}
 
 -- one list is at most as long as the other
@@ -132,6 +138,8 @@ ended_explored g limit b d rs ts v r u low is records = record {
   waiting = λ ws before w w_low waits.
       new_or_old w w_low (still_waiting g limit b d rs ts v r u low is.turned records ws is.is_found before w w_low
       waits);
+  adds = adds_ended g (positions_of b) (positions_of d) (at_place g (positions_of b) v) is.turned.becomes.longer
+      is.unchosen;
 }
   where
     new_or_old : {A : Type 0} (w : ℕ) → w < length (positions_of d)
@@ -164,27 +172,56 @@ opened_waiting g limit b d rs ts v sp node l r u low is records ws before w w_lo
         new (inl left) = inl (inl left)
         new (inr right) = inl (inr (inl right))
 
+-- what is there behind a turn
+pub opened_members : (g : Graph) (limit : ℕ) (b d : Pool) (v : ℕ) (sp : SpreadList) (node l r : ℕ)
+    → IsOpened g limit (positions_of b) v sp d node l r
+    → (q : Position)
+    → IsMember q (positions_of d)
+    → IsMember q (positions_of b) ⊎ (q ≡ with_chosen g (at_place g (positions_of b) v) node Left)
+    ⊎ (q ≡ with_chosen g (at_place g (positions_of b) v) node Right)
+opened_members g limit b d v sp node l r is =
+    opened_among g (positions_of b) (positions_of d) (at_place g (positions_of b) v) node l r is.turned.becomes.longer
+    is.left is.right is.only
+
 -- both of them are explored, one behind the other
 pub explored_both : (g : Graph) (limit : ℕ) (b d e f : Pool) (rs ts us xs : List Recorded) (v : ℕ)
     (sp : SpreadList) (node l r : ℕ)
     → IsUnderway g limit b rs
-    → v < length (positions_of b)
+    → IsAt g limit b v sp
+    → HasNoneBelow (positions_of b) (at_place g (positions_of b) v)
     → IsOpened g limit (positions_of b) v sp d node l r
     → Records rs v (recorded.Chosen l r) ts
     → IsExplored g limit d ts l e us
     → IsExplored g limit e us r f xs
     → IsExplored g limit b rs v f xs
-explored_both g limit b d e f rs ts us xs v sp node l r u low is records one two = record {
+explored_both g limit b d e f rs ts us xs v sp node l r u at fresh is records one two = record {
   underway = two.underway;
   longer = longer_both (positions_of b) (positions_of e) (positions_of f)
       (longer_both (positions_of b) (positions_of d) (positions_of e) is.turned.becomes.longer one.longer) two.longer;
   kept = λ w found. two.kept w (one.kept w
-      (recorded_kept g limit b d rs ts v (recorded.Chosen l r) u low is.turned records (λ x. cc) w found));
-  done = two.kept v (one.kept v (recorded_done g limit b d rs ts v (recorded.Chosen l r) u low is.turned records
+      (recorded_kept g limit b d rs ts v (recorded.Chosen l r) u at.number is.turned records (λ x. cc) w found));
+  done = two.kept v (one.kept v (recorded_done g limit b d rs ts v (recorded.Chosen l r) u at.number is.turned records
       (λ x. cc)));
   waiting = λ ws before. two.waiting ws (one.waiting (r ∷ ws)
-      (opened_waiting g limit b d rs ts v sp node l r u low is records ws before));
+      (opened_waiting g limit b d rs ts v sp node l r u at.number is records ws before));
+  adds = adds_both g (positions_of b) (positions_of d) here node none fresh
+      (opened_members g limit b d v sp node l r is) (positions_of e) (positions_of f)
+      (subst (λ p. AddsBelow (positions_of d) p (positions_of e)) left one.adds)
+      (subst (λ p. AddsBelow (positions_of e) p (positions_of f)) right two.adds);
 }
+  where
+    here : Position
+    here = at_place g (positions_of b) v
+
+    none : side_of here.choice node ≡ None
+    none = ap (λ c. side_of c node) (sym at.is_spread.choice) ∙ is.is_open.is_open.unchosen
+
+    left : at_place g (positions_of d) l ≡ with_chosen g here node Left
+    left = get_or_from_slice_get (positions_of d) l (with_chosen g here node Left) (start_of g) is.left
+
+    right : at_place g (positions_of e) r ≡ with_chosen g here node Right
+    right = get_or_from_slice_get (positions_of e) r (with_chosen g here node Right) (start_of g)
+        (longer_get (positions_of d) (positions_of e) one.longer r (with_chosen g here node Right) is.right)
 
 -- from a position that was met before there is nothing to do
 pub explored_before : (g : Graph) (limit : ℕ) (b : Pool) (rs : List Recorded) (v : ℕ)
@@ -197,6 +234,7 @@ explored_before g limit b rs v u found = record {
   kept = λ w there. there;
   done = found;
   waiting = λ ws before w low waits. other ws w waits (before w low waits);
+  adds = λ q m. inl m;
 }
   where
     other : (ws : List ℕ) (w : ℕ) → IsWaiting rs w
@@ -205,6 +243,62 @@ explored_before g limit b rs v u found = record {
     other ws w waits (inl (inl here)) = absurd (found (subst (IsWaiting rs) here waits))
     other ws w waits (inl (inr m)) = inl m
     other ws w waits (inr none) = inr none
+
+-- the sides of a position have none below them, the second when the first is explored
+pub fresh_sides : (g : Graph) (limit : ℕ) (b d : Pool) (v : ℕ) (sp : SpreadList) (node l r : ℕ)
+    → IsAt g limit b v sp
+    → HasNoneBelow (positions_of b) (at_place g (positions_of b) v)
+    → IsOpened g limit (positions_of b) v sp d node l r
+    → HasNoneBelow (positions_of d) (at_place g (positions_of d) l)
+    × ((limit2 : ℕ) (e : Pool) (ts us : List Recorded) → IsExplored g limit2 d ts l e us
+    → HasNoneBelow (positions_of e) (at_place g (positions_of e) r))
+fresh_sides g limit b d v sp node l r at fresh is = (
+  subst (HasNoneBelow (positions_of d)) (sym left)
+      (fresh_left g (positions_of b) (positions_of d) here node none fresh (opened_members g limit b d v sp node l r is)),
+  λ limit2 e ts us one. subst (HasNoneBelow (positions_of e)) (sym (right e one.longer))
+      (fresh_right g (positions_of b) (positions_of d) here node none fresh
+      (opened_members g limit b d v sp node l r is) (positions_of e)
+      (subst (λ p. AddsBelow (positions_of d) p (positions_of e)) left one.adds)),
+)
+  where
+    here : Position
+    here = at_place g (positions_of b) v
+
+    none : side_of here.choice node ≡ None
+    none = ap (λ c. side_of c node) (sym at.is_spread.choice) ∙ is.is_open.is_open.unchosen
+
+    left : at_place g (positions_of d) l ≡ with_chosen g here node Left
+    left = get_or_from_slice_get (positions_of d) l (with_chosen g here node Left) (start_of g) is.left
+
+    right : (e : Pool) → IsLonger (positions_of d) (positions_of e)
+        → at_place g (positions_of e) r ≡ with_chosen g here node Right
+    right e more = get_or_from_slice_get (positions_of e) r (with_chosen g here node Right) (start_of g)
+        (longer_get (positions_of d) (positions_of e) more r (with_chosen g here node Right) is.right)
+
+-- where the same was found before, it is recorded
+pub repeated_explored : (g : Graph) (limit : ℕ) (b : Pool) (rs ts : List Recorded) (v w : ℕ)
+    → IsUnderway g limit b rs
+    → v < length (positions_of b)
+    → (at_place g (positions_of b) w).sequent ≡ (at_place g (positions_of b) v).sequent
+    → (at_place g (positions_of b) w).history ≡ (at_place g (positions_of b) v).history
+    → (at_place g (positions_of b) w).choice ≡ (at_place g (positions_of b) v).choice
+    → (IsWaiting rs w → ⊥)
+    → Repeats rs v w ts
+    → IsExplored g limit b rs v b ts
+repeated_explored g limit b rs ts v w u low s h c found is =
+    ended_explored g limit b b rs ts v is.found u low
+    (record {
+      turned = record {
+        becomes = record { explores = u.explores; longer = longer_self (positions_of b) };
+        recorded = like_recorded g (positions_of b) (at_place g (positions_of b) v) is.found
+            (get_or rs w recorded.Waiting) is.like
+            (twin_recorded g (positions_of b) (at_place g (positions_of b) w) (at_place g (positions_of b) v)
+            (get_or rs w recorded.Waiting) s h c (u.recorded w found));
+      };
+      is_found = λ e. found (is.like.waits e);
+      unchosen = λ k high less. absurd (omega arith);
+    })
+    is.records
 
 -- so it is for all numbers up to this one
 pub explored_next : (g : Graph) (limit : ℕ) (b d : Pool) (rs ts : List Recorded) (v : ℕ)

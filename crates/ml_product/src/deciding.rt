@@ -1,15 +1,14 @@
 // The exploration of a decision: from a position without a choice along both sides of each open or-node, with one
 // branch.
-ghost use Rattle.std.specs.Prelude.{◌≡◌, ◌<◌, ◌≤◌, ◌^◌, ℕ, [], OnOk, IsErrOf, length, get_or};
+ghost use Rattle.std.specs.Prelude.{◌≡◌, ◌<◌, ◌≤◌, ◌^◌, ℕ, [], OnOk, IsErrOf, length};
 ghost use Rattle.ml_graph.specs.Graph.{IsGraph};
 ghost use Rattle.ml_sequent.specs.Choice.{with_side};
 ghost use Rattle.ml_sequent.specs.Spread.{IsSpreadOf, IsOpenOr};
-ghost use Rattle.ml_product.specs.declared.recorded.Recorded.TheVariants.{Waiting};
 ghost use Rattle.ml_product.specs.declared.refusals.ExploreRefusal.TheVariants as refusal;
 ghost use Rattle.ml_product.specs.Position.{automaton_states};
 ghost use Rattle.ml_product.specs.DecisionGame.{HasMoreThan};
 ghost use Rattle.ml_product.specs.private.Pools.{positions_of};
-ghost use Rattle.ml_product.specs.private.Exploring.{AreTerms, Explores, at_place, HasNoneBelow, IsAt, IsUnderway, IsWaiting, Records, IsExplored, AreRooted};
+ghost use Rattle.ml_product.specs.private.Exploring.{AreTerms, Explores, at_place, HasNoneBelow, IsAt, IsUnderway, IsWaiting, Repeats, IsExplored, AreRooted};
 
 use crate::following::Terms;
 use crate::pool::Pool;
@@ -149,7 +148,7 @@ fn explore_first(
 
 // records of a position what was found at another one
 fn repeat(turns: &mut Turns, v: u32, other: u32) -> Result<(), NoMemory>
-    ensures { OnOk result (Records turns.old v (get_or turns.old other Waiting) turns.new) }
+    ensures { OnOk result (Repeats turns.old v other turns.new) }
 {
     let found = turns.found(other)?;
     turns.record(v, found)

@@ -1,6 +1,6 @@
 // What was found at a position.
 ghost use Rattle.std.specs.Prelude.{◌≡◌, ◌<◌, ◌^◌, IfOk};
-ghost use Rattle.ml_product.specs.private.Recorded.{owner_of, moves_of};
+ghost use Rattle.ml_product.specs.private.Recorded.{owner_of, moves_of, IsLike};
 
 use ml_base::NoMemory;
 use ml_parity::Player;
@@ -30,7 +30,7 @@ impl Recorded {
 
     // the same again
     pub(crate) fn copy(&self, alloc: Global) -> Result<Recorded, NoMemory>
-        ensures { IfOk result (λ copied. copied ≡ self.now) }
+        ensures { IfOk result (λ copied. IsLike copied self.now) }
     {
         match self {
             Recorded::Waiting => Ok(Recorded::Waiting),

@@ -1,6 +1,7 @@
 // What was found at the positions so far, by their numbers.
 ghost use Rattle.std.specs.Prelude.{◌≡◌, ◌<◌, ◌≤◌, ◌↔◌, ℕ, [], IsTrue, IfOk, OnOk, length, get_or};
 ghost use Rattle.ml_product.specs.declared.recorded.Recorded.TheVariants.{Waiting};
+ghost use Rattle.ml_product.specs.private.Recorded.{IsLike};
 ghost use Rattle.ml_product.specs.private.Exploring.{IsWaiting, Records};
 
 use crate::recorded::Recorded;
@@ -54,7 +55,7 @@ impl Turns {
 
     // what was found at the position with this number, once more
     pub(crate) fn found(&self, v: u32) -> Result<Recorded, NoMemory>
-        ensures { IfOk result (λ found. found ≡ get_or self.now v Waiting) }
+        ensures { IfOk result (λ found. IsLike found (get_or self.now v Waiting)) }
     {
         match self.all.get(v as usize) {
             Some(found) => found.copy(*self.all.allocator()),

@@ -21,6 +21,7 @@
 --   IsTurnOf           == the one or the other
 --   IsWaiting rs v     == nothing was recorded yet of the position at v
 --   Records rs v r ts  == ts is rs with r recorded at v
+--   Repeats rs v w ts  == ts is rs with what was found at the position at w recorded at v
 --   IsUnderway g limit b rs == what was recorded so far is right
 --   AreWaiting g b rs ws == a position of which nothing was recorded is one of ws, or has no choice
 --   IsExplored g limit b rs v d ts == the exploration went on from the position at v, until nothing waits behind it but
@@ -51,7 +52,7 @@ use Rattle.ml_product.specs.declared.turns.Turn.{Turn}
 use Rattle.ml_product.specs.declared.turns.Turn.TheVariants as turn
 use Rattle.ml_product.specs.private.Pools.{positions_of, position_of, KeepsPool, IsFirst}
 use Rattle.ml_lists.specs.Added.{IsAdded}
-use Rattle.ml_product.specs.private.Recorded.{owner_of, moves_of, IsRecorded}
+use Rattle.ml_product.specs.private.Recorded.{owner_of, moves_of, IsLike, IsRecorded}
 
 -- the odd priorities of the graph, and its neutral priority
 pub record AreTerms (g : Graph) (t : Terms) : Type 0 where
@@ -162,6 +163,12 @@ pub record Records (rs : List Recorded) (v : ℕ) (r : Recorded) (ts : List Reco
   pub here : get_or ts v recorded.Waiting ≡ r
   pub others : (w : ℕ) → (w ≡ v → ⊥) → get_or ts w recorded.Waiting ≡ get_or rs w recorded.Waiting
   pub few : (n : ℕ) → length rs ≤ n → v < n → length ts ≤ n
+
+-- ts is rs with what was found at the position at w recorded at v
+pub record Repeats (rs : List Recorded) (v w : ℕ) (ts : List Recorded) : Type 0 where
+  pub found : Recorded
+  pub like : IsLike found (get_or rs w recorded.Waiting)
+  pub records : Records rs v found ts
 
 -- what was recorded so far is right
 pub record IsUnderway (g : Graph) (limit : ℕ) (b : Pool) (rs : List Recorded) : Type 0 where

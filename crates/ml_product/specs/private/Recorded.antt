@@ -7,6 +7,7 @@
 --   moves_of n r       == the moves, where there are n positions
 --   IsVertexAt n ps t v     == v is the vertex of the target t, where ps are the positions so far, and n there will be
 --   AreVerticesAt n ps ts vs == vs are those of the targets ts
+--   IsLike r s         == r says what s says
 --   IsRecorded g ps p r == the owner and the moves of p are those of its turn, whatever number of positions there will be
 use Rattle.std.specs.Prelude.{ℕ, ◌≡◌, ◌+◌, List, [], ◌∷◌, slice_get, Some}
 use Rattle.ml_graph.specs.Graph.{Graph}
@@ -51,3 +52,9 @@ pub record IsRecorded (g : Graph) (positions : List Position) (p : Position) (r 
   pub turn : Turn g p
   pub owner_is : owner_of r ≡ mover turn.verdict
   pub moves_are : (n : ℕ) → AreVerticesAt n positions turn.targets (moves_of n r)
+
+-- r says what s says
+pub record IsLike (r s : Recorded) : Type 0 where
+  pub owner_is : owner_of r ≡ owner_of s
+  pub moves_are : (n : ℕ) → moves_of n r ≡ moves_of n s
+  pub waits : r ≡ recorded.Waiting → s ≡ recorded.Waiting

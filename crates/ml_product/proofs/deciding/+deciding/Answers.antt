@@ -10,8 +10,8 @@ use Rattle.ml_sequent.proofs.OwnSpreads.{own_spread}
 use Rattle.ml_product.specs.Position.{automaton_states, with_chosen}
 use Rattle.ml_product.specs.declared.recorded.Recorded.TheVariants as recorded
 use Rattle.ml_product.specs.private.Pools.{positions_of}
-use Rattle.ml_product.specs.private.Exploring.{AreTerms, at_place, IsAt, IsEnded, IsOpened, IsTurnOf, IsUnderway, IsExplored}
-use Rattle.ml_product.proofs.Underway.{recorded_underway, ended_explored, explored_both, side_place, own_at, side_at, fewer_sides}
+use Rattle.ml_product.specs.private.Exploring.{AreTerms, at_place, IsAt, HasNoneBelow, IsEnded, IsOpened, IsTurnOf, IsUnderway, IsExplored}
+use Rattle.ml_product.proofs.Underway.{recorded_underway, ended_explored, explored_both, fresh_sides, side_place, own_at, side_at, fewer_sides}
 use Rattle.ml_product.proofs.Vertices.{longer_get}
 use Rattle.ml_product.proofs.deciding.+deciding.Goals as goal
 
@@ -30,13 +30,15 @@ explore_at-explore_side-requires t c =
     let under = recorded_underway g limit b d c.args.turns.now c.record-in-Open.new.self v
     (recorded.Chosen c.in-Open.left c.in-Open.right) c.requires.underway c.requires.at.number opened.turned
     c.in_ok-record-in-Open.ensures in
+    let fresh = fresh_sides g limit b d v sp node c.in-Open.left c.in-Open.right c.requires.at c.requires.fresh opened in
     let side = side_place g limit b d v c.in-Open.left node Left C sp c.requires.at c.requires.sequent opened.left in
     subst (λ (x : BranchList). (2 * (size x.graph - length x.spread.choice) < t)
     × (IsGraph x.graph × ((automaton_states x.graph ≤ 2 ^ 30) × (AreTerms x.graph c.args.terms.now
     × (IsUnderway x.graph limit d c.record-in-Open.new.self × (IsSpreadOf x.graph x.sequent x.spread.choice x.spread
     × (IsOpenOr x.graph x.spread node × ((c.in-Open.left < length (positions_of d))
     × ((x.sequent ≡ (at_place x.graph (positions_of d) c.in-Open.left).sequent)
-    × (with_side x.spread.choice node Left ≡ (at_place x.graph (positions_of d) c.in-Open.left).choice))))))))))
+    × ((with_side x.spread.choice node Left ≡ (at_place x.graph (positions_of d) c.in-Open.left).choice)
+    × HasNoneBelow (positions_of d) (at_place x.graph (positions_of d) c.in-Open.left)))))))))))
     (sym c.in_ok-found.ensures.same) (
       omega (arith, c.decreases),
       (
@@ -49,7 +51,7 @@ explore_at-explore_side-requires t c =
               under,
               (
                 own_at g limit b v C sp c.requires.at c.requires.sequent,
-                (opened.is_open, (side.0, (side.1, side.2))),
+                (opened.is_open, (side.0, (side.1, (side.2, fresh.0)))),
               ),
             ),
           ),
@@ -74,6 +76,7 @@ explore_at-explore_side-requires-in-Open t c =
     subst (λ (x : BranchList). IsExplored x.graph limit d c.record-in-Open.new.self c.in-Open.left e
     c.explore_side.new.turns)
     c.in_ok-found.ensures.same c.in_ok-explore_side-in-Open.ensures.explored in
+    let fresh = fresh_sides g limit b d v sp node c.in-Open.left c.in-Open.right c.requires.at c.requires.fresh opened in
     let side = side_place g limit b e v c.in-Open.right node Right C sp c.requires.at c.requires.sequent
     (longer_get (positions_of d) (positions_of e) one.longer c.in-Open.right
     (with_chosen g (at_place g (positions_of b) v) node Right) opened.right) in
@@ -82,7 +85,8 @@ explore_at-explore_side-requires-in-Open t c =
     × (IsUnderway x.graph limit e c.explore_side.new.turns × (IsSpreadOf x.graph x.sequent x.spread.choice x.spread
     × (IsOpenOr x.graph x.spread node × ((c.in-Open.right < length (positions_of e))
     × ((x.sequent ≡ (at_place x.graph (positions_of e) c.in-Open.right).sequent)
-    × (with_side x.spread.choice node Right ≡ (at_place x.graph (positions_of e) c.in-Open.right).choice))))))))))
+    × ((with_side x.spread.choice node Right ≡ (at_place x.graph (positions_of e) c.in-Open.right).choice)
+    × HasNoneBelow (positions_of e) (at_place x.graph (positions_of e) c.in-Open.right)))))))))))
     (sym (c.in_ok-explore_side-in-Open.ensures.same ∙ c.in_ok-found.ensures.same)) (
       omega (arith, c.decreases),
       (
@@ -95,7 +99,7 @@ explore_at-explore_side-requires-in-Open t c =
               one.underway,
               (
                 own_at g limit b v C sp c.requires.at c.requires.sequent,
-                (opened.is_open, (side.0, (side.1, side.2))),
+                (opened.is_open, (side.0, (side.1, (side.2, fresh.1 limit e c.record-in-Open.new.self c.explore_side.new.turns one)))),
               ),
             ),
           ),
@@ -136,7 +140,7 @@ explore_at-returns-in_ok-explore_side-in-Open-clause-explored t c =
     c.in_ok-explore_side-in-Open.ensures.explored in
     on_ok_weaker c.explore_side-in-Open.result
     (λ two. explored_both g limit b d e f c.args.turns.now ts us xs v sp c.in-Open.node c.in-Open.left c.in-Open.right
-    c.requires.underway c.requires.at.number opened c.in_ok-record-in-Open.ensures one
+    c.requires.underway c.requires.at c.requires.fresh opened c.in_ok-record-in-Open.ensures one
     (subst (λ (x : BranchList). IsExplored x.graph limit e us c.in-Open.right f xs)
     (c.in_ok-explore_side-in-Open.ensures.same ∙ c.in_ok-found.ensures.same) two))
     c.explore_side-in-Open.ensures.explored
@@ -160,7 +164,8 @@ explore_side-explore_at-requires t c =
     subst (λ (h : Graph). (2 * (size h - length sp2.choice) + 1 < t)
     × (IsGraph h × ((automaton_states h ≤ 2 ^ 30) × (AreTerms h c.args.terms.now
     × (IsUnderway h c.args.limit b c.args.turns.now × (IsAt h c.args.limit b c.args.w sp2
-    × (c.choose.new.self.sequent ≡ (at_place h (positions_of b) c.args.w).sequent)))))))
+    × ((c.choose.new.self.sequent ≡ (at_place h (positions_of b) c.args.w).sequent)
+    × HasNoneBelow (positions_of b) (at_place h (positions_of b) c.args.w))))))))
     (sym c.choose.ensures.graph) (
       omega (arith, less, c.decreases),
       (
@@ -173,7 +178,7 @@ explore_side-explore_at-requires t c =
               c.requires.underway,
               (
                 at,
-                c.choose.ensures.sequent ∙ c.requires.sequent,
+                (c.choose.ensures.sequent ∙ c.requires.sequent, c.requires.fresh),
               ),
             ),
           ),

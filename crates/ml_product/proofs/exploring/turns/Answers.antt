@@ -1,12 +1,27 @@
 -- One number more is explored, and at the end all are.
-use Rattle.std.proofs.Common.{ℕ, ◌<◌, length, sym, ap, ◌∙◌, subst, arith}
+use Rattle.std.proofs.Common.{ℕ, ◌<◌, List, [], length, refl, sym, ap, ◌∙◌, subst, arith}
 use Rattle.std.proofs.lemmas.List.{length-map}
 use Rattle.ml_graph.specs.Graph.{Graph}
+use Rattle.ml_product.specs.declared.recorded.Recorded.{Recorded}
 use Rattle.ml_product.specs.private.Shared.{seen}
 use Rattle.ml_product.specs.private.Pools.{positions_of}
-use Rattle.ml_product.specs.private.Exploring.{AreTurned, IsExplored, IsWaiting}
+use Rattle.ml_product.specs.private.Exploring.{AreTurned, IsUnderway, IsExplored, IsWaiting, AreWaiting, AreRooted}
+use Rattle.ml_product.proofs.Roots.{rooted_start}
 use Rattle.ml_product.proofs.Underway.{explored_next, explored_waiting, all_long, all_turned}
 use Rattle.ml_product.proofs.exploring.turns.Goals as goal
+
+pub loop-v-init : goal.loop-v-init
+loop-v-init c =
+    let g = c.args.branch.now.graph in
+    let b = c.args.pool.now in
+    let none = sym c.new-turns.ensures in
+    record {
+      graph = refl;
+      underway = subst (IsUnderway g c.args.limit b) none c.requires.underway;
+      waiting = subst (λ (rs : List Recorded). AreWaiting g b rs []) none c.requires.waiting;
+      rooted = subst (AreRooted (positions_of b)) none (rooted_start g b c.requires.waiting);
+      done = λ w low waits. absurd (omega arith);
+    }
 
 pub loop-v-preserved : goal.loop-v-preserved
 loop-v-preserved c =
@@ -20,6 +35,7 @@ loop-v-preserved c =
       underway = explored.underway;
       waiting = explored_waiting g c.args.limit l.pool c.explore_from.new.pool l.turns c.explore_from.new.turns l.v
           explored l.invariant.waiting;
+      rooted = c.in_ok-explore_from.ensures.rooted;
       done = explored_next g c.args.limit l.pool c.explore_from.new.pool l.turns c.explore_from.new.turns l.v
           explored l.invariant.done;
     }

@@ -4,7 +4,7 @@ use Rattle.ml_sequent.specs.declared.choice.Side.TheVariants.{Left, Right}
 use Rattle.ml_product.specs.private.Pools.{positions_of}
 use Rattle.ml_product.specs.private.Exploring.{at_place, IsAt}
 use Rattle.ml_product.proofs.Numbering.{handed_on}
-use Rattle.ml_product.proofs.Turning.{stands_at, still_chosen, unchosen_at, chosen_passed, both_opened}
+use Rattle.ml_product.proofs.Turning.{stands_at, still_chosen, unchosen_at, first_new, second_new, chosen_passed, both_opened}
 use Rattle.ml_product.proofs.turns.choose.Goals as goal
 
 pub chosen-requires-clause-unchosen : goal.chosen-requires-clause-unchosen
@@ -12,16 +12,16 @@ chosen-requires-clause-unchosen c =
     unchosen_at c.args.branch.now.graph c.args.limit c.args.pool.now c.args.v c.args.branch.now.spread c.requires.at
     c.args.terms.now.neutral c.requires.terms.neutral_is c.args.node c.requires.no_clash c.requires.least
 
--- what is there is the position at which no side was chosen
-unchosen_there : (c : goal.After-chosen-arg-1) → side_of (at_place c.args.branch.now.graph (positions_of c.args.pool.now)
-    c.args.v).choice c.args.node ≡ None
-unchosen_there c = ?
-
 pub chosen-requires-clause-is_new : goal.chosen-requires-clause-is_new
-chosen-requires-clause-is_new c = ?
+chosen-requires-clause-is_new c =
+    first_new c.args.branch.now.graph c.args.limit c.args.pool.now c.args.v c.args.branch.now.spread c.requires.at
+    c.args.terms.now.neutral c.requires.terms.neutral_is c.args.node c.requires.no_clash c.requires.least c.requires.fresh
 
 pub chosen-requires-2-clause-is_new : goal.chosen-requires-2-clause-is_new
-chosen-requires-2-clause-is_new c = ?
+chosen-requires-2-clause-is_new c =
+    second_new c.args.branch.now.graph c.args.limit c.args.pool.now c.chosen.new.pool c.args.v
+    c.args.branch.now.spread c.args.terms.now.neutral c.args.node c.in_ok-left.left c.requires.at
+    c.requires.terms.neutral_is c.requires.no_clash c.requires.least c.requires.fresh c.in_ok-left.ensures.ok
 
 pub returns-in_err-left-clause-passed : goal.returns-in_err-left-clause-passed
 returns-in_err-left-clause-passed c = λ e.

@@ -4,6 +4,8 @@ use Rattle.ml_sequent.specs.declared.clashes.ClashCause.{ClashCause}
 use Rattle.ml_sequent.specs.Branch.{BranchList}
 use Rattle.ml_sequent.specs.Spread.{IsSpread, IsCause, IsOpenOr}
 use Rattle.ml_product.specs.DecisionGame.{IsResolved}
+use Rattle.ml_product.specs.private.Pools.{positions_of}
+use Rattle.ml_product.specs.private.Exploring.{at_place, HasNoneBelow}
 use Rattle.ml_product.proofs.Turning.{spread_of, clashed}
 use Rattle.ml_product.proofs.turns.take_turn.Goals as goal
 
@@ -30,3 +32,9 @@ go_on-requires-clause-resolved c =
     let calm : (x : ClashCause) → IsCause c.args.branch.now.graph c.args.branch.now.spread x → ⊥ =
     λ x h. (let yes = c.in_ok-is_clashing.ensures.no x h in let other = c.if-branch.false in absurd (cc)) in
     subst (λ (b : BranchList). IsResolved b.graph b.spread) before (record { no_clash = calm; none_open = none })
+
+pub choose-requires-clause-fresh : goal.choose-requires-clause-fresh
+choose-requires-clause-fresh c =
+    let ps = positions_of c.args.pool.now in
+    subst (λ (b : BranchList). HasNoneBelow ps (at_place b.graph ps c.args.v))
+    (sym (c.in-Some.ensures.same ∙ c.in_ok-is_clashing.ensures.same)) c.requires.fresh

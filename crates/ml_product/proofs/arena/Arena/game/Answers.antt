@@ -1,9 +1,9 @@
 -- The lists that are made are those of the game, which is one by what the arena keeps.
-use Rattle.std.proofs.Common.{◌+◌, [], ◌∷◌, ◌++◌, map, ◌∙◌, subst, sym, ap}
+use Rattle.std.proofs.Common.{◌+◌, List, [], ◌∷◌, ◌++◌, map, ◌∙◌, subst, sym, ap}
 use Rattle.ml_parity.specs.declared.players.Player.TheVariants.{Even}
 use Rattle.ml_parity.specs.Game.{IsGame}
 use Rattle.ml_parity.specs.Refusal.{lists_of}
-use Rattle.ml_product.specs.declared.stored.Stored.{Stored}
+use Rattle.ml_product.specs.private.Placed.{Placed}
 use Rattle.ml_product.specs.Arena.{game_of}
 use Rattle.ml_product.proofs.HeldGames.{game_from, held_is_game}
 use Rattle.ml_product.proofs.arena.Arena.game.Goals as goal
@@ -16,7 +16,7 @@ returns c =
     c.self.view_is c.in_ok-owner.owner.items c.in_ok-priority.priority.items
     (lists_of c.in_ok-successors.successors.items) n c.len-size.ensures
     (c.in_ok-owner.ensures ∙ ap (λ xs. xs ++ Even ∷ Even ∷ []) c.deref.ensures.value)
-    (c.in_ok-priority.ensures ∙ ap (λ xs. map (λ (x : Stored). x.priority) xs ++ 1 ∷ 0 ∷ []) c.stored.ensures)
+    (c.in_ok-priority.ensures ∙ ap (λ (xs : List Placed). map (λ (x : Placed). x.priority) xs ++ 1 ∷ 0 ∷ []) c.positions.ensures)
     (c.in_ok-successors.ensures
     ∙ ap (λ xs. lists_of xs ++ (n ∷ []) ∷ ((n + 1) ∷ []) ∷ []) c.deref-2.ensures.value)
 
