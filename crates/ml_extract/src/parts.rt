@@ -103,7 +103,8 @@ impl Parts {
         let _size = game.arena.size();
         let last = states.lasts[state as usize];
         let position = game.arena.position(last);
-        let spread = phase.spread(position.sequent, position.choice)?;
+        let choice = position.choice()?;
+        let spread = phase.spread(position.sequent, &choice)?;
         let diamonds = phase.diamonds(&spread)?;
         add_labels(&mut self.labels, game.graph, state, &spread)?;
         add_edges(

@@ -8,7 +8,7 @@
 --   opened_among  == behind a turn there are the positions before, and those with the one side and with the other
 --   fresh_left, fresh_right == none is below the one, nor below the other when what is below the one was explored
 --   adds_ended, adds_both == what an exploration adds has no choice, or is below
-use Rattle.std.proofs.Common.{ℕ, ◌≡◌, ◌<◌, ◌≤◌, ◌⊎◌, inl, inr, List, [], ◌∷◌, ◌++◌, length, slice_get, get_or, Some, None, refl, sym, ap, ◌∙◌, subst, arith}
+use Rattle.std.proofs.Common.{ℕ, ◌≡◌, ◌<◌, ◌≤◌, ◌⊎◌, inl, inr, List, [], ◌∷◌, ◌++◌, length, slice_get, get_or, Some, None, refl, sym, ap, ◌∙◌, subst}
 use Rattle.std.proofs.lemmas.Bool.{cases_lt}
 use Rattle.std.proofs.lemmas.List.{get_or_append_left}
 use Rattle.std.proofs.lemmas.Option.{slice_get_within, slice_get-get_or, get_or_from_slice_get}
@@ -24,7 +24,6 @@ use Rattle.ml_product.specs.Position.{Position, start_of, with_chosen}
 use Rattle.ml_product.specs.private.Pools.{beside}
 use Rattle.ml_product.specs.private.Exploring.{IsLonger, at_place, IsBelow, HasNoneBelow, AddsBelow}
 use Rattle.ml_product.proofs.OnePlace.{PlaceOf, place_of}
-use Rattle.ml_product.proofs.Vertices.{longer_place}
 
 -- a position is below itself
 pub below_self : (p : Position) → IsBelow p p

@@ -157,7 +157,12 @@ impl Pool {
             history,
             priority,
         };
-        let number = number_of_top(&mut self.tops, &mut self.top_numbers, top, next as u32)? as usize;
+        let number = number_of_top(
+            &mut self.tops,
+            &mut self.top_numbers,
+            top,
+            next as u32,
+        )? as usize;
         if number < next {
             return Ok(number);
         }

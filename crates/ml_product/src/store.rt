@@ -96,13 +96,16 @@ impl Store {
         requires number { parent < length self.old }
         requires unchosen { side_of (choice_at self.old parent) node ≡ None }
         ensures { OnOk result (self.new ≡ self.old ++ record {
-            sequent = (get_or self.old parent nowhere).sequent;
-            history = (get_or self.old parent nowhere).history;
-            priority = priority;
-            choice = with_side (choice_at self.old parent) node side } ∷ []) }
+          sequent = (get_or self.old parent nowhere).sequent;
+          history = (get_or self.old parent nowhere).history;
+          priority = priority;
+          choice = with_side (choice_at self.old parent) node side;
+        } ∷ []) }
     {
         let Stored {
-            sequent, history, ..
+            sequent,
+            history,
+            ..
         } = *self.at(parent as usize);
         self.push(Stored {
             sequent,

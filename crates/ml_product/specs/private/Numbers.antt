@@ -4,7 +4,7 @@
 --                                   the next number
 --   IsFirstAt key xs k w == the position at w is the first one without a choice whose key is k
 --   Leads key xs ks ns   == the table has the keys of the positions without a choice, with the numbers of the first ones
-use Rattle.std.specs.Prelude.{ℕ, ◌≡◌, ◌<◌, ◌≤◌, ◌⊎◌, List, [], ◌∷◌, ◌++◌, length, get_or, slice_get, Some}
+use Rattle.std.specs.Prelude.{ℕ, ◌≡◌, ◌≤◌, ◌⊎◌, List, [], ◌∷◌, ◌++◌, length, get_or, slice_get, Some}
 use Rattle.ml_lists.specs.Member.{IsMember}
 use Rattle.ml_product.specs.private.Placed.{Placed}
 

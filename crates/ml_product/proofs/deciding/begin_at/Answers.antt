@@ -1,5 +1,5 @@
 -- The view shows the position, whose sequent has nodes of the graph alone.
-use Rattle.std.proofs.Common.{ℕ, ◌≡◌, ◌<◌, List, All, OnOk, Result, Ok, Err, sym, ap, ◌∙◌, subst}
+use Rattle.std.proofs.Common.{ℕ, ◌≡◌, ◌<◌, List, All, sym, ap, ◌∙◌, subst}
 use Rattle.std.proofs.lemmas.Result.{on_ok_weaker}
 use Rattle.std.proofs.lemmas.Option.{get_or_from_slice_get}
 use Rattle.ml_lists.proofs.Member.{place-member}

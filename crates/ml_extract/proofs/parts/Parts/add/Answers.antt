@@ -64,7 +64,8 @@ add_edges-requires c =
     let ds = c.deref.result.now in
     let vs = c.moves.result.now in
     let same = c.spread.ensures.graph ∙ c.requires.phase in
-    let of = subst (λ k. IsSpreadOf k p.sequent p.choice sp) (sym c.spread.ensures.graph) c.in_ok-spread.ensures.of in
+    let own = subst (λ ch. IsSpreadOf c.args.phase.now p.sequent ch sp) c.in_ok-choice.ensures c.in_ok-spread.ensures.of in
+    let of = subst (λ k. IsSpreadOf k p.sequent p.choice sp) (sym c.spread.ensures.graph) own in
     let ds_is =
     diamonds_are g a s fs ls n i last h p c.position-position.ensures c.spread.new.self sp ds same of
     (c.deref.ensures.value ∙ c.in_ok-diamonds.ensures) in
@@ -89,14 +90,15 @@ returns-clause-gathered c =
     let ds = c.deref.result.now in
     let vs = c.moves.result.now in
     let same = c.spread.ensures.graph ∙ c.requires.phase in
-    let of = subst (λ k. IsSpreadOf k p.sequent p.choice sp) (sym c.spread.ensures.graph) c.in_ok-spread.ensures.of in
+    let own = subst (λ ch. IsSpreadOf c.args.phase.now p.sequent ch sp) c.in_ok-choice.ensures c.in_ok-spread.ensures.of in
+    let of = subst (λ k. IsSpreadOf k p.sequent p.choice sp) (sym c.spread.ensures.graph) own in
     OnOk-map c.add_edges.result _ _
     (λ edges_is n old.
     let h = here_at g a s fs ls n i last c.requires.state c.index-last.ensures in
     let ds_is =
     diamonds_are g a s fs ls n i last h p c.position-position.ensures c.spread.new.self sp ds same of
     (c.deref.ensures.value ∙ c.in_ok-diamonds.ensures) in
-    let of_g = subst (λ k. IsSpreadOf k p.sequent p.choice sp) c.requires.phase c.in_ok-spread.ensures.of in
+    let of_g = subst (λ k. IsSpreadOf k p.sequent p.choice sp) c.requires.phase own in
     gathered_more g a s fs ls n i last h ds vs sp c.args.self.now.labels.items c.add_labels.new.labels.items
     c.args.self.now.edges.items c.add_edges.new.edges.items ds_is c.moves.ensures
     (spread_is g a s fs ls n i last h p c.position-position.ensures sp of_g)

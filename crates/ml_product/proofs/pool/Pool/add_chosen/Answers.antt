@@ -1,5 +1,5 @@
 -- The sequent and the history stand where they stood, and the position is a new one.
-use Rattle.std.proofs.Common.{◌≡◌, List, length, sym, subst}
+use Rattle.std.proofs.Common.{List, length, sym, subst}
 use Rattle.ml_lists.specs.Added.{IsAdded}
 use Rattle.ml_sequent.specs.Choice.{with_side}
 use Rattle.ml_product.specs.private.Placed.{Placed}

@@ -1,12 +1,11 @@
 -- The numbers that are looked for are those of the position, and have a place.
-use Rattle.std.proofs.Common.{ℕ, ◌≡◌, ◌<◌, Bool, true, false, true≢false, List, [], length, get_or, slice_get, None, Some, sym, ap, ◌∙◌, subst, arith}
+use Rattle.std.proofs.Common.{ℕ, ◌≡◌, true≢false, List, get_or, slice_get, None, Some, sym, ap, ◌∙◌, subst, arith}
 use Rattle.std.specs.List.{position}
 use Rattle.std.proofs.lemmas.List.{get_or_default}
 use Rattle.std.proofs.lemmas.List.Quantifiers.{position-Some}
 use Rattle.std.proofs.lemmas.Option.{slice_get-get_or, slice_get_within, get_or_from_slice_get}
 use Rattle.ml_lists.specs.Member.{IsMember}
 use Rattle.ml_graph.proofs.Places.{position_miss}
-use Rattle.ml_product.specs.Position.{Position}
 use Rattle.ml_product.specs.declared.stored.Site.{Site}
 use Rattle.ml_product.specs.private.Placed.{nowhere, site_of}
 use Rattle.ml_product.specs.private.Pools.{positions_of, IsFirst}

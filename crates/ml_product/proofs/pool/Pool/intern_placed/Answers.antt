@@ -1,8 +1,6 @@
 -- A number that is less than the next one is that of an equal position.
-use Rattle.std.proofs.Common.{ℕ, ◌≡◌, ◌<◌, ◌≤◌, List, [], ◌∷◌, ◌++◌, length, refl, sym, ap, ◌∙◌, subst, arith}
+use Rattle.std.proofs.Common.{ℕ, List, [], length, refl, sym, subst, arith}
 use Rattle.ml_lists.specs.Added.{IsAdded}
-use Rattle.ml_product.specs.declared.stored.Site.{Site}
-use Rattle.ml_product.specs.declared.stored.Top.{Top}
 use Rattle.ml_product.specs.private.Numbers.{IsNamed, Leads}
 use Rattle.ml_product.specs.private.Placed.{Placed, site_of, top_of}
 use Rattle.ml_product.proofs.Naming.{leads_named, met_added, new_added}
