@@ -160,8 +160,9 @@ fn closed(alloc: Global, pool: Pool, turns: Vec<Recorded>) -> Result<Arena, NoMe
 /// # Errors
 /// `Passed` exactly where the game has more than `limit` positions; `NoMemory`.
 ///
-/// Cost: for each position its spread, its clash and its steps (`ml_sequent::LocalPhase`), a step of its history for each
-/// diamond, and a hash of each position that a move leads to.
+/// Cost: for each position without a choice its spread, and for each other one the side that is chosen and taken back; for
+/// each its clash and its steps (`ml_sequent::Branch`), and for each diamond a step of the history, with a hash of the
+/// sequent, of the history and of the position that it leads to.
 pub fn explore(alloc: Global, graph: &ModalGraph, limit: u32) -> Result<Arena, ExploreRefusal>
     requires some { 1 ≤ limit }
     requires few_states { automaton_states graph.now ≤ 1073741824 }

@@ -18,6 +18,13 @@ choice_is : (ps : List Placed) (v : ℕ) (x : Stored) (parent node : ℕ) (side 
     → choice_at ps v ≡ with_side (choice_at ps parent) node side
 choice_is ps v x parent node side l is = ap (λ (p : Placed). p.choice) l.is ∙ ap (choice_under ps) is
 
+no_side : (ps : List Placed) (v : ℕ) (x : Stored) (parent node : ℕ) (side : Side) (c : List (ℕ × Side)) → IsLinked ps v x
+    → x.link ≡ link.Chosen parent node side
+    → c ≡ choice_at ps parent
+    → side_of c node ≡ None
+no_side ps v x parent node side c l is same =
+    ap (λ d. side_of d node) same ∙ (parent_of ps v x parent node side l is).1
+
 pub choice-requires : goal.choice-requires
 choice-requires t c =
     let has = parent_of c.args.self.now c.args.v c.at.result.now c.in-Chosen.parent c.in-Chosen.node c.in-Chosen.side
@@ -26,9 +33,8 @@ choice-requires t c =
 
 pub with-requires : goal.with-requires
 with-requires t c =
-    let has = parent_of c.args.self.now c.args.v c.at.result.now c.in-Chosen.parent c.in-Chosen.node c.in-Chosen.side
-    c.at.ensures c.in-Chosen.is in
-    ap (λ d. side_of d c.in-Chosen.node) c.in_ok-choice-in-Chosen.ensures ∙ has.1
+    no_side c.args.self.now c.args.v c.at.result.now c.in-Chosen.parent c.in-Chosen.node c.in-Chosen.side
+    c.in_ok-choice-in-Chosen.field-0 c.at.ensures c.in-Chosen.is c.in_ok-choice-in-Chosen.ensures
 
 pub returns-in-Unchosen : goal.returns-in-Unchosen
 returns-in-Unchosen t c =
