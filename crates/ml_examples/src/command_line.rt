@@ -98,9 +98,8 @@ fn are_words(words: &str) -> bool {
 
 // a word or name whose signs all stand for themselves
 fn plain(word: &str) -> Option<&str> {
-    let is_plain = word
-        .bytes()
-        .all(|byte| byte.is_ascii_alphanumeric() || matches!(byte, b'_' | b'-' | b'=' | b'.' | b'/'));
+    let is_plain = word.bytes().all(|byte| byte.is_ascii_alphanumeric()
+        || matches!(byte, b'_' | b'-' | b'=' | b'.' | b'/'));
     if is_plain && !word.is_empty() {
         Some(word)
     } else {

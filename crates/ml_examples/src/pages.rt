@@ -149,7 +149,12 @@ fn bytes_of<R: Files + AllocGlobal>(
     if let Some(example) = name.strip_prefix("examples/") {
         return Ok(fs::read(rt, example).ok());
     }
-    match session.files.iter().rev().find(|file| file.name.as_str() == name) {
+    match session
+        .files
+        .iter()
+        .rev()
+        .find(|file| file.name.as_str() == name)
+    {
         Some(file) => Ok(Some(file.bytes.clone()?)),
         None => Ok(None),
     }
