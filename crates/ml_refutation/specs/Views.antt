@@ -37,11 +37,11 @@ decision_of (Clash c) = plain.Clash (cause_of c)
 decision_of (Go d e s) = plain.Go d e (mark_of s)
 
 abbrev pub item_of : Item → traced.Item AutomatonState
-item_of a = record { state = record { node = a.node; odd = a.odd }; stack = a.stack.items }
+item_of a = record { state = record { node = a.node; odd = a.odd }; stack = a.stack.value.items }
 
 abbrev pub entry_of : Entry → plain.Entry
 entry_of e = record {
-  sequent = e.sequent.items;
+  sequent = e.sequent.value.items;
   traces = record { live = e.live; items = map item_of e.items.items };
   heights = e.heights.items;
   decision = decision_of e.decision;

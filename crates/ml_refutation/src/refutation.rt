@@ -3,6 +3,8 @@ ghost use Rattle.ml_refutation.specs.Refutation.{IsRefutation};
 ghost use Rattle.ml_refutation.specs.Views.{of_parts};
 ghost use Rattle.ml_refutation.specs.private.Propositions.{prop_refutation};
 
+use std::rc::Rc;
+
 /// How deep splits may be nested in a decision.
 pub const NESTING_LIMIT: u32 = 4096;
 
@@ -48,14 +50,14 @@ pub enum Decision {
 pub struct Item {
     pub node: u32,
     pub odd: Option<u32>,
-    pub stack: Vec<u32>,
+    pub stack: Rc<Vec<u32>>,
 }
 
 /// A sequent with what is known of its traces, the heights of the entry, and what is decided there.
 #[derive(Debug, Drop)]
 pub struct Entry {
     /// The nodes, ascending.
-    pub sequent: Vec<u32>,
+    pub sequent: Rc<Vec<u32>>,
     /// How many names are in use.
     pub live: u32,
     /// Ascending by node, and at one node first without an odd priority and then by it.
