@@ -5,7 +5,6 @@
 --   row_there                    == the row at a place
 --   rows_begin, row_more, rows_done, and so on == before any line, one more, and behind the last one
 use Rattle.std.proofs.Common.{◌≡◌, ℕ, ◌+◌, ◌-◌, ◌<◌, ◌≤◌, ◌^◌, true, false, cond, min, nat_lt, List, [], ◌∷◌, ◌++◌, Some, get_or, slice_get, length, refl, sym, ap, subst, ◌∙◌, length-append, arith}
-use Rattle.std.specs.Global.{Vec}
 use Rattle.std.proofs.lemmas.Bool.Decides.{nat_tests}
 use Rattle.std.proofs.lemmas.List.{map-append, length-map, get_or-map}
 use Rattle.std.proofs.lemmas.Option.{slice_get-get_or}
@@ -17,7 +16,7 @@ use Rattle.ml_lines.specs.Reading.{value}
 use Rattle.ml_refutation.specs.Refutation.{Fits, IsStack}
 use Rattle.ml_refutation_text.specs.RefutationText.{Spells, ByTables, sequents_line, sequent_line, stacks_line, stack_line}
 use Rattle.ml_refutation_text.specs.BodyRules.{Place, AtSequents, AtTableSequent, AtStacks, AtTableStack, AtEntries, at_sequent_table, at_stack_table, body}
-use Rattle.ml_refutation_text.specs.private.Reads.{rows_in, HasRoom, IsNext, Goes, IsUsual, TellsRule, TellsFault, at_line}
+use Rattle.ml_refutation_text.specs.private.Reads.{Shared, rows_in, HasRoom, IsNext, Goes, IsUsual, TellsRule, TellsFault, at_line}
 use Rattle.ml_refutation_text.specs.private.EntryReads.{IsSequentRead, TellsSequent}
 use Rattle.ml_refutation_text.specs.declared.rest.Rest.{Rest}
 use Rattle.ml_refutation_text.specs.declared.rest.LineRefusal.{LineRefusal}
@@ -25,27 +24,27 @@ use Rattle.ml_refutation_text.proofs.Runs.{Runs}
 use Rattle.ml_refutation_text.proofs.RowLines.{sequents_first, sequent_row, stacks_first, stack_row}
 use Rattle.ml_refutation_text.proofs.Going.{goes_begin, goes_on, goes_run, fault_on, refused_line, room_on}
 
-rows_push : (rows more : List (Vec ℕ)) (row : Vec ℕ)
+rows_push : (rows more : List Shared) (row : Shared)
     → more ≡ rows ++ row ∷ []
-    → rows_in more ≡ rows_in rows ++ row.items ∷ []
-rows_push rows more row is = ap rows_in is ∙ map-append (λ r. r.items) rows (row ∷ [])
+    → rows_in more ≡ rows_in rows ++ row.value.items ∷ []
+rows_push rows more row is = ap rows_in is ∙ map-append (λ r. r.value.items) rows (row ∷ [])
 
-pub length-rows : (rows : List (Vec ℕ)) → length (rows_in rows) ≡ length rows
-length-rows rows = length-map rows (λ r. r.items)
+pub length-rows : (rows : List Shared) → length (rows_in rows) ≡ length rows
+length-rows rows = length-map rows (λ r. r.value.items)
 
 -- the row at a place
-pub row_there : (rows : List (Vec ℕ)) (i : ℕ) (row : Vec ℕ) (ns : List ℕ)
+pub row_there : (rows : List Shared) (i : ℕ) (row : Shared) (ns : List ℕ)
     → i < length rows
     → row ≡ get_or rows i row
-    → ns ≡ row.items
+    → ns ≡ row.value.items
     → slice_get (rows_in rows) i ≡ Some ns
 row_there rows i row ns inside is same =
     let within : i < length (rows_in rows) = omega (arith, inside, length-rows rows) in
-    slice_get-get_or (rows_in rows) i row.items within
-    ∙ ap Some (get_or-map (λ r. r.items) rows i row row.items inside ∙ ap (λ r. r.items) (sym is) ∙ sym same)
+    slice_get-get_or (rows_in rows) i row.value.items within
+    ∙ ap Some (get_or-map (λ r. r.value.items) rows i row row.value.items inside ∙ ap (λ r. r.value.items) (sym is) ∙ sym same)
 
 module _ (size : ℕ) (at : Rest) where
-  pub record SequentsTo (rows : List (Vec ℕ)) (rest : Rest) : Type 0 where
+  pub record SequentsTo (rows : List Shared) (rest : Rest) : Type 0 where
     pub goes : (v : Version) (names : ℕ)
         → Goes v (at_sequent_table names size []) at (at_sequent_table names size (rows_in rows)) rest
     pub counted : rest.line ≡ at.line + length rows
@@ -53,7 +52,7 @@ module _ (size : ℕ) (at : Rest) where
   pub rows_begin : SequentsTo [] at
   rows_begin = record { goes = λ v names. goes_begin v (at_sequent_table names size []) at; counted = omega arith }
 
-  module _ (rows : List (Vec ℕ)) (rest : Rest) (so_far : SequentsTo rows rest) where
+  module _ (rows : List Shared) (rest : Rest) (so_far : SequentsTo rows rest) where
     pub rows_room : HasRoom at → HasRoom rest
     rows_room room = room_on (so_far.goes One 0) room
 
@@ -76,18 +75,18 @@ module _ (size : ℕ) (at : Rest) where
           fault_on e (at_row v names)
           (tells.in_table v names size (rows_in rows))
 
-      pub row_more : (row : Vec ℕ) (more : List (Vec ℕ)) (behind : Rest)
-          → IsSequentRead rest row.items behind
+      pub row_more : (row : Shared) (more : List Shared) (behind : Rest)
+          → IsSequentRead rest row.value.items behind
           → more ≡ rows ++ row ∷ []
           → SequentsTo more behind
       row_more row more behind read pushed = record {
         goes = λ v names.
             let p = AtTableSequent names size (rows_in rows) in
             goes_on (at_row v names)
-            (goes_run v p (at_sequent_table names size (rows_in more)) rest behind (sequent_line row.items) (sequent_line row.items) read.next refl
+            (goes_run v p (at_sequent_table names size (rows_in more)) rest behind (sequent_line row.value.items) (sequent_line row.value.items) read.next refl
             (λ left.
-            subst (λ rs. Runs (body v left) p (sequent_line row.items ∷ []) (at_sequent_table names size rs)) (sym (rows_push rows more row pushed))
-            (sequent_row v left names size (rows_in rows) row.items read.fit read.ascends)));
+            subst (λ rs. Runs (body v left) p (sequent_line row.value.items ∷ []) (at_sequent_table names size rs)) (sym (rows_push rows more row pushed))
+            (sequent_row v left names size (rows_in rows) row.value.items read.fit read.ascends)));
         counted = omega (arith, so_far.counted, read.next.counted, ap length pushed, length-append rows (row ∷ []));
       }
 
@@ -114,7 +113,7 @@ sequents_begin v names size at behind fits next =
 -- ---- stacks
 
 module _ (names size : ℕ) (at : Rest) where
-  pub record StacksTo (rows : List (Vec ℕ)) (rest : Rest) : Type 0 where
+  pub record StacksTo (rows : List Shared) (rest : Rest) : Type 0 where
     pub goes : (v : Version) (qs : List (List ℕ))
         → Goes v (at_stack_table names qs size []) at (at_stack_table names qs size (rows_in rows)) rest
     pub counted : rest.line ≡ at.line + length rows
@@ -122,7 +121,7 @@ module _ (names size : ℕ) (at : Rest) where
   pub stack_rows_begin : StacksTo [] at
   stack_rows_begin = record { goes = λ v qs. goes_begin v (at_stack_table names qs size []) at; counted = omega arith }
 
-  module _ (rows : List (Vec ℕ)) (rest : Rest) (so_far : StacksTo rows rest) where
+  module _ (rows : List Shared) (rest : Rest) (so_far : StacksTo rows rest) where
     pub stack_rows_room : HasRoom at → HasRoom rest
     stack_rows_room room =
         room_on (so_far.goes One []) room
@@ -152,19 +151,19 @@ module _ (names size : ℕ) (at : Rest) where
             fault_on told (at_stack v qs)
             (subst (TellsFault v p rest) (sym is) (refused_line v p rest behind line e next (tells qs (rows_in rows) size)))
 
-        pub stack_more : (row : Vec ℕ) (more : List (Vec ℕ))
+        pub stack_more : (row : Shared) (more : List Shared)
             → Fits names
-            → line ≡ stack_line row.items
-            → IsStack names row.items
+            → line ≡ stack_line row.value.items
+            → IsStack names row.value.items
             → more ≡ rows ++ row ∷ [] → StacksTo more behind
         stack_more row more small is stack pushed = record {
           goes = λ v qs.
               let p = AtTableStack names qs size (rows_in rows) in
               goes_on (at_stack v qs)
-              (goes_run v p (at_stack_table names qs size (rows_in more)) rest behind line (stack_line row.items) next is
+              (goes_run v p (at_stack_table names qs size (rows_in more)) rest behind line (stack_line row.value.items) next is
               (λ left.
-              subst (λ rs. Runs (body v left) p (stack_line row.items ∷ []) (at_stack_table names qs size rs)) (sym (rows_push rows more row pushed))
-              (stack_row v left names qs size (rows_in rows) row.items small stack)));
+              subst (λ rs. Runs (body v left) p (stack_line row.value.items ∷ []) (at_stack_table names qs size rs)) (sym (rows_push rows more row pushed))
+              (stack_row v left names qs size (rows_in rows) row.value.items small stack)));
           counted = omega (arith, so_far.counted, next.counted, ap length pushed, length-append rows (row ∷ []));
         }
 

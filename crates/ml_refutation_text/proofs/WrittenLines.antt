@@ -1,7 +1,7 @@
 -- Lines that are written word by word, and texts that are written part by part.
 --
 --   line_written     == a first word, further words each behind a blank, and an LF are a line
---   four_parts, tables_written == what is written part by part
+--   four_parts, rows_written, tables_written == what is written part by part
 --   entries_more, entries_done == the texts of entries, one more of which was written
 use Rattle.std.proofs.Common.{◌≡◌, ℕ, ◌+◌, ◌<◌, ◌≤◌, List, [], ◌∷◌, ◌++◌, length, map, get_or, drop, sym, ap, ◌∙◌, append_assoc}
 use Rattle.std.specs.List.{flat_map}
@@ -48,23 +48,26 @@ four_parts out first second third a b c d is_first is_second is_third =
     ap (λ text. text ++ d) (is_third ∙ ap (λ text. text ++ c) (is_second ∙ ap (λ text. text ++ b) is_first))
     ∙ append_assoc ((out ++ a) ++ b) c d ∙ append_assoc (out ++ a) b (c ++ d) ∙ append_assoc out a (b ++ (c ++ d))
 
--- two tables and the entries, written one behind the other
-pub tables_written : (es : List Entry) (qs ks : List (List ℕ)) (out first second third : List ℕ)
-    → qs ≡ sequents_of es → ks ≡ stacks_of es
+-- two tables, written one behind the other
+pub rows_written : (qs ks : List (List ℕ)) (out first second : List ℕ)
     → first ≡ out ++ text_of (sequents_line (length qs) ∷ map sequent_line qs)
     → second ≡ first ++ text_of (stacks_line (number (length ks)) ∷ map stack_line ks)
-    → third ≡ second ++ text_of (last_lines (by_tables qs ks) es)
-    → third ≡ out ++ text_of (lines_by_tables es)
-tables_written es qs ks out first second third is_qs is_ks is_first is_second is_third =
+    → second ≡ out ++ text_of (table_lines qs ks)
+rows_written qs ks out first second is_first is_second =
     let a : List Line = sequents_line (length qs) ∷ map sequent_line qs in
     let b : List Line = stacks_line (number (length ks)) ∷ map stack_line ks in
+    is_second ∙ ap (λ text. text ++ text_of b) is_first ∙ append_assoc out (text_of a) (text_of b)
+    ∙ ap (λ text. out ++ text) (sym (flat_map-append line_text a b))
+
+-- the tables and the entries, written one behind the other
+pub tables_written : (es : List Entry) (qs ks : List (List ℕ)) (out second third : List ℕ)
+    → qs ≡ sequents_of es → ks ≡ stacks_of es
+    → second ≡ out ++ text_of (table_lines qs ks)
+    → third ≡ second ++ text_of (last_lines (by_tables qs ks) es)
+    → third ≡ out ++ text_of (lines_by_tables es)
+tables_written es qs ks out second third is_qs is_ks is_second is_third =
+    let a : List Line = table_lines qs ks in
     let c : List Line = last_lines (by_tables qs ks) es in
-    is_third ∙ ap (λ text. text ++ text_of c) (is_second ∙ ap (λ text. text ++ text_of b) is_first)
-    ∙ append_assoc (out ++ text_of a) (text_of b) (text_of c) ∙ append_assoc out (text_of a) (text_of b ++ text_of c)
-    ∙ ap (λ text. out ++ text) (joined a b c)
+    is_third ∙ ap (λ text. text ++ text_of c) is_second ∙ append_assoc out (text_of a) (text_of c)
+    ∙ ap (λ text. out ++ text) (sym (flat_map-append line_text a c))
     ∙ (λ i. out ++ text_of (table_lines (is_qs i) (is_ks i) ++ last_lines (by_tables (is_qs i) (is_ks i)) es))
-  where
-    joined : (a b c : List Line) → text_of a ++ (text_of b ++ text_of c) ≡ text_of ((a ++ b) ++ c)
-    joined a b c =
-        sym (append_assoc (text_of a) (text_of b) (text_of c)) ∙ ap (λ text. text ++ text_of c) (sym (flat_map-append line_text a b))
-        ∙ sym (flat_map-append line_text (a ++ b) c)

@@ -15,7 +15,6 @@ use crate::body_rule::BodyRule;
 use crate::branches::read_decision;
 use crate::known::{Form, Known};
 use crate::lines::EntryLines;
-use crate::lists::copied;
 use crate::rest::{LineRefusal, Rest, at_line, fault, next_line};
 use crate::rows::read_sequent;
 use crate::traces::read_traces;
@@ -24,6 +23,7 @@ use ml_base::DocRefusal;
 use ml_lines::read_number;
 use ml_refutation::Entry;
 use std::alloc::Global;
+use std::rc::Rc;
 
 // the entries, and the lines of their parts
 pub(crate) fn read_entries<'a>(
@@ -112,10 +112,10 @@ fn read_head<'a>(
     at: Rest<'a>,
     form: &Form,
     number: u32,
-) -> Result<(Vec<u32>, u64, Rest<'a>), DocRefusal>
+) -> Result<(Rc<Vec<u32>>, u64, Rest<'a>), DocRefusal>
     requires { HasRoom at }
     ensures read { IfOk result (λ r. (v : Version) (names wanted : ℕ) (es : List plain.Entry) → length es ≡ number
-        → Goes v (AtEntry (knows names (form_of form.now) wanted) es) at.entry (AtLive (knows names (form_of form.now) wanted) es r.0.items) r.2) }
+        → Goes v (AtEntry (knows names (form_of form.now) wanted) es) at.entry (AtLive (knows names (form_of form.now) wanted) es r.0.value.items) r.2) }
     ensures line { IfOk result (λ r. r.1 ≡ sequent_at (version_of (form_of form.now)) at.entry.line) }
     ensures counted { IfOk result (λ r. r.2.line ≡ at.entry.line + head_size (version_of (form_of form.now))) }
     ensures refused { IfErr result (λ e. (v : Version) (names wanted : ℕ) (es : List plain.Entry) → length es ≡ number
@@ -132,7 +132,7 @@ fn read_head<'a>(
                 Err(refusal) => Err(refusal),
             }
         }
-        Form::ByTables(tables) => match read_placed(alloc, at, &tables.sequents, number) {
+        Form::ByTables(tables) => match read_placed(at, &tables.sequents, number) {
             Ok((sequent, rest)) => Ok((sequent, at.line, rest)),
             Err(refusal) => Err(refusal),
         },
@@ -162,15 +162,14 @@ fn read_entry_number<'a>(at: Rest<'a>, number: u32) -> Result<Rest<'a>, DocRefus
 
 // the first line of an entry of version 2, which has this number, and the sequent that it names
 fn read_placed<'a>(
-    alloc: Global,
     at: Rest<'a>,
-    sequents: &[Vec<u32>],
+    sequents: &[Rc<Vec<u32>>],
     number: u32,
-) -> Result<(Vec<u32>, Rest<'a>), DocRefusal>
+) -> Result<(Rc<Vec<u32>>, Rest<'a>), DocRefusal>
     requires { HasRoom at }
     ensures read { IfOk result (λ r. (v : Version) (names wanted : ℕ) (ks : List (List ℕ)) (es : List plain.Entry) → length es ≡ number
         → Goes v (AtEntry (knows names (text.ByTables (rows_in sequents.now) ks) wanted) es) at.entry
-        (AtLive (knows names (text.ByTables (rows_in sequents.now) ks) wanted) es r.0.items) r.1) }
+        (AtLive (knows names (text.ByTables (rows_in sequents.now) ks) wanted) es r.0.value.items) r.1) }
     ensures counted { IfOk result (λ r. r.1.line ≡ at.entry.line + 1) }
     ensures refused { IfErr result (λ e. (v : Version) (names wanted : ℕ) (ks : List (List ℕ)) (es : List plain.Entry) → length es ≡ number
         → TellsFault v (AtEntry (knows names (text.ByTables (rows_in sequents.now) ks) wanted) es) at.entry e) }
@@ -179,20 +178,15 @@ fn read_placed<'a>(
         Ok(next) => next,
         Err(refusal) => return Err(refusal),
     };
-    match placed(alloc, line, sequents, number) {
+    match placed(line, sequents, number) {
         Ok(sequent) => Ok((sequent, rest)),
         Err(refusal) => Err(at_line(at.line, refusal)),
     }
 }
 
 // the sequent that the first line of an entry of version 2 names
-fn placed(
-    alloc: Global,
-    line: &[u8],
-    sequents: &[Vec<u32>],
-    number: u32,
-) -> Result<Vec<u32>, LineRefusal>
-    ensures read { IfOk result (λ q. IsPlacedAt (rows_in sequents.now) number (words_of line.now) q.items) }
+fn placed(line: &[u8], sequents: &[Rc<Vec<u32>>], number: u32) -> Result<Rc<Vec<u32>>, LineRefusal>
+    ensures read { IfOk result (λ q. IsPlacedAt (rows_in sequents.now) number (words_of line.now) q.value.items) }
     ensures refused { IfErr result (λ e. (names wanted : ℕ) (ks : List (List ℕ)) (es : List plain.Entry) → length es ≡ number
         → TellsRule (AtEntry (knows names (text.ByTables (rows_in sequents.now) ks) wanted) es) (words_of line.now) e) }
 {
@@ -206,7 +200,7 @@ fn placed(
                     if u64::from(place) >= sequents.len() as u64 {
                         return Err(LineRefusal::Breaks(BodyRule::InTables));
                     }
-                    Ok(copied(alloc, sequents[place as usize].as_slice())?)
+                    Ok(Rc::clone(&sequents[place as usize])?)
                 }
                 None => Err(LineRefusal::Breaks(BodyRule::Numbers)),
             },

@@ -1,10 +1,11 @@
 // What a text tells before its entries.
+use std::rc::Rc;
 
-/// Sequents and stacks, each as a line of a table of version 2 has it.
+/// Sequents and stacks, each as a line of a table of version 2 has it, shared by all that name the line.
 #[derive(Drop)]
 pub(crate) struct ReadTables {
-    pub(crate) sequents: Vec<Vec<u32>>,
-    pub(crate) stacks: Vec<Vec<u32>>,
+    pub(crate) sequents: Vec<Rc<Vec<u32>>>,
+    pub(crate) stacks: Vec<Rc<Vec<u32>>>,
 }
 
 /// Sequents and stacks in full, or by their places in tables.

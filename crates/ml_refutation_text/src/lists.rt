@@ -1,11 +1,8 @@
-// Lists of numbers as a text has them: whether they ascend, and their copies.
-ghost use Rattle.std.specs.Prelude.{◌≡◌, ◌<◌, false, nat_lt, IsTrue, IfOk};
+// Lists of numbers as a text has them: whether they ascend.
+ghost use Rattle.std.specs.Prelude.{◌≡◌, ◌<◌, false, nat_lt, IsTrue};
 ghost use Rattle.std.specs.List.{list_all};
 ghost use Rattle.ml_lists.specs.Ascending.{IsAscending};
 ghost use Rattle.ml_refutation_text.specs.private.ItemReads.{ascends_behind, AreNames};
-
-use ml_base::NoMemory;
-use std::alloc::Global;
 
 // do the numbers strictly ascend?
 pub(crate) fn ascends(ns: &[u32]) -> bool
@@ -44,12 +41,4 @@ fn all_below(ns: &[u32], bound: u32) -> bool
     ensures { result ≡ list_all (λ n. nat_lt n bound) ns.now }
 {
     ns.iter().all(|n| *n < bound)
-}
-
-pub(crate) fn copied(alloc: Global, ns: &[u32]) -> Result<Vec<u32>, NoMemory>
-    ensures { IfOk result (λ copy. copy.items ≡ ns.now) }
-{
-    let mut copy = Vec::new(alloc);
-    copy.extend_from_slice(ns)?;
-    Ok(copy)
 }

@@ -19,14 +19,15 @@ use crate::words::{listed_words, read_any, read_numbered, read_numbers, word_beh
 use ml_base::DocRefusal;
 use ml_lines::{are_words, more_words};
 use std::alloc::Global;
+use std::rc::Rc;
 
 // a line with a sequent
 pub(crate) fn read_sequent<'a>(
     alloc: Global,
     at: Rest<'a>,
-) -> Result<(Vec<u32>, Rest<'a>), DocRefusal>
+) -> Result<(Rc<Vec<u32>>, Rest<'a>), DocRefusal>
     requires { HasRoom at }
-    ensures read { IfOk result (λ r. IsSequentRead at.entry r.0.items r.1) }
+    ensures read { IfOk result (λ r. IsSequentRead at.entry r.0.value.items r.1) }
     ensures refused { IfErr result (TellsSequent at.entry) }
 {
     let (line, rest) = match next_line(at) {
@@ -40,8 +41,8 @@ pub(crate) fn read_sequent<'a>(
 }
 
 // the sequent that a line tells
-fn sequent_of(alloc: Global, line: &[u8]) -> Result<Vec<u32>, LineRefusal>
-    ensures read { IfOk result (λ q. (words_of line.now ≡ sequent_line q.items) × All plain.Fits q.items × IsAscending q.items) }
+fn sequent_of(alloc: Global, line: &[u8]) -> Result<Rc<Vec<u32>>, LineRefusal>
+    ensures read { IfOk result (λ q. (words_of line.now ≡ sequent_line q.value.items) × All plain.Fits q.value.items × IsAscending q.value.items) }
     ensures table { IfErr result (λ e. (names size : ℕ) (rows : List (List ℕ)) → TellsRule (AtTableSequent names size rows) (words_of line.now) e) }
     ensures entry { IfErr result (λ e. (k : Known) (es : List plain.Entry) → TellsRule (AtSequent k es) (words_of line.now) e) }
 {
@@ -49,7 +50,7 @@ fn sequent_of(alloc: Global, line: &[u8]) -> Result<Vec<u32>, LineRefusal>
         Some(behind) => match read_numbers(alloc, behind)? {
             Some(sequent) => {
                 if ascends(&sequent) {
-                    Ok(sequent)
+                    Ok(Rc::new(alloc, sequent)?)
                 } else {
                     Err(LineRefusal::Breaks(BodyRule::SequentAscends))
                 }
@@ -82,7 +83,10 @@ pub(crate) fn read_tables<'a>(
 }
 
 // the table of sequents, with the number of its lines
-fn read_sequents<'a>(alloc: Global, at: Rest<'a>) -> Result<(Vec<Vec<u32>>, Rest<'a>), DocRefusal>
+fn read_sequents<'a>(
+    alloc: Global,
+    at: Rest<'a>,
+) -> Result<(Vec<Rc<Vec<u32>>>, Rest<'a>), DocRefusal>
     requires { HasRoom at }
     ensures read { IfOk result (λ r. (v : Version) (names : ℕ) → Goes v (AtSequents names) at.entry (AtStacks names (rows_of r.0)) r.1) }
     ensures counted { IfOk result (λ r. r.1.line ≡ at.entry.line + 1 + length r.0.items) }
@@ -100,13 +104,13 @@ fn read_sequent_rows<'a>(
     alloc: Global,
     at: Rest<'a>,
     size: u32,
-) -> Result<(Vec<Vec<u32>>, Rest<'a>), DocRefusal>
+) -> Result<(Vec<Rc<Vec<u32>>>, Rest<'a>), DocRefusal>
     requires { HasRoom at }
     ensures read { IfOk result (λ r. (v : Version) (names : ℕ) → Goes v (at_sequent_table names size []) at.entry (AtStacks names (rows_of r.0)) r.1) }
     ensures counted { IfOk result (λ r. r.1.line ≡ at.entry.line + length r.0.items) }
     ensures refused { IfErr result (λ e. (v : Version) (names : ℕ) → TellsFault v (at_sequent_table names size []) at.entry e) }
 {
-    let mut rows: Vec<Vec<u32>> = Vec::new(alloc);
+    let mut rows: Vec<Rc<Vec<u32>>> = Vec::new(alloc);
     let mut rest = at;
     'rows: while (rows.len() as u64) < u64::from(size) {
         let (sequent, behind) = match read_sequent(alloc, rest) {
@@ -124,7 +128,7 @@ fn read_stacks<'a>(
     alloc: Global,
     at: Rest<'a>,
     names: u32,
-) -> Result<(Vec<Vec<u32>>, Rest<'a>), DocRefusal>
+) -> Result<(Vec<Rc<Vec<u32>>>, Rest<'a>), DocRefusal>
     requires { HasRoom at }
     ensures read { IfOk result (λ r. (v : Version) (qs : List (List ℕ)) → Goes v (AtStacks names qs) at.entry (AtEntries names (text.ByTables qs (rows_of r.0))) r.1) }
     ensures counted { IfOk result (λ r. r.1.line ≡ at.entry.line + 1 + length r.0.items) }
@@ -146,7 +150,7 @@ fn read_stack_rows<'a>(
     at: Rest<'a>,
     names: u32,
     size: u64,
-) -> Result<(Vec<Vec<u32>>, Rest<'a>), DocRefusal>
+) -> Result<(Vec<Rc<Vec<u32>>>, Rest<'a>), DocRefusal>
     requires room { HasRoom at }
     requires some { 0 < at.line }
     ensures read { IfOk result (λ r. (v : Version) (count : ℕ) (qs : List (List ℕ)) → size ≡ min count (2 ^ 64 - 1)
@@ -155,7 +159,7 @@ fn read_stack_rows<'a>(
     ensures refused { IfErr result (λ e. (v : Version) (count : ℕ) (qs : List (List ℕ)) → size ≡ min count (2 ^ 64 - 1)
         → TellsFault v (at_stack_table names qs count []) at.entry e) }
 {
-    let mut rows: Vec<Vec<u32>> = Vec::new(alloc);
+    let mut rows: Vec<Rc<Vec<u32>>> = Vec::new(alloc);
     let mut rest = at;
     'rows: while (rows.len() as u64) < size {
         let (line, behind) = match next_line(rest) {
@@ -187,15 +191,15 @@ fn stacks_of(line: &[u8]) -> Result<u64, BodyRule>
 }
 
 // the stack that a line of its table tells
-fn stack_of(alloc: Global, line: &[u8], names: u32) -> Result<Vec<u32>, LineRefusal>
-    ensures read { IfOk result (λ ns. (words_of line.now ≡ stack_line ns.items) × plain.IsStack names ns.items) }
+fn stack_of(alloc: Global, line: &[u8], names: u32) -> Result<Rc<Vec<u32>>, LineRefusal>
+    ensures read { IfOk result (λ ns. (words_of line.now ≡ stack_line ns.value.items) × plain.IsStack names ns.value.items) }
     ensures refused { IfErr result (λ e. (qs rows : List (List ℕ)) (size : ℕ) → TellsRule (AtTableStack names qs size rows) (words_of line.now) e) }
 {
     match stack_words(line) {
         Some(behind) => match read_numbers(alloc, Some(behind))? {
             Some(stack) => {
                 if are_names(&stack, names) {
-                    Ok(stack)
+                    Ok(Rc::new(alloc, stack)?)
                 } else {
                     Err(LineRefusal::Breaks(BodyRule::ItemsAscend))
                 }

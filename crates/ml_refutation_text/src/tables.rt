@@ -3,6 +3,7 @@ ghost use Rattle.std.specs.Prelude.{◌≡◌, map, fold, IfOk, OnOk};
 ghost use Rattle.std.specs.List.{flat_map};
 ghost use Rattle.ml_refutation.specs.Views.{item_of, entry_of};
 ghost use Rattle.ml_refutation_text.specs.WrittenText.{each_once, with_new, place_in, used_stacks};
+ghost use Rattle.ml_refutation_text.specs.WrittenText as plain;
 ghost use Rattle.ml_refutation_text.specs.private.Filings.{shown};
 
 use indexmap::IndexSet;
@@ -27,8 +28,18 @@ pub(crate) enum Filing<'a> {
     ByTables(Tables<'a>),
 }
 
+// the tables of the entries
+pub(crate) fn tables_of<'a>(alloc: Global, entries: &'a [Entry]) -> Result<Tables<'a>, NoMemory>
+    ensures sequents { IfOk result (λ t. shown t.sequents.keys ≡ plain.sequents_of (map entry_of entries.now)) }
+    ensures stacks { IfOk result (λ t. shown t.stacks.keys ≡ plain.stacks_of (map entry_of entries.now)) }
+{
+    let sequents = sequents_of(alloc, entries)?;
+    let stacks = stacks_of(alloc, entries)?;
+    Ok(Tables { sequents, stacks })
+}
+
 // the sequents of the entries, each once
-pub(crate) fn sequents_of<'a>(alloc: Global, entries: &'a [Entry]) -> Result<Table<'a>, NoMemory>
+fn sequents_of<'a>(alloc: Global, entries: &'a [Entry]) -> Result<Table<'a>, NoMemory>
     ensures { IfOk result (λ table. shown table.keys ≡ each_once (map (λ e. e.sequent) (map entry_of entries.now))) }
 {
     let mut table = IndexSet::new(alloc);
@@ -39,7 +50,7 @@ pub(crate) fn sequents_of<'a>(alloc: Global, entries: &'a [Entry]) -> Result<Tab
 }
 
 // the stacks of the items of the entries, each once
-pub(crate) fn stacks_of<'a>(alloc: Global, entries: &'a [Entry]) -> Result<Table<'a>, NoMemory>
+fn stacks_of<'a>(alloc: Global, entries: &'a [Entry]) -> Result<Table<'a>, NoMemory>
     ensures { IfOk result (λ table. shown table.keys ≡ each_once (flat_map used_stacks (map entry_of entries.now))) }
 {
     let mut table = IndexSet::new(alloc);

@@ -17,13 +17,14 @@ ghost use Rattle.ml_refutation_text.specs.private.ItemReads.{knows, AreNames, Is
 
 use crate::body_rule::BodyRule;
 use crate::known::Form;
-use crate::lists::{are_names, copied};
+use crate::lists::are_names;
 use crate::rest::{LineRefusal, Rest, at_line, next_line};
 use crate::words::{listed_words, read_any, read_guess, read_numbers};
 use ml_base::DocRefusal;
 use ml_lines::{are_words, more_words, one_word, read_number};
 use ml_refutation::Item;
 use std::alloc::Global;
+use std::rc::Rc;
 
 /// A line of an entry behind the number of names in use.
 #[derive(Drop)]
@@ -105,7 +106,7 @@ fn item_at(
 {
     match form {
         Form::InFull => item_in_full(alloc, line, live, before),
-        Form::ByTables(tables) => item_by_table(alloc, line, &tables.stacks, live, before),
+        Form::ByTables(tables) => item_by_table(line, &tables.stacks, live, before),
     }
 }
 
@@ -148,6 +149,7 @@ fn item_in_full(
             Some((node, odd)) => match read_numbers(alloc, Some(rest))? {
                 Some(stack) => {
                     if comes_behind(before, node, odd) && are_names(&stack, live) {
+                        let stack = Rc::new(alloc, stack)?;
                         Ok(Item { node, odd, stack })
                     } else {
                         Err(LineRefusal::Breaks(BodyRule::ItemsAscend))
@@ -163,9 +165,8 @@ fn item_in_full(
 
 // the item that a line of version 2 tells, behind another one or none
 fn item_by_table(
-    alloc: Global,
     line: &[u8],
-    stacks: &[Vec<u32>],
+    stacks: &[Rc<Vec<u32>>],
     live: u32,
     before: Option<&Item>,
 ) -> Result<Item, LineRefusal>
@@ -181,7 +182,7 @@ fn item_by_table(
                         if !comes_behind(before, node, odd) {
                             return Err(LineRefusal::Breaks(BodyRule::ItemsAscend));
                         }
-                        match stack_at(alloc, stacks, place, live) {
+                        match stack_at(stacks, place, live) {
                             Ok(stack) => Ok(Item { node, odd, stack }),
                             Err(refusal) => Err(refusal),
                         }
@@ -197,21 +198,16 @@ fn item_by_table(
 }
 
 // the stack of this number, whose names have to be in use
-fn stack_at(
-    alloc: Global,
-    stacks: &[Vec<u32>],
-    place: u64,
-    live: u32,
-) -> Result<Vec<u32>, LineRefusal>
-    ensures read { IfOk result (λ ns. (slice_get (rows_in stacks.now) place ≡ Some ns.items) × (place < 2 ^ 64 - 1) × AreNames live ns.items) }
+fn stack_at(stacks: &[Rc<Vec<u32>>], place: u64, live: u32) -> Result<Rc<Vec<u32>>, LineRefusal>
+    ensures read { IfOk result (λ ns. (slice_get (rows_in stacks.now) place ≡ Some ns.value.items) × (place < 2 ^ 64 - 1) × AreNames live ns.value.items) }
     ensures refused { IfErr result (LacksStack (rows_in stacks.now) place live) }
 {
     if place >= stacks.len() as u64 {
         return Err(LineRefusal::Breaks(BodyRule::InTables));
     }
-    let stack = stacks[place as usize].as_slice();
-    if are_names(stack, live) {
-        Ok(copied(alloc, stack)?)
+    let stack = &stacks[place as usize];
+    if are_names(stack.as_slice(), live) {
+        Ok(Rc::clone(stack)?)
     } else {
         Err(LineRefusal::Breaks(BodyRule::ItemsAscend))
     }

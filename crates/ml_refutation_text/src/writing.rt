@@ -4,10 +4,10 @@ ghost use Rattle.std.specs.List.{flat_map};
 ghost use Rattle.ml_lines.specs.Lines.{number, next, line_text, text_of};
 ghost use Rattle.ml_refutation.specs.Views.{cause_of, mark_of, decision_of, item_of, entry_of, of_parts};
 ghost use Rattle.ml_refutation_text.specs.RefutationText.{IsTextOf, numbers, guess_word, item_line, clash_line, go_line, decision_lines};
-ghost use Rattle.ml_refutation_text.specs.WrittenText.{IsCounted, stacks_of as used, written_text, entry_lines, entries_lines, last_lines, lines_by_tables};
+ghost use Rattle.ml_refutation_text.specs.WrittenText.{IsCounted, stacks_of as used, written_text, entry_lines, entries_lines, table_lines, last_lines, lines_by_tables};
 ghost use Rattle.ml_refutation_text.specs.private.Filings.{shown, writing_of};
 
-use crate::tables::{Filing, Table, Tables, place_of, sequents_of, stacks_of};
+use crate::tables::{Filing, Table, Tables, place_of, tables_of};
 use ml_base::{NoMemory, Version};
 use ml_lines::{end_line, whole_or_none, write_next_number, write_next_word, write_word};
 use ml_refutation::{Cause, Decision, Entry, Item, Refutation, Step};
@@ -75,11 +75,19 @@ fn write_by_tables(alloc: Global, out: &mut Vec<u8>, entries: &[Entry]) -> Resul
     ensures counted { OnOk result (length (used (map entry_of entries.now)) < 2 ^ 64) }
     ensures front { take (vec_len out.old) out.new.items ≡ out.old.items }
 {
-    let sequents = sequents_of(alloc, entries)?;
-    let stacks = stacks_of(alloc, entries)?;
-    write_table(out, b"sequents", b"sequent", &sequents)?;
-    write_table(out, b"stacks", b"stack", &stacks)?;
-    write_last(out, entries, &Filing::ByTables(Tables { sequents, stacks }))
+    let tables = tables_of(alloc, entries)?;
+    write_tables(out, &tables)?;
+    write_last(out, entries, &Filing::ByTables(tables))
+}
+
+fn write_tables(out: &mut Vec<u8>, tables: &Tables) -> Result<(), NoMemory>
+    ensures text { OnOk result (out.new.items ≡ out.old.items
+        ++ text_of (table_lines (shown tables.now.sequents.keys) (shown tables.now.stacks.keys))) }
+    ensures counted { OnOk result (length (shown tables.now.stacks.keys) < 2 ^ 64) }
+    ensures front { take (vec_len out.old) out.new.items ≡ out.old.items }
+{
+    write_table(out, b"sequents", b"sequent", &tables.sequents)?;
+    write_table(out, b"stacks", b"stack", &tables.stacks)
 }
 
 // a table with its number of lines
@@ -159,7 +167,7 @@ fn write_items(out: &mut Vec<u8>, items: &[Item], filing: &Filing) -> Result<(),
 
 fn write_item(out: &mut Vec<u8>, item: &Item, filing: &Filing) -> Result<(), NoMemory>
     ensures text { OnOk result (out.new.items ≡ out.old.items
-        ++ line_text (item_line (item_of item.now).state ((writing_of filing.now).words item.now.stack.items))) }
+        ++ line_text (item_line (item_of item.now).state ((writing_of filing.now).words item.now.stack.value.items))) }
     ensures front { take (vec_len out.old) out.new.items ≡ out.old.items }
 {
     write_word(out, b"item")?;

@@ -3,6 +3,7 @@
 -- A reader goes through a text from place to place; what it keeps is what the place keeps. Each of its functions goes from
 -- one place to another, or tells the first bad line between them.
 --
+--   Shared                 == a list of numbers that several may hold
 --   rows_in, rows_of, form_of, known_of == what the program keeps, as a place keeps it
 --   version_of F           == the version of a form
 --   around_of, arounds_of  == the splits around a line; the program has the innermost last
@@ -16,7 +17,8 @@
 --   at_line k e            == the refusal e of a line, with the line's number k
 --   IsNumbered, IsPlaced   == the line is a fixed word with one word behind it, with two
 use Rattle.std.specs.Prelude.{ℕ, ◌+◌, ◌≤◌, ◌<◌, ◌≡◌, ◌^◌, ⊤, List, [], ◌∷◌, length, map}
-use Rattle.std.specs.Global.{Vec}
+use Rattle.std.specs.Global.{Vec, Global}
+use Rattle.std.specs.declared.rc.Rc.{Rc}
 use Rattle.ml_base.specs.declared.doc_refusal.DocRefusal.{DocRefusal}
 use Rattle.ml_base.specs.declared.doc_refusal.DocRefusal.TheVariants as refused
 use Rattle.ml_base.specs.declared.version.Version.{Version}
@@ -41,10 +43,14 @@ use Rattle.ml_refutation_text.specs.declared.branches.Around.TheVariants as arou
 
 -- ---- what the program keeps
 
-abbrev pub rows_in : List (Vec ℕ) → List (List ℕ)
-rows_in rows = map (λ row. row.items) rows
+-- a list that several may hold
+abbrev pub Shared : Type 0
+Shared = Rc (Vec ℕ) Global
 
-abbrev pub rows_of : Vec (Vec ℕ) → List (List ℕ)
+abbrev pub rows_in : List Shared → List (List ℕ)
+rows_in rows = map (λ row. row.value.items) rows
+
+abbrev pub rows_of : Vec Shared → List (List ℕ)
 rows_of rows = rows_in rows.items
 
 abbrev pub form_of : Form → text.Form

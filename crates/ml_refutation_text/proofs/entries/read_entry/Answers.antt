@@ -16,7 +16,7 @@ pub returns-in-Err-read_live-clause-refused : goal.returns-in-Err-read_live-clau
 returns-in-Err-read_live-clause-refused c = λ v es here.
     let k = known_of c.args.known.now in
     fault_on c.in-Err-read_live.refusal (c.in-Ok.ensures.read v k.names k.wanted es here)
-    (c.in-Err-read_live.ensures.refused v k.form k.wanted es c.in-Ok.read.0.items)
+    (c.in-Err-read_live.ensures.refused v k.form k.wanted es c.in-Ok.read.0.value.items)
 
 pub read_traces-requires-clause-room : goal.read_traces-requires-clause-room
 read_traces-requires-clause-room c =
@@ -27,7 +27,7 @@ read_traces-requires-clause-room c =
 pub returns-in-Err-read_traces-clause-refused : goal.returns-in-Err-read_traces-clause-refused
 returns-in-Err-read_traces-clause-refused c = λ v es here.
     let k = known_of c.args.known.now in
-    let q = c.in-Ok.read.0.items in
+    let q = c.in-Ok.read.0.value.items in
     let second =
     goes_on (c.in-Ok.ensures.read v k.names k.wanted es here) (c.in-Ok-read_live.ensures.read v k.form k.wanted es q) in
     fault_on c.in-Err-read_traces.refusal second (c.in-Err-read_traces.ensures.refused v k.wanted es q)
@@ -42,7 +42,7 @@ read_decision-requires c =
 pub returns-in-Err-read_decision-clause-refused : goal.returns-in-Err-read_decision-clause-refused
 returns-in-Err-read_decision-clause-refused c = λ v es here.
     let k = known_of c.args.known.now in
-    let q = c.in-Ok.read.0.items in
+    let q = c.in-Ok.read.0.value.items in
     let b : Begun = record {
       sequent = q;
       traces = record { live = c.in-Ok-read_live.read.0; items = map item_of c.in-Ok-read_traces.read.0.items };
@@ -56,7 +56,7 @@ returns-in-Err-read_decision-clause-refused c = λ v es here.
 pub returns-clause-read : goal.returns-clause-read
 returns-clause-read c = λ v es here.
     let k = known_of c.args.known.now in
-    let q = c.in-Ok.read.0.items in
+    let q = c.in-Ok.read.0.value.items in
     let second =
     goes_on (c.in-Ok.ensures.read v k.names k.wanted es here) (c.in-Ok-read_live.ensures.read v k.form k.wanted es q) in
     goes_on (goes_on second (c.in-Ok-read_traces.ensures.read v k.wanted es q)) (c.in-Ok-read_decision.ensures.read v k.form es _)

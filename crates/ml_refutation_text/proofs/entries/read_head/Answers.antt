@@ -21,7 +21,7 @@ read_sequent-requires c =
 pub returns-in-Ok-read_sequent-clause-read : goal.returns-in-Ok-read_sequent-clause-read
 returns-in-Ok-read_sequent-clause-read c = λ v names wanted es here.
     let k = knows names InFull wanted in
-    let q = c.in-Ok-read_sequent.sequent.items in
+    let q = c.in-Ok-read_sequent.sequent.value.items in
     let rest = c.in-Ok-read_sequent.rest in
     subst (λ F. Goes v (AtEntry (knows names F wanted) es) c.args.at (AtLive (knows names F wanted) es q) rest) (ap form_of (sym c.in-InFull.is))
     (goes_on (c.in-Ok.ensures.read v names wanted es here)
@@ -36,7 +36,7 @@ returns-in-Err-read_sequent-clause-refused c = λ v names wanted es here.
 
 pub returns-in-Ok-read_placed-clause-read : goal.returns-in-Ok-read_placed-clause-read
 returns-in-Ok-read_placed-clause-read c = λ v names wanted es here.
-    let q = c.in-Ok-read_placed.sequent.items in
+    let q = c.in-Ok-read_placed.sequent.value.items in
     let rest = c.in-Ok-read_placed.rest in
     let ks = rows_of c.in-ByTables.tables.stacks in
     subst (λ F. Goes v (AtEntry (knows names F wanted) es) c.args.at (AtLive (knows names F wanted) es q) rest)

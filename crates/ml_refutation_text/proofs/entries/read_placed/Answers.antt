@@ -15,7 +15,7 @@ returns-in-Err-clause-refused c = λ v names wanted ks es here.
 pub returns-in-Ok-placed-clause-read : goal.returns-in-Ok-placed-clause-read
 returns-in-Ok-placed-clause-read c = λ v names wanted ks es here.
     placed_goes names wanted es v c.args.at c.in-Ok.next.1 (rows_in c.args.sequents.now) ks (words_of c.in-Ok.next.0.now) c.args.number
-    c.in-Ok-placed.sequent.items c.in-Ok.ensures.read c.ranges.number.fits here c.in-Ok-placed.ensures.read
+    c.in-Ok-placed.sequent.value.items c.in-Ok.ensures.read c.ranges.number.fits here c.in-Ok-placed.ensures.read
 
 pub returns-in-Err-placed-clause-refused : goal.returns-in-Err-placed-clause-refused
 returns-in-Err-placed-clause-refused c = λ v names wanted ks es here.

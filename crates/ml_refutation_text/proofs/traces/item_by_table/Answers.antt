@@ -41,8 +41,8 @@ returns-in-Ok-clause-read c =
     let same : c.in-Some-read_any.place ≡ value p = omega (arith, c.in-Some-read_any.ensures.1, read.1) in
     λ qs.
     table_is qs ks line c.args.live (before_of (option_copied c.args.before))
-    (record { node = c.in-Some-read_state.node; odd = c.in-Some-read_state.odd }) c.in-Ok.stack.items p
+    (record { node = c.in-Some-read_state.node; odd = c.in-Some-read_state.odd }) c.in-Ok.stack.value.items p
     (c.in-Some.ensures.1 ∙ ap (λ ws. codes "item" ∷ c.in-Some.node.now ∷ c.in-Some.guess.now ∷ ws) c.in-Some-one_word.ensures
     ∙ (λ i. codes "item" ∷ state.0 i ∷ state.2 i ∷ p ∷ []))
-    c.in-Some-read_any.ensures.0 (subst (λ t. slice_get ks t ≡ Some c.in-Ok.stack.items) same read.0) state.1 state.3
+    c.in-Some-read_any.ensures.0 (subst (λ t. slice_get ks t ≡ Some c.in-Ok.stack.value.items) same read.0) state.1 state.3
     (c.comes_behind.ensures.yes c.if-not-comes_behind.false) read.2
