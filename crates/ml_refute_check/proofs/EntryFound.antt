@@ -216,9 +216,9 @@ odds_ascend g odds is =
 -- the names of an entry's items are in use
 pub live_low : (names live : ℕ) (items xs : List Item) → xs ≡ items
     → IsTraced names (record { live = live; items = map item_of items })
-    → All (λ (a : Item). All (λ y. y < live) a.stack.items) xs
+    → All (λ (a : Item). All (λ y. y < live) a.stack.value.items) xs
 live_low names live items xs same traced =
-    subst (All (λ (a : Item). All (λ y. y < live) a.stack.items)) (sym same)
+    subst (All (λ (a : Item). All (λ y. y < live) a.stack.value.items)) (sym same)
     (λ k d low.
     let is = get_or-map item_of items k d (item_of d) low in
     subst (λ a. All (λ y. y < live) a.stack) is

@@ -157,8 +157,8 @@ module _ (odds : List ℕ) where
       pub traced_at : (b : Bool) → (IsTrue b ↔ IsItemTraced odds found bound green items behind)
           → IsTrue b ↔ IsItemTraced odds traces bound green items behind
       traced_at b told = (
-        λ h k z low. name_of_found (get_or behind.stack.items k z) (told.0 h k z low),
-        λ all. told.1 (λ k z low. name_of_all (get_or behind.stack.items k z) (all k z low)),
+        λ h k z low. name_of_found (get_or behind.stack.value.items k z) (told.0 h k z low),
+        λ all. told.1 (λ k z low. name_of_all (get_or behind.stack.value.items k z) (all k z low)),
       )
 
 pub led_into_sorted : (next : List ℕ) (made traces sorted : List Triple)

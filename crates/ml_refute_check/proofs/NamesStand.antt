@@ -16,27 +16,27 @@ use Rattle.ml_refutation.specs.Views.{item_of}
 
 module _ (live : ℕ) (items : List Item) (flags : List Bool) (i : ℕ)
     (long : length flags ≡ live)
-    (flagged : (y : ℕ) → get_or flags y false ≡ list_any (λ (a : Item). has y a.stack.items) (take i items))
+    (flagged : (y : ℕ) → get_or flags y false ≡ list_any (λ (a : Item). has y a.stack.value.items) (take i items))
     (past : length items ≤ i) where
   abbrev traces : traced.Entry AutomatonState
   traces = record { live = live; items = map item_of items }
 
-  of_all : (y : ℕ) → get_or flags y false ≡ list_any (λ (a : Item). has y a.stack.items) items
-  of_all y = flagged y ∙ ap (list_any (λ (a : Item). has y a.stack.items)) (take_all i items past)
+  of_all : (y : ℕ) → get_or flags y false ≡ list_any (λ (a : Item). has y a.stack.value.items) items
+  of_all y = flagged y ∙ ap (list_any (λ (a : Item). has y a.stack.value.items)) (take_all i items past)
 
   stands : All (λ flag. flag ≡ true) flags → EachNameStands traces
   stands all y low =
-      let p = list_any-member (λ (a : Item). has y a.stack.items) items (sym (of_all y) ∙ all y false (omega arith)) in
+      let p = list_any-member (λ (a : Item). has y a.stack.value.items) items (sym (of_all y) ∙ all y false (omega arith)) in
       (item_of p.item, member-map item_of p.item items p.member, p.passes)
 
   set : EachNameStands traces → All (λ flag. flag ≡ true) flags
   set each k d low = get_or_default flags k d false low ∙ of_all k ∙ of_item (each k (omega arith))
     where
       of_item : (a : traced.Item AutomatonState) × IsMember a (map item_of items) × (has k a.stack ≡ true)
-          → list_any (λ (a : Item). has k a.stack.items) items ≡ true
+          → list_any (λ (a : Item). has k a.stack.value.items) items ≡ true
       of_item h =
           let image = member-map_from item_of h.0 items h.1 in
-          member-list_any (λ (a : Item). has k a.stack.items) image.from items image.member
+          member-list_any (λ (a : Item). has k a.stack.value.items) image.from items image.member
           (subst (λ (a : traced.Item AutomatonState). has k a.stack ≡ true) image.holds h.2)
 
   pub names_stand : (b : Bool) → (IsTrue b ↔ All (λ flag. flag ≡ true) flags) → IsTrue b ↔ EachNameStands traces

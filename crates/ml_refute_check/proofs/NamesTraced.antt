@@ -102,7 +102,7 @@ module _ (g : Graph) (step : GoStep) (traces : List Triple)
     Traced a y = IsNameTraced odds traces (bound live m) (green_of m) items y a
 
     abbrev pub AllTraced : Type 0
-    AllTraced = All (λ (a : Item). All (Traced a) a.stack.items) items_behind
+    AllTraced = All (λ (a : Item). All (Traced a) a.stack.value.items) items_behind
 
     abbrev pub InUse : Type 0
     InUse =
@@ -126,7 +126,7 @@ module _ (g : Graph) (step : GoStep) (traces : List Triple)
       in_use = in_force.0;
       green_in_use = in_force.1;
       traced = λ y low. of_items (λ a. has y a.stack ≡ true → Predecessor (HasTransition g) step before y a)
-          (λ i member h. source_before y (not (ends_in y i.stack.items)) i ((name i member y h).below low));
+          (λ i member h. source_before y (not (ends_in y i.stack.value.items)) i ((name i member y h).below low));
       advanced = λ y low. of_items (λ a. IsAdvanced y a.stack → Progress (HasTransition g) step before y a)
           (λ i member h. source_gains y i (subst (λ p. HasSource odds traces y p items i) (ap not h.1) ((name i member y h.0).below low)));
       green_traced = λ x e. of_items (λ a. has x a.stack ≡ true → Progress (HasTransition g) step before x a)
@@ -135,45 +135,45 @@ module _ (g : Graph) (step : GoStep) (traces : List Triple)
           (λ i member h. true≢false (sym ((name i member x h.0).if_green (ap green_of e)).0 ∙ h.1));
     }
       where
-        name : (i : Item) → IsMember i items_behind → (y : ℕ) → has y i.stack.items ≡ true → Traced i y
+        name : (i : Item) → IsMember i items_behind → (y : ℕ) → has y i.stack.value.items ≡ true → Traced i y
         name i member y h =
-            All-member (Traced i) i.stack.items
-            (All-member (λ (a : Item). All (Traced a) a.stack.items) items_behind all i member) y
-            (has-member y i.stack.items h)
+            All-member (Traced i) i.stack.value.items
+            (All-member (λ (a : Item). All (Traced a) a.stack.value.items) items_behind all i member) y
+            (has-member y i.stack.value.items h)
 
     pub condition_tells : Condition → InUse × AllTraced
     condition_tells n = (
       (n.in_use, n.green_in_use),
-      member-All (λ (a : Item). All (Traced a) a.stack.items) items_behind
-          (λ i member. member-All (Traced i) i.stack.items (λ y h. name i member y (member-has y i.stack.items h))),
+      member-All (λ (a : Item). All (Traced a) a.stack.value.items) items_behind
+          (λ i member. member-All (Traced i) i.stack.value.items (λ y h. name i member y (member-has y i.stack.value.items h))),
     )
       where
         gains : (i : Item) (y : ℕ) → Gains y i → HasSource odds traces y true items i
         gains i y h = before_source y true i h.before (λ t. h.progress)
 
-        by_end : (i : Item) (member : IsMember i items_behind) (y : ℕ) → has y i.stack.items ≡ true → y < bound live m
-            → (ends_in y i.stack.items ≡ true) ⊎ (ends_in y i.stack.items ≡ false)
-            → HasSource odds traces y (not (ends_in y i.stack.items)) items i
+        by_end : (i : Item) (member : IsMember i items_behind) (y : ℕ) → has y i.stack.value.items ≡ true → y < bound live m
+            → (ends_in y i.stack.value.items ≡ true) ⊎ (ends_in y i.stack.value.items ≡ false)
+            → HasSource odds traces y (not (ends_in y i.stack.value.items)) items i
         by_end i member y h low (inl e) =
-            before_source y (not (ends_in y i.stack.items)) i
+            before_source y (not (ends_in y i.stack.value.items)) i
             (n.traced y low (item_of i) (member-map item_of i items_behind member) h)
             (λ t. absurd (true≢false (sym t ∙ ap not e)))
         by_end i member y h low (inr e) =
             subst (λ p. HasSource odds traces y p items i) (sym (ap not e))
             (gains i y (n.advanced y low (item_of i) (member-map item_of i items_behind member) (h, e)))
 
-        is_last : (i : Item) (member : IsMember i items_behind) (y : ℕ) → has y i.stack.items ≡ true → m ≡ Green y
-            → (ends_in y i.stack.items ≡ true) ⊎ (ends_in y i.stack.items ≡ false)
-            → ends_in y i.stack.items ≡ true
+        is_last : (i : Item) (member : IsMember i items_behind) (y : ℕ) → has y i.stack.value.items ≡ true → m ≡ Green y
+            → (ends_in y i.stack.value.items ≡ true) ⊎ (ends_in y i.stack.value.items ≡ false)
+            → ends_in y i.stack.value.items ≡ true
         is_last i member y h e (inl t) = t
         is_last i member y h e (inr f) =
             absurd (n.green_reset y e (item_of i) (member-map item_of i items_behind member) (h, f))
 
-        name : (i : Item) → IsMember i items_behind → (y : ℕ) → has y i.stack.items ≡ true → Traced i y
+        name : (i : Item) → IsMember i items_behind → (y : ℕ) → has y i.stack.value.items ≡ true → Traced i y
         name i member y h = record {
-          below = λ low. by_end i member y h low (cases_Bool (ends_in y i.stack.items));
+          below = λ low. by_end i member y h low (cases_Bool (ends_in y i.stack.value.items));
           if_green = λ e. (
-            is_last i member y h (green_is m y e) (cases_Bool (ends_in y i.stack.items)),
+            is_last i member y h (green_is m y e) (cases_Bool (ends_in y i.stack.value.items)),
             gains i y (n.green_traced y (green_is m y e) (item_of i) (member-map item_of i items_behind member) h),
           );
         }

@@ -93,7 +93,7 @@ impl<'a> Checker<'a> {
         ensures { IfOk result (Finds (question self.now.graph.now self.now.refutation.now) place
             (front_parts (entry_of entry.now))) }
     {
-        if !starts_well(self.graph, &entry.sequent, place) {
+        if !starts_well(self.graph, entry.sequent.as_slice(), place) {
             return Ok(Some(BadPart { part: 0, rule: 2 }));
         }
         if !names_stand(self.alloc, entry.live, &entry.items)? {
@@ -113,7 +113,7 @@ impl<'a> Checker<'a> {
             (map acceptance.Item (map item_of entry.now.items.items)) result }
     {
         for (k, item) in entry.items.iter().enumerate() {
-            if !item_stands(&entry.sequent, &self.odds, item) {
+            if !item_stands(entry.sequent.as_slice(), &self.odds, item) {
                 return Some(BadPart { part: k, rule: 4 });
             }
         }
@@ -130,12 +130,12 @@ impl<'a> Checker<'a> {
         requires asks { Asks self.now.graph.now self.now.odds.items }
         requires graph { branch.old.graph ≡ self.now.graph.now }
         requires entry { IsEntryOf (question self.now.graph.now self.now.refutation.now) place (entry_of entry.now) }
-        requires low { All (λ n. n < size self.now.graph.now) entry.now.sequent.items }
+        requires low { All (λ n. n < size self.now.graph.now) entry.now.sequent.value.items }
         ensures graph { OnOk result (branch.new.graph ≡ branch.old.graph) }
         ensures found { IfOk result (Finds (question self.now.graph.now self.now.refutation.now) place
             (branch_parts [] (decision_of entry.now.decision))) }
     {
-        let sequent = Sequent::of(self.alloc, &entry.sequent)?;
+        let sequent = Sequent::of(self.alloc, entry.sequent.as_slice())?;
         branch.begin(sequent)?;
         self.check_decision(branch, place, entry, &entry.decision)
     }
@@ -262,14 +262,14 @@ impl<'a> Checker<'a> {
         }
         let (targets, traces) = branch.step(diamond)?;
         let behind = self.entry(target);
-        if !leads_within(targets.values(), &behind.sequent) {
+        if !leads_within(targets.values(), behind.sequent.as_slice()) {
             return Ok(Some(BadPart { part: 0, rule: 8 }));
         }
         if !keeps_names(
             self.alloc,
             &self.odds,
             traces.triples(),
-            &behind.sequent,
+            behind.sequent.as_slice(),
             mark,
             entry,
             behind,

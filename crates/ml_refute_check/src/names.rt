@@ -159,7 +159,7 @@ fn item_traced(
     requires items { RiseByNode items.now }
     ensures { IsTrue result ↔ IsItemTraced odds.now traces.now bound green items.now behind.now }
 {
-    for name in &behind.stack {
+    for name in behind.stack.as_slice() {
         if !name_traced(odds, traces, bound, green, items, *name, behind) {
             return false;
         }

@@ -34,7 +34,7 @@ fn is_one(numbers: &[u32], number: u32) -> bool
 
 /// Does each name in use stand in some item?
 pub(crate) fn names_stand(alloc: Global, live: u32, items: &[Item]) -> Result<bool, NoMemory>
-    requires { All (λ a. All (λ y. y < live) a.stack.items) items.now }
+    requires { All (λ a. All (λ y. y < live) a.stack.value.items) items.now }
     ensures { IfOk result (λ b. IsTrue b ↔ EachNameStands (record { live = live; items = map item_of items.now })) }
 {
     let mut stand = vec![in alloc; false; live as usize]?;

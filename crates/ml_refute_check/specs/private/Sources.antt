@@ -35,7 +35,7 @@ pub record IsSource (odds : List ℕ) (t : Triple) (y : ℕ) (progress : Bool) (
   pub ends : behind.node ≡ t.to
   pub accepting : Bool
   pub leads : Leads odds t.lowest item.odd behind.odd accepting
-  pub serves : Serves y progress item.stack.items accepting
+  pub serves : Serves y progress item.stack.value.items accepting
 
 pub record SourceAmong (odds : List ℕ) (t : Triple) (y : ℕ) (progress : Bool)
     (items : List Item) (behind : Item) : Type 0 where
@@ -53,12 +53,12 @@ pub record HasSource (odds : List ℕ) (traces : List Triple) (y : ℕ) (progres
 -- stack, and comes with progress
 pub record IsNameTraced (odds : List ℕ) (traces : List Triple) (bound : ℕ) (green : Option ℕ)
     (items : List Item) (y : ℕ) (behind : Item) : Type 0 where
-  pub below : y < bound → HasSource odds traces y (not (ends_in y behind.stack.items)) items behind
-  pub if_green : green ≡ Some y → (ends_in y behind.stack.items ≡ true) × HasSource odds traces y true items behind
+  pub below : y < bound → HasSource odds traces y (not (ends_in y behind.stack.value.items)) items behind
+  pub if_green : green ≡ Some y → (ends_in y behind.stack.value.items ≡ true) × HasSource odds traces y true items behind
 
 abbrev pub IsItemTraced : List ℕ → List Triple → ℕ → Option ℕ → List Item → Item → Type 0
 IsItemTraced odds traces bound green items behind =
-    All (λ y. IsNameTraced odds traces bound green items y behind) behind.stack.items
+    All (λ y. IsNameTraced odds traces bound green items y behind) behind.stack.value.items
 
 -- the green name of a mark
 abbrev pub green_of : Mark → Option ℕ

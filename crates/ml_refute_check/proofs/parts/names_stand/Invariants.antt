@@ -6,4 +6,4 @@ use Rattle.ml_refute_check.proofs.parts.names_stand.Given as goal
 abbrev pub invariant-loop-item : goal.invariant-loop-item
 invariant-loop-item l =
     (length l.stand.items ≡ l.live)
-    × ((y : ℕ) → get_or l.stand.items y false ≡ list_any (λ a. has y a.stack.items) (take l.item-index l.items))
+    × ((y : ℕ) → get_or l.stand.items y false ≡ list_any (λ a. has y a.stack.value.items) (take l.item-index l.items))

@@ -1,4 +1,5 @@
-use Rattle.std.proofs.Common.{refl}
+use Rattle.std.proofs.Common.{refl, ℕ, ap, ◌∙◌}
+use Rattle.std.specs.Global.{Vec}
 use Rattle.ml_refute_check.specs.private.Parts.{question}
 use Rattle.ml_refute_check.proofs.BranchesFound.{test_fails}
 use Rattle.ml_refute_check.proofs.EntryFound.{start_told, live_told, live_low, front_refused_2, front_refused_3, front_later, front_kept}
@@ -7,7 +8,7 @@ use Rattle.ml_refute_check.proofs.checker.Checker.check_front.Goals as goal
 pub returns-then-not-starts_well : goal.returns-then-not-starts_well
 returns-then-not-starts_well c =
     let q = question c.args.self.now.graph.now c.args.self.now.refutation.now in
-    let told = start_told q _ _ c.requires.entry _ c.starts_well.result c.deref.ensures.value c.starts_well.ensures in
+    let told = start_told q _ _ c.requires.entry _ c.starts_well.result (c.as_slice.ensures.value ∙ ap (λ (v : Vec ℕ). v.items) c.deref.ensures) c.starts_well.ensures in
     front_refused_2 q _ _ c.requires.entry (test_fails _ c.starts_well.result told c.if-not-starts_well.true)
 
 pub names_stand-requires : goal.names_stand-requires
@@ -20,7 +21,7 @@ pub returns-then-not-branch : goal.returns-then-not-branch
 returns-then-not-branch c =
     let q = question c.args.self.now.graph.now c.args.self.now.refutation.now in
     let is = c.requires.entry in
-    let start = start_told q _ _ is _ c.starts_well.result c.deref.ensures.value c.starts_well.ensures in
+    let start = start_told q _ _ is _ c.starts_well.result (c.as_slice.ensures.value ∙ ap (λ (v : Vec ℕ). v.items) c.deref.ensures) c.starts_well.ensures in
     let live =
     live_told q _ _ is c.args.entry.now.live c.in_ok-names_stand.field-0 c.deref-2.ensures.value refl
     c.in_ok-names_stand.ensures in
@@ -31,7 +32,7 @@ pub returns-in_ok-later-in-Some : goal.returns-in_ok-later-in-Some
 returns-in_ok-later-in-Some c =
     let q = question c.args.self.now.graph.now c.args.self.now.refutation.now in
     let is = c.requires.entry in
-    let start = start_told q _ _ is _ c.starts_well.result c.deref.ensures.value c.starts_well.ensures in
+    let start = start_told q _ _ is _ c.starts_well.result (c.as_slice.ensures.value ∙ ap (λ (v : Vec ℕ). v.items) c.deref.ensures) c.starts_well.ensures in
     let live =
     live_told q _ _ is c.args.entry.now.live c.in_ok-names_stand.field-0 c.deref-2.ensures.value refl
     c.in_ok-names_stand.ensures in
@@ -43,7 +44,7 @@ pub returns-in-None : goal.returns-in-None
 returns-in-None c =
     let q = question c.args.self.now.graph.now c.args.self.now.refutation.now in
     let is = c.requires.entry in
-    let start = start_told q _ _ is _ c.starts_well.result c.deref.ensures.value c.starts_well.ensures in
+    let start = start_told q _ _ is _ c.starts_well.result (c.as_slice.ensures.value ∙ ap (λ (v : Vec ℕ). v.items) c.deref.ensures) c.starts_well.ensures in
     let live =
     live_told q _ _ is c.args.entry.now.live c.in_ok-names_stand.field-0 c.deref-2.ensures.value refl
     c.in_ok-names_stand.ensures in

@@ -1,4 +1,5 @@
-use Rattle.std.proofs.Common.{◌↔◌, ◌∙◌, IsTrue, sym, subst}
+use Rattle.std.proofs.Common.{◌↔◌, ◌∙◌, IsTrue, sym, subst, ℕ, ap}
+use Rattle.std.specs.Global.{Vec}
 use Rattle.ml_sequent.specs.Spread.{IsSpreadOf}
 use Rattle.ml_sequent.specs.Step.{IsDiamondOf}
 use Rattle.ml_refutation.specs.Views.{mark_of}
@@ -28,7 +29,7 @@ returns-then-not-leads_within-clause-found c =
     let ok = c.requires.asks.is_graph in
     let w = at_go c.requires.stands ok c.entry-behind.ensures c.requires.graph c.in_ok-targets.ensures.step in
     let within =
-    within_told w c.leads_within.result c.values.ensures.value c.deref.ensures.value c.leads_within.ensures in
+    within_told w c.leads_within.result c.values.ensures.value (c.as_slice.ensures.value ∙ ap (λ (v : Vec ℕ). v.items) c.deref.ensures) c.leads_within.ensures in
     go_refused_8 q _ _ _ ok c.requires.stands c.args.diamond c.args.target (mark_of c.args.mark)
     (diamond.0 c.if-not-has_diamond.false)
     (test_fails _ c.leads_within.result within c.if-not-leads_within.true)
@@ -51,10 +52,10 @@ returns-then-not-branch-clause-found c =
     let m = mark_of c.args.mark in
     let w = at_go c.requires.stands ok c.entry-behind.ensures c.requires.graph c.in_ok-targets.ensures.step in
     let within =
-    within_told w c.leads_within.result c.values.ensures.value c.deref.ensures.value c.leads_within.ensures in
+    within_told w c.leads_within.result c.values.ensures.value (c.as_slice.ensures.value ∙ ap (λ (v : Vec ℕ). v.items) c.deref.ensures) c.leads_within.ensures in
     let names =
     names_told w c.requires.entry m c.in_ok-keeps_names.field-0 (c.deref-2.ensures.value ∙ c.requires.asks.odds_are)
-    c.deref-3.ensures.value c.triples.ensures c.in_ok-keeps_names.ensures in
+    (c.as_slice-2.ensures.value ∙ ap (λ (v : Vec ℕ). v.items) c.deref-3.ensures) c.triples.ensures c.in_ok-keeps_names.ensures in
     go_refused_9 q _ _ _ ok c.requires.stands c.args.diamond c.args.target m
     (diamond.0 c.if-not-has_diamond.false) (within.0 c.if-not-leads_within.false)
     (test_fails _ c.in_ok-keeps_names.field-0 names c.if-not-branch.true)
@@ -69,10 +70,10 @@ returns-then-not-heights_fall-clause-found c =
     let m = mark_of c.args.mark in
     let w = at_go c.requires.stands ok c.entry-behind.ensures c.requires.graph c.in_ok-targets.ensures.step in
     let within =
-    within_told w c.leads_within.result c.values.ensures.value c.deref.ensures.value c.leads_within.ensures in
+    within_told w c.leads_within.result c.values.ensures.value (c.as_slice.ensures.value ∙ ap (λ (v : Vec ℕ). v.items) c.deref.ensures) c.leads_within.ensures in
     let names =
     names_told w c.requires.entry m c.in_ok-keeps_names.field-0 (c.deref-2.ensures.value ∙ c.requires.asks.odds_are)
-    c.deref-3.ensures.value c.triples.ensures c.in_ok-keeps_names.ensures in
+    (c.as_slice-2.ensures.value ∙ ap (λ (v : Vec ℕ). v.items) c.deref-3.ensures) c.triples.ensures c.in_ok-keeps_names.ensures in
     let falls =
     falls_told c.requires.entry c.entry-behind.ensures m c.heights_fall.result c.mark_priority.ensures
     c.deref-4.ensures.value c.deref-5.ensures.value c.heights_fall.ensures in
@@ -90,10 +91,10 @@ returns-clause-found c =
     let m = mark_of c.args.mark in
     let w = at_go c.requires.stands ok c.entry-behind.ensures c.requires.graph c.in_ok-targets.ensures.step in
     let within =
-    within_told w c.leads_within.result c.values.ensures.value c.deref.ensures.value c.leads_within.ensures in
+    within_told w c.leads_within.result c.values.ensures.value (c.as_slice.ensures.value ∙ ap (λ (v : Vec ℕ). v.items) c.deref.ensures) c.leads_within.ensures in
     let names =
     names_told w c.requires.entry m c.in_ok-keeps_names.field-0 (c.deref-2.ensures.value ∙ c.requires.asks.odds_are)
-    c.deref-3.ensures.value c.triples.ensures c.in_ok-keeps_names.ensures in
+    (c.as_slice-2.ensures.value ∙ ap (λ (v : Vec ℕ). v.items) c.deref-3.ensures) c.triples.ensures c.in_ok-keeps_names.ensures in
     let falls =
     falls_told c.requires.entry c.entry-behind.ensures m c.heights_fall.result c.mark_priority.ensures
     c.deref-4.ensures.value c.deref-5.ensures.value c.heights_fall.ensures in

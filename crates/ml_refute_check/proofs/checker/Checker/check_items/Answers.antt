@@ -1,4 +1,5 @@
-use Rattle.std.proofs.Common.{◌≤◌, ◌∙◌, List, length, subst, sym}
+use Rattle.std.proofs.Common.{◌≤◌, ◌∙◌, List, length, subst, sym, ℕ, ap}
+use Rattle.std.specs.Global.{Vec}
 use Rattle.ml_lists.specs.Ascending.{IsAscending}
 use Rattle.ml_refutation.specs.declared.refutation.Item.{Item}
 use Rattle.ml_refute_check.specs.private.Parts.{question}
@@ -11,7 +12,7 @@ loop-k-init c = no_items (question c.args.self.now.graph.now c.args.self.now.ref
 
 pub item_stands-requires-clause-sequent : goal.item_stands-requires-clause-sequent
 item_stands-requires-clause-sequent c =
-    subst IsAscending (sym c.deref.ensures.value) c.requires.entry.is_entry.ascends
+    subst IsAscending (sym (c.as_slice.ensures.value ∙ ap (λ (v : Vec ℕ). v.items) c.deref.ensures)) c.requires.entry.is_entry.ascends
 
 pub item_stands-requires-clause-odds : goal.item_stands-requires-clause-odds
 item_stands-requires-clause-odds c =
@@ -22,7 +23,7 @@ pub loop-k-preserved : goal.loop-k-preserved
 loop-k-preserved c =
     let q = question c.args.self.now.graph.now c.args.self.now.refutation.now in
     let told =
-    item_told q c.args.place c.requires.entry c.item-item.result c.item_stands.result c.deref.ensures.value
+    item_told q c.args.place c.requires.entry c.item-item.result c.item_stands.result (c.as_slice.ensures.value ∙ ap (λ (v : Vec ℕ). v.items) c.deref.ensures)
     (c.deref-in-loop-k.ensures.value ∙ c.requires.asks.odds_are) c.item_stands.ensures in
     items_more q c.args.place c.loop-k.k c.deref-item-items.ensures.value c.loop-k-test.true c.item-item.is
     (told.0 c.if-not-item_stands.false) c.loop-k.invariant
@@ -31,7 +32,7 @@ pub returns-then-not-item_stands : goal.returns-then-not-item_stands
 returns-then-not-item_stands c =
     let q = question c.args.self.now.graph.now c.args.self.now.refutation.now in
     let told =
-    item_told q c.args.place c.requires.entry c.item-item.result c.item_stands.result c.deref.ensures.value
+    item_told q c.args.place c.requires.entry c.item-item.result c.item_stands.result (c.as_slice.ensures.value ∙ ap (λ (v : Vec ℕ). v.items) c.deref.ensures)
     (c.deref-in-loop-k.ensures.value ∙ c.requires.asks.odds_are) c.item_stands.ensures in
     items_first q c.args.place c.loop-k.k c.deref-item-items.ensures.value c.loop-k-test.true c.item-item.is
     (test_fails _ c.item_stands.result told c.if-not-item_stands.true) c.loop-k.invariant

@@ -1,4 +1,5 @@
-use Rattle.std.proofs.Common.{◌<◌, [], All, IfOk, subst, sym}
+use Rattle.std.proofs.Common.{◌<◌, [], All, IfOk, subst, sym, ℕ, ap, ◌∙◌}
+use Rattle.std.specs.Global.{Vec}
 use Rattle.ml_graph.specs.Graph.{size}
 use Rattle.ml_refutation.specs.Views.{decision_of, entry_of}
 use Rattle.ml_refute_check.specs.private.Parts.{question, Finds, Stands, branch_parts}
@@ -9,8 +10,8 @@ pub begin-requires : goal.begin-requires
 begin-requires c =
     let nodes = c.in_ok-sequent.sequent in
     let same =
-    ascending_again c.deref.result.now nodes c.args.entry.now.sequent.items c.in_ok-sequent.ensures
-    c.deref.ensures.value
+    ascending_again c.as_slice.result.now nodes c.args.entry.now.sequent.value.items c.in_ok-sequent.ensures
+    (c.as_slice.ensures.value ∙ ap (λ (v : Vec ℕ). v.items) c.deref.ensures)
     c.requires.entry.is_entry.ascends in
     subst (λ g. All (λ n. n < size g) nodes) (sym c.requires.graph)
     (subst (All (λ n. n < size c.args.self.now.graph.now)) (sym same) c.requires.low)
@@ -20,8 +21,8 @@ check_decision-requires-clause-stands c =
     let q = question c.args.self.now.graph.now c.args.self.now.refutation.now in
     let nodes = c.in_ok-sequent.sequent in
     let same =
-    ascending_again c.deref.result.now nodes c.args.entry.now.sequent.items c.in_ok-sequent.ensures
-    c.deref.ensures.value
+    ascending_again c.as_slice.result.now nodes c.args.entry.now.sequent.value.items c.in_ok-sequent.ensures
+    (c.as_slice.ensures.value ∙ ap (λ (v : Vec ℕ). v.items) c.deref.ensures)
     c.requires.entry.is_entry.ascends in
     subst (λ ns. Stands q c.args.place ns c.begin.new.self.spread) (sym c.in_ok-begin.ensures.sequent)
     (start_stands q c.args.place
