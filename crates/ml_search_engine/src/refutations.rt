@@ -11,6 +11,7 @@ use ml_parity::{Arc, OneSided, heights};
 use ml_refutation::{Decision, Entry, Item, Step};
 use ml_trace::state_of;
 use std::alloc::Global;
+use std::rc::Rc;
 
 /// A go, by the entries.
 #[derive(Clone, Copy)]
@@ -253,7 +254,7 @@ fn items_of(
         items.push(Item {
             node: state.node,
             odd: state.odd,
-            stack,
+            stack: Rc::new(terms.alloc, stack)?,
         })?;
     }
     Ok((history.live(), items))
@@ -280,7 +281,10 @@ fn entry_of(
         }
     }
     Ok(Some(Entry {
-        sequent: Vec::from_slice(terms.alloc, trees.nodes_of(position.sequent))?,
+        sequent: Rc::new(
+            terms.alloc,
+            Vec::from_slice(terms.alloc, trees.nodes_of(position.sequent))?,
+        )?,
         live,
         items,
         heights,
