@@ -28,6 +28,7 @@ use ml_product::{Arena, View};
 use ml_refutation::{Decision, Entry, Item, Refutation};
 use ml_trace::state_of;
 use std::alloc::Global;
+use std::rc::Rc;
 
 /// The refutation that a solution of a graph's decision game makes, where Odd wins it.
 ///
@@ -138,7 +139,7 @@ fn entry_at(
     ensures { IfOk result (λ e. IsPut odds.now (viewed view.entry) row.now (decision_of decision) (entry_of e)) }
 {
     Ok(Entry {
-        sequent: view.sequent.nodes()?,
+        sequent: Rc::new(alloc, view.sequent.nodes()?)?,
         live: view.history.live(),
         items: items_of(alloc, odds, view.history)?,
         heights: row_of(alloc, row)?,
@@ -156,7 +157,7 @@ fn items_of(alloc: Global, odds: &[u32], history: &History) -> Result<Vec<Item>,
         items.push(Item {
             node: state.node,
             odd: state.odd,
-            stack,
+            stack: Rc::new(alloc, stack)?,
         })?;
     }
     Ok(items)
