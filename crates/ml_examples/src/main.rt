@@ -34,8 +34,9 @@ use std::fs;
 use std::io::Print;
 use std::rt::Files;
 
-const FILES: [&str; 22] = [
+const FILES: [&str; 23] = [
     "examples",
+    "specifications",
     "patterns",
     "words",
     "mu_texts",
