@@ -3,14 +3,15 @@
 --   behind_more, behind_less, behind_done == the next number is above the one before it, isn't, or there is none
 --   ascends_is, ascends_not    == what the test says of the list
 --   below_is, below_not        == what the test says whether numbers are below a bound
-use Rattle.std.proofs.Common.{◌≡◌, ℕ, ◌+◌, ◌<◌, ◌≤◌, Bool, true, false, ◌&&◌, nat_lt, List, [], ◌∷◌, length, get_or, drop, All, inl, refl, ap, ◌∙◌, arith}
+--   last_tells                 == the last of ascending numbers tells whether all are
+use Rattle.std.proofs.Common.{◌≡◌, ℕ, ◌+◌, ◌-◌, ◌<◌, ◌≤◌, ◌⊎◌, ◌↔◌, Bool, true, false, ◌&&◌, nat_lt, ltb, IsTrue, List, [], ◌∷◌, length, get_or, drop, All, inl, inr, refl, sym, subst, ap, ◌∙◌, arith}
 use Rattle.std.specs.List.{list_all}
-use Rattle.std.proofs.lemmas.Bool.{true≢false, and_parts}
+use Rattle.std.proofs.lemmas.Bool.{true≢false, and_parts, ltb-true, ltb-false, cases_Bool}
 use Rattle.std.proofs.lemmas.Bool.Decides.{nat_tests}
-use Rattle.std.proofs.lemmas.List.{drop_more, drop_all}
+use Rattle.std.proofs.lemmas.List.{drop_more, drop_all, get_or_default}
 use Rattle.std.proofs.lemmas.List.Elements.{All-nil, All-cons, All-head, All-tail}
 use Rattle.ml_lists.specs.Ascending.{IsAscending}
-use Rattle.ml_lists.proofs.Ascending.{ascending-one, ascending-cons}
+use Rattle.ml_lists.proofs.Ascending.{ascending-one, ascending-cons, ascending-apart}
 use Rattle.ml_refutation_text.specs.private.ItemReads.{ascends_behind}
 
 less_test : (x y : ℕ) → x < y → nat_lt x y ≡ true
@@ -77,3 +78,28 @@ below_not bound (x ∷ xs) is all = go (nat_lt x bound) refl is (below_not bound
         let under = test_no_less x bound past in
         let below = All-head (λ (y : ℕ). y < bound) x xs all in
         absurd (omega (arith, under, below))
+
+-- the last of ascending numbers tells whether all are below a bound
+pub last_tells : (xs : List ℕ) (bound : ℕ)
+    → IsAscending xs
+    → 0 < length xs
+    → IsTrue (ltb (get_or xs (length xs - 1) 0) bound) ↔ All (λ n. n < bound) xs
+last_tells xs bound ascends some = (λ h k d low. below (ltb-true _ bound h) k d low (cases_Bool (ltb k last)), λ all. back (all last 0 (omega arith)))
+  where
+    last : ℕ
+    last = length xs - 1
+
+    below : get_or xs last 0 < bound
+        → (k d : ℕ)
+        → k < length xs
+        → (ltb k last ≡ true) ⊎ (ltb k last ≡ false)
+        → get_or xs k d < bound
+    below high k d low (inl t) =
+        let apart = ascending-apart xs k last 0 ascends (ltb-true k last t) (omega arith) in
+        omega (arith, high, apart, get_or_default xs k d 0 low)
+    below high k d low (inr f) =
+        let same : k ≡ last = let least = ltb-false k last f in omega (arith, least, low) in
+        subst (λ n. n < bound) (sym (get_or_default xs k d 0 low ∙ ap (λ i. get_or xs i 0) same)) high
+
+    back : get_or xs last 0 < bound → IsTrue (ltb (get_or xs last 0) bound)
+    back low = grind (arith, nat_tests)

@@ -2,15 +2,17 @@
 --
 --   SequentsTo n at rows rest    == from `at` up to `rest` these rows of a table of n sequents were read
 --   StacksTo m n at rows rest    == so of a table of n stacks, with m names
---   row_there                    == the row at a place
+--   row_there, row_ascends       == the row at a place
 --   rows_begin, row_more, rows_done, and so on == before any line, one more, and behind the last one
-use Rattle.std.proofs.Common.{◌≡◌, ℕ, ◌+◌, ◌-◌, ◌<◌, ◌≤◌, ◌^◌, true, false, cond, min, nat_lt, List, [], ◌∷◌, ◌++◌, Some, get_or, slice_get, length, refl, sym, ap, subst, ◌∙◌, length-append, arith}
+use Rattle.std.proofs.Common.{◌≡◌, ℕ, ◌+◌, ◌-◌, ◌<◌, ◌≤◌, ◌^◌, true, false, cond, min, nat_lt, List, [], ◌∷◌, ◌++◌, Some, All, get_or, slice_get, length, refl, sym, ap, subst, ◌∙◌, length-append, arith}
 use Rattle.std.proofs.lemmas.Bool.Decides.{nat_tests}
 use Rattle.std.proofs.lemmas.List.{map-append, length-map, get_or-map}
+use Rattle.std.proofs.lemmas.List.Elements.{All-nil, All-cons, All-append}
 use Rattle.std.proofs.lemmas.Option.{slice_get-get_or}
 use Rattle.ml_base.specs.declared.version.Version.{Version}
 use Rattle.ml_base.specs.declared.version.Version.TheVariants.{One}
 use Rattle.ml_base.specs.declared.doc_refusal.DocRefusal.{DocRefusal}
+use Rattle.ml_lists.specs.Ascending.{IsAscending}
 use Rattle.ml_lines.specs.Lines.{Word, Line}
 use Rattle.ml_lines.specs.Reading.{value}
 use Rattle.ml_refutation.specs.Refutation.{Fits, IsStack}
@@ -42,6 +44,16 @@ row_there rows i row ns inside is same =
     let within : i < length (rows_in rows) = omega (arith, inside, length-rows rows) in
     slice_get-get_or (rows_in rows) i row.value.items within
     ∙ ap Some (get_or-map (λ r. r.value.items) rows i row row.value.items inside ∙ ap (λ r. r.value.items) (sym is) ∙ sym same)
+
+-- where all rows ascend, so does that at a place
+pub row_ascends : (rows : List Shared) (i : ℕ) (row : Shared)
+    → i < length rows
+    → row ≡ get_or rows i row
+    → All IsAscending (rows_in rows)
+    → IsAscending row.value.items
+row_ascends rows i row inside is ascend =
+    subst IsAscending (get_or-map (λ r. r.value.items) rows i row row.value.items inside ∙ ap (λ r. r.value.items) (sym is))
+    (ascend i row.value.items (omega (arith, inside, length-rows rows)))
 
 module _ (size : ℕ) (at : Rest) where
   pub record SequentsTo (rows : List Shared) (rest : Rest) : Type 0 where
@@ -117,9 +129,14 @@ module _ (names size : ℕ) (at : Rest) where
     pub goes : (v : Version) (qs : List (List ℕ))
         → Goes v (at_stack_table names qs size []) at (at_stack_table names qs size (rows_in rows)) rest
     pub counted : rest.line ≡ at.line + length rows
+    pub ascend : All IsAscending (rows_in rows)
 
   pub stack_rows_begin : StacksTo [] at
-  stack_rows_begin = record { goes = λ v qs. goes_begin v (at_stack_table names qs size []) at; counted = omega arith }
+  stack_rows_begin = record {
+    goes = λ v qs. goes_begin v (at_stack_table names qs size []) at;
+    counted = omega arith;
+    ascend = All-nil IsAscending;
+  }
 
   module _ (rows : List Shared) (rest : Rest) (so_far : StacksTo rows rest) where
     pub stack_rows_room : HasRoom at → HasRoom rest
@@ -165,6 +182,10 @@ module _ (names size : ℕ) (at : Rest) where
               subst (λ rs. Runs (body v left) p (stack_line row.value.items ∷ []) (at_stack_table names qs size rs)) (sym (rows_push rows more row pushed))
               (stack_row v left names qs size (rows_in rows) row.value.items small stack)));
           counted = omega (arith, so_far.counted, next.counted, ap length pushed, length-append rows (row ∷ []));
+          ascend =
+              subst (All IsAscending) (sym (rows_push rows more row pushed))
+              (All-append IsAscending (rows_in rows) (row.value.items ∷ []) so_far.ascend
+              (All-cons IsAscending row.value.items [] stack.ascends (All-nil IsAscending)));
         }
 
     -- behind the last line: fewer were read than there are numbers of 64 bits

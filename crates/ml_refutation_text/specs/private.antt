@@ -4,6 +4,8 @@
 pub mod Filings
 -- what the reader of a body knows
 pub mod Reads
+-- rows of tables
+pub mod ReadRows
 -- what it knows of words
 pub mod WordReads
 -- what it knows of the lines of an entry

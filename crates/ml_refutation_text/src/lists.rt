@@ -1,5 +1,5 @@
 // Lists of numbers as a text has them: whether they ascend.
-ghost use Rattle.std.specs.Prelude.{◌≡◌, ◌<◌, false, nat_lt, IsTrue};
+ghost use Rattle.std.specs.Prelude.{◌≡◌, ◌↔◌, ◌<◌, false, nat_lt, All, IsTrue};
 ghost use Rattle.std.specs.List.{list_all};
 ghost use Rattle.ml_lists.specs.Ascending.{IsAscending};
 ghost use Rattle.ml_refutation_text.specs.private.ItemReads.{ascends_behind, AreNames};
@@ -35,6 +35,17 @@ pub(crate) fn are_names(ns: &[u32], bound: u32) -> bool
     ensures otherwise { result ≡ false → ¬ (AreNames bound ns.now) }
 {
     ascends(ns) && all_below(ns, bound)
+}
+
+// are these numbers, which ascend, below the bound? The last one tells.
+pub(crate) fn ascend_below(ns: &[u32], bound: u32) -> bool
+    requires { IsAscending ns.now }
+    ensures { IsTrue result ↔ All (λ n. n < bound) ns.now }
+{
+    match ns {
+        [.., last] => *last < bound,
+        [] => true,
+    }
 }
 
 fn all_below(ns: &[u32], bound: u32) -> bool

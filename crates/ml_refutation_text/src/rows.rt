@@ -132,6 +132,7 @@ fn read_stacks<'a>(
     requires { HasRoom at }
     ensures read { IfOk result (λ r. (v : Version) (qs : List (List ℕ)) → Goes v (AtStacks names qs) at.entry (AtEntries names (text.ByTables qs (rows_of r.0))) r.1) }
     ensures counted { IfOk result (λ r. r.1.line ≡ at.entry.line + 1 + length r.0.items) }
+    ensures ascend { IfOk result (λ r. All IsAscending (rows_of r.0)) }
     ensures refused { IfErr result (λ e. (v : Version) (qs : List (List ℕ)) → TellsFault v (AtStacks names qs) at.entry e) }
 {
     let (line, behind) = match next_line(at) {
@@ -156,6 +157,7 @@ fn read_stack_rows<'a>(
     ensures read { IfOk result (λ r. (v : Version) (count : ℕ) (qs : List (List ℕ)) → size ≡ min count (2 ^ 64 - 1)
         → Goes v (at_stack_table names qs count []) at.entry (AtEntries names (text.ByTables qs (rows_of r.0))) r.1) }
     ensures counted { IfOk result (λ r. r.1.line ≡ at.entry.line + length r.0.items) }
+    ensures ascend { IfOk result (λ r. All IsAscending (rows_of r.0)) }
     ensures refused { IfErr result (λ e. (v : Version) (count : ℕ) (qs : List (List ℕ)) → size ≡ min count (2 ^ 64 - 1)
         → TellsFault v (at_stack_table names qs count []) at.entry e) }
 {

@@ -11,13 +11,13 @@ ghost use Rattle.ml_refutation_text.specs.RefutationText.{guess_word};
 ghost use Rattle.ml_refutation_text.specs.RefutationText as text;
 ghost use Rattle.ml_refutation_text.specs.BodyRules.{AtItem, AtDecision};
 ghost use Rattle.ml_base.specs.declared.version.Version.{Version};
-ghost use Rattle.ml_refutation_text.specs.private.Reads.{form_of, rows_in, HasRoom, Goes, TellsFault};
+ghost use Rattle.ml_refutation_text.specs.private.Reads.{form_of, rows_of, HasRoom, Goes, TellsFault};
 ghost use Rattle.ml_refutation_text.specs.private.WordReads.{FitsAGuess};
 ghost use Rattle.ml_refutation_text.specs.private.ItemReads.{knows, AreNames, IsItemed, before_of, IsItemOf, TellsItem, IsTraceLine, TellsTrace, IsHeights, LacksStack};
 
 use crate::body_rule::BodyRule;
-use crate::known::Form;
-use crate::lists::are_names;
+use crate::known::{Form, ReadTables};
+use crate::lists::{are_names, ascend_below};
 use crate::rest::{LineRefusal, Rest, at_line, next_line};
 use crate::words::{listed_words, read_any, read_guess, read_numbers};
 use ml_base::DocRefusal;
@@ -106,7 +106,7 @@ fn item_at(
 {
     match form {
         Form::InFull => item_in_full(alloc, line, live, before),
-        Form::ByTables(tables) => item_by_table(line, &tables.stacks, live, before),
+        Form::ByTables(tables) => item_by_table(line, tables, live, before),
     }
 }
 
@@ -166,13 +166,13 @@ fn item_in_full(
 // the item that a line of version 2 tells, behind another one or none
 fn item_by_table(
     line: &[u8],
-    stacks: &[Rc<Vec<u32>>],
+    tables: &ReadTables,
     live: u32,
     before: Option<&Item>,
 ) -> Result<Item, LineRefusal>
-    ensures read { IfOk result (λ a. (qs : List (List ℕ)) → IsItemOf (text.ByTables qs (rows_in stacks.now)) live (before_of (option_copied before.entry)) (words_of line.now) (item_of a)) }
+    ensures read { IfOk result (λ a. (qs : List (List ℕ)) → IsItemOf (text.ByTables qs (rows_of tables.now.stacks)) live (before_of (option_copied before.entry)) (words_of line.now) (item_of a)) }
     ensures refused { IfErr result (λ e. (names : ℕ) (qs : List (List ℕ))
-        → TellsItem (text.ByTables qs (rows_in stacks.now)) names live (before_of (option_copied before.entry)) (words_of line.now) e) }
+        → TellsItem (text.ByTables qs (rows_of tables.now.stacks)) names live (before_of (option_copied before.entry)) (words_of line.now) e) }
 {
     match item_words(line) {
         Some((node, guess, rest)) => match one_word(rest) {
@@ -182,7 +182,7 @@ fn item_by_table(
                         if !comes_behind(before, node, odd) {
                             return Err(LineRefusal::Breaks(BodyRule::ItemsAscend));
                         }
-                        match stack_at(stacks, place, live) {
+                        match stack_at(tables, place, live) {
                             Ok(stack) => Ok(Item { node, odd, stack }),
                             Err(refusal) => Err(refusal),
                         }
@@ -198,15 +198,15 @@ fn item_by_table(
 }
 
 // the stack of this number, whose names have to be in use
-fn stack_at(stacks: &[Rc<Vec<u32>>], place: u64, live: u32) -> Result<Rc<Vec<u32>>, LineRefusal>
-    ensures read { IfOk result (λ ns. (slice_get (rows_in stacks.now) place ≡ Some ns.value.items) × (place < 2 ^ 64 - 1) × AreNames live ns.value.items) }
-    ensures refused { IfErr result (LacksStack (rows_in stacks.now) place live) }
+fn stack_at(tables: &ReadTables, place: u64, live: u32) -> Result<Rc<Vec<u32>>, LineRefusal>
+    ensures read { IfOk result (λ ns. (slice_get (rows_of tables.now.stacks) place ≡ Some ns.value.items) × (place < 2 ^ 64 - 1) × AreNames live ns.value.items) }
+    ensures refused { IfErr result (LacksStack (rows_of tables.now.stacks) place live) }
 {
-    if place >= stacks.len() as u64 {
+    if place >= tables.stacks.len() as u64 {
         return Err(LineRefusal::Breaks(BodyRule::InTables));
     }
-    let stack = &stacks[place as usize];
-    if are_names(stack.as_slice(), live) {
+    let stack = &tables.stacks[place as usize];
+    if ascend_below(stack.as_slice(), live) {
         Ok(Rc::clone(stack)?)
     } else {
         Err(LineRefusal::Breaks(BodyRule::ItemsAscend))

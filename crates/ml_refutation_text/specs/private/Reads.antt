@@ -3,8 +3,7 @@
 -- A reader goes through a text from place to place; what it keeps is what the place keeps. Each of its functions goes from
 -- one place to another, or tells the first bad line between them.
 --
---   Shared                 == a list of numbers that several may hold
---   rows_in, rows_of, form_of, known_of == what the program keeps, as a place keeps it
+--   form_of, known_of      == what the program keeps, as a place keeps it
 --   version_of F           == the version of a form
 --   around_of, arounds_of  == the splits around a line; the program has the innermost last
 --   HasRoom at             == the numbers of the lines that are left fit 64 bits
@@ -16,9 +15,7 @@
 --   TellsFault v p at e    == the refusal e tells the first bad line of what is left, which stands at p, if it isn't
 --   at_line k e            == the refusal e of a line, with the line's number k
 --   IsNumbered, IsPlaced   == the line is a fixed word with one word behind it, with two
-use Rattle.std.specs.Prelude.{ℕ, ◌+◌, ◌≤◌, ◌<◌, ◌≡◌, ◌^◌, ⊤, List, [], ◌∷◌, length, map}
-use Rattle.std.specs.Global.{Vec, Global}
-use Rattle.std.specs.declared.rc.Rc.{Rc}
+use Rattle.std.specs.Prelude.{ℕ, ◌+◌, ◌≤◌, ◌<◌, ◌≡◌, ◌^◌, ⊤, List, [], ◌∷◌, length}
 use Rattle.ml_base.specs.declared.doc_refusal.DocRefusal.{DocRefusal}
 use Rattle.ml_base.specs.declared.doc_refusal.DocRefusal.TheVariants as refused
 use Rattle.ml_base.specs.declared.version.Version.{Version}
@@ -28,6 +25,7 @@ use Rattle.ml_lines.specs.Lines.{Word, Line}
 use Rattle.ml_lines.specs.Reading.{AreWords, lines_of, left_of, word}
 use Rattle.ml_lists.specs.Documents.{IsFirstBroken, IsReadTo}
 use Rattle.ml_refutation.specs.Views.{decision_of}
+pub use Rattle.ml_refutation_text.specs.private.ReadRows.{Shared, rows_in, rows_of}
 use Rattle.ml_refutation_text.specs.RefutationText as text
 use Rattle.ml_refutation_text.specs.BodyRules as body
 use Rattle.ml_refutation_text.specs.BodyRules.{Place, AtNothing, rules, rule_number}
@@ -42,16 +40,6 @@ use Rattle.ml_refutation_text.specs.declared.branches.Around.{Around}
 use Rattle.ml_refutation_text.specs.declared.branches.Around.TheVariants as around
 
 -- ---- what the program keeps
-
--- a list that several may hold
-abbrev pub Shared : Type 0
-Shared = Rc (Vec ℕ) Global
-
-abbrev pub rows_in : List Shared → List (List ℕ)
-rows_in rows = map (λ row. row.value.items) rows
-
-abbrev pub rows_of : Vec Shared → List (List ℕ)
-rows_of rows = rows_in rows.items
 
 abbrev pub form_of : Form → text.Form
 form_of form.InFull = text.InFull

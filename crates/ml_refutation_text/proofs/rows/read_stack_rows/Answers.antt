@@ -44,3 +44,8 @@ pub returns-clause-counted : goal.returns-clause-counted
 returns-clause-counted c =
     let own : c.args.size ≡ min c.args.size (2 ^ 64 - 1) = omega (arith, c.ranges.size.fits) in
     (c.rows.invariant c.args.size own).counted
+
+pub returns-clause-ascend : goal.returns-clause-ascend
+returns-clause-ascend c =
+    let own : c.args.size ≡ min c.args.size (2 ^ 64 - 1) = omega (arith, c.ranges.size.fits) in
+    (c.rows.invariant c.args.size own).ascend
