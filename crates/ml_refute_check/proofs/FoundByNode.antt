@@ -4,24 +4,29 @@
 --   rise_by_node     == the items of an entry rise by their nodes
 --   among_at         == an item comes along a trace from some of the items at its source exactly where from some of all
 --   traced_at        == an item is traced back along the traces to its node exactly where it is along all
---   led_into_sorted  == traces in another order lead to the same nodes
-use Rattle.std.proofs.Common.{◌≡◌, ◌↔◌, ◌⊎◌, ℕ, zero, suc, ◌+◌, ◌<◌, ◌≤◌, Bool, true, false, ◌&&◌, ◌||◌, ◌==◌, nat_lt, ltb, leb, List, [], ◌∷◌}
-use Rattle.std.proofs.Common.{Option, None, Some, length, get_or, take, drop, map, IsTrue, inl, inr, sym, ◌∙◌, subst, arith}
-use Rattle.std.specs.List.{AllWithin}
+--   led_into         == those of the traces that lead to one of some nodes
+--   led_at, led_nowhere == and among them those to one node
+--   step_sorted      == the traces of a step, in another order
+use Rattle.std.proofs.Common.{◌≡◌, ◌↔◌, ◌⊎◌, ℕ, zero, suc, ◌+◌, ◌<◌, ◌≤◌, Bool, true, false, ◌&&◌, ◌||◌, ◌==◌, nat_lt, nat_eq, ltb, leb, List, [], ◌∷◌}
+use Rattle.std.proofs.Common.{Option, None, Some, length, get_or, take, drop, map, IsTrue, inl, inr, refl, sym, ◌∙◌, subst, arith}
+use Rattle.std.specs.List.{AllWithin, list_any}
 use Rattle.std.specs.List.Sorted.{IsPartitionPoint}
-use Rattle.std.proofs.lemmas.Bool.{ltb-true, ltb-false, leb-true, leb-false}
+use Rattle.std.proofs.lemmas.Bool.{ltb-true, ltb-false, leb-true, leb-false, eqb-true, eq-eqb}
 use Rattle.std.proofs.lemmas.Bool.Decides.{nat_tests}
 use Rattle.std.proofs.lemmas.List.{take-append-drop, get_or-take, get_or-drop, length-take-le, length-drop}
 use Rattle.std.proofs.lemmas.List.Sorted.{IsNonDecreasingBy-from_all_adjacent}
 use Rattle.ml_lists.specs.Member.{IsMember}
-use Rattle.ml_lists.proofs.Member.{member-place, member-append, member-append_left, member-append_right}
+use Rattle.ml_lists.proofs.Member.{member-place, member-append, member-append_left, member-append_right, member-filter, member-filter_from, list_any-member, member-list_any}
 use Rattle.ml_trace.specs.declared.letters.AutomatonState.{AutomatonState}
 use Rattle.ml_trace.specs.declared.letters.Triple.{Triple}
 use Rattle.ml_trace.specs.Stack as traced
+use Rattle.ml_graph.specs.Graph.{Graph}
+use Rattle.ml_sequent.specs.Spread.{SpreadList}
+use Rattle.ml_sequent.specs.Step.{IsStep}
 use Rattle.ml_refutation.specs.declared.refutation.Item.{Item}
 use Rattle.ml_refutation.specs.Refutation.{AreAbove, guess_before}
 use Rattle.ml_refutation.specs.Views.{item_of}
-use Rattle.ml_refute_check.specs.private.Sources.{SourceAmong, HasSource, IsNameTraced, IsItemTraced, LeadInto, RiseByNode}
+use Rattle.ml_refute_check.specs.private.Sources.{SourceAmong, HasSource, IsNameTraced, IsItemTraced, LeadInto, RiseByNode, led}
 
 -- ---- entries with one key
 
@@ -161,8 +166,47 @@ module _ (odds : List ℕ) where
         λ all. told.1 (λ k z low. name_of_all (get_or behind.stack.value.items k z) (all k z low)),
       )
 
-pub led_into_sorted : (next : List ℕ) (made traces sorted : List Triple)
-    → LeadInto next made traces
-    → ((t : Triple) → IsMember t sorted ↔ IsMember t traces)
-    → LeadInto next made sorted
-led_into_sorted next made traces sorted into same t = (λ m. (into t).0 ((same t).0 m), λ h. (same t).1 ((into t).1 h))
+-- the traces that lead to one of these nodes
+pub led_into : (next : List ℕ) (made : List Triple) → LeadInto next made (led next made)
+led_into next made t = (of_led, λ h. into h.0 h.1)
+  where
+    of_led : IsMember t (led next made) → IsMember t made × IsMember t.to next
+    of_led m =
+        let p = member-filter_from (λ (s : Triple). list_any (nat_eq s.to) next) t made m in
+        let some = list_any-member (nat_eq t.to) next p.1 in
+        (p.0, subst (λ n. IsMember n next) (sym (eqb-true t.to some.item some.passes)) some.member)
+
+    into : IsMember t made → IsMember t.to next → IsMember t (led next made)
+    into m stays =
+        member-filter (λ (s : Triple). list_any (nat_eq s.to) next) t made m
+        (member-list_any (nat_eq t.to) t.to next stays (eq-eqb t.to t.to refl))
+
+-- and among them those to one of the nodes
+pub led_at : (next : List ℕ) (traces found : List Triple) (node : ℕ)
+    → IsMember node next
+    → ((t : Triple) → IsMember t found ↔ (IsMember t traces × (t.to ≡ node)))
+    → (t : Triple) → IsMember t found ↔ (IsMember t (led next traces) × (t.to ≡ node))
+led_at next traces found node member at t = (
+  λ m. let h = (at t).0 m in ((led_into next traces t).1 (h.0, subst (λ n. IsMember n next) (sym h.1) member), h.1),
+  λ h. (at t).1 (((led_into next traces t).0 h.0).0, h.1),
+)
+
+-- none leads to another node
+pub led_nowhere : (next : List ℕ) (traces : List Triple) (node : ℕ)
+    → ¬ (IsMember node next)
+    → (t : Triple) → IsMember t [] ↔ (IsMember t (led next traces) × (t.to ≡ node))
+led_nowhere next traces node none t = (
+  λ m. absurd m,
+  λ h. absurd (none (subst (λ n. IsMember n next) h.1 ((led_into next traces t).0 h.0).1)),
+)
+
+-- the traces of a step, in another order
+pub step_sorted : {g : Graph} {C : List ℕ} {sp : SpreadList} {d : ℕ} {next : List ℕ} {made sorted : List Triple}
+    → IsStep g C sp d next made
+    → ((t : Triple) → IsMember t sorted ↔ IsMember t made)
+    → IsStep g C sp d next sorted
+step_sorted step same = record {
+  ascends = step.ascends;
+  targets = step.targets;
+  traces = λ t. (λ m. (step.traces t).0 ((same t).0 m), λ h. (same t).1 ((step.traces t).1 h));
+}

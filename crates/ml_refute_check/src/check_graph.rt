@@ -5,10 +5,10 @@ ghost use Rattle.ml_refute_check.specs.Findings.{IsFinding};
 
 use crate::checker::Checker;
 use crate::finding::{Fault, Finding};
+use crate::stepping::KeptBranch;
 use ml_base::NoMemory;
 use ml_graph::ModalGraph;
 use ml_refutation::Refutation;
-use ml_sequent::Branch;
 use std::alloc::Global;
 
 /// Does a refutation break no rule of acceptance in a graph? If it does, its first part that breaks one, with the
@@ -17,9 +17,10 @@ use std::alloc::Global;
 /// # Errors
 /// `NoMemory` alone.
 ///
-/// Cost: one walk over each decision. At a split its side's nodes are added to the spread, and taken back; a clash costs what
-/// its check costs (`Branch::is_cause`), and a `go` its step (`Branch::step`) with what its names cost (`keeps_names`).
-/// Calls are nested as deep as splits are.
+/// Cost: one walk over each decision. Where an entry has the sequent of the one before it, and nothing was chosen since,
+/// its spread isn't made anew. At a split its side's nodes are added to the spread, and taken back; a clash costs what its
+/// check costs (`Branch::is_cause`), and a `go` its step (`Branch::step`), unless it is that of the `go` before, with what
+/// its names cost (`keeps_names`). Calls are nested as deep as splits are.
 pub fn check_refutation(
     alloc: Global,
     graph: &ModalGraph,
@@ -28,7 +29,7 @@ pub fn check_refutation(
     ensures { IfOk result (IsFinding graph.now (of_parts refutation.now.names refutation.now.entries)) }
 {
     let checker = Checker::new(alloc, graph, refutation)?;
-    let mut branch = Branch::new(alloc, graph)?;
+    let mut branch = KeptBranch::new(alloc, graph)?;
     for place in 0..refutation.entries.len() {
         match checker.check_entry(&mut branch, place)? {
             Some(bad) => return Ok(Finding::Rejected(Fault {

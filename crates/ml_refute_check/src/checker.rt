@@ -1,28 +1,31 @@
 // A refutation that is checked in a graph, entry by entry.
 //
 // `check_entry` looks for the first bad part of an entry: its sequent and names, its items, and then the branches of its
-// decision. `check_decision` walks these with one `Branch`, on which a side is chosen and taken back again, so that a
-// spread is never made anew; at its leaves a clash is asked for its cause, and a go for its targets, its step, its names (`names`) and
-// its heights. What is found is a `BadPart`, the part's place and the lowest rule that it breaks.
-ghost use Rattle.std.specs.Prelude.{◌≡◌, ◌<◌, ◌+◌, [], length, map, All, IfOk, OnOk};
+// decision. `check_decision` walks these with one branch (`KeptBranch`), on which a side is chosen and taken back again, so
+// that a spread is never made anew; at its leaves a clash is asked for its cause, and a go for its targets, its step, its
+// names (`names`) and its heights. What is found is a `BadPart`, the part's place and the lowest rule that it breaks.
+ghost use Rattle.std.specs.Prelude.{◌≡◌, ◌<◌, ◌+◌, ℕ, List, [], length, map, All, IfOk, OnOk};
 ghost use Rattle.ml_graph.specs.Graph.{size};
 ghost use Rattle.ml_refutation.specs.Acceptance as acceptance;
 ghost use Rattle.ml_refutation.specs.Acceptance.{entry_at, parts};
 ghost use Rattle.ml_refutation.specs.Refutation as plain;
 ghost use Rattle.ml_refutation.specs.Refutation.{IsDecided, IsMarkOf};
 ghost use Rattle.ml_sequent.specs.Choice.{with_side};
-ghost use Rattle.ml_sequent.specs.Spread.{IsOpenOr};
+ghost use Rattle.ml_sequent.specs.Spread.{SpreadList, IsOpenOr};
+ghost use Rattle.ml_sequent.specs.Step.{IsDiamondOf, IsStep};
 ghost use Rattle.ml_refutation.specs.Views.{cause_of, mark_of, decision_of, entry_of, item_of};
+ghost use Rattle.ml_refute_check.specs.private.Sources.{RiseByTarget};
 ghost use Rattle.ml_refute_check.specs.private.Parts.{Finds, Stands, IsEntryOf, Asks, question, front_parts, branch_parts, count_branches};
 
 use crate::branches::{heights_fall, leads_within, mark_priority};
 use crate::finding::BadPart;
 use crate::names::keeps_names;
 use crate::parts::{item_stands, names_stand, starts_well};
+use crate::stepping::{KeptBranch, KeptStep};
 use ml_base::NoMemory;
 use ml_graph::ModalGraph;
 use ml_refutation::{Cause, Decision, Entry, Refutation, Step};
-use ml_sequent::{Branch, ClashCause, Sequent, Side};
+use ml_sequent::{ClashCause, Side};
 use std::alloc::Global;
 
 /// A refutation that is checked in a graph, and the odd priorities of the graph.
@@ -66,7 +69,7 @@ impl<'a> Checker<'a> {
     /// The first bad part of an entry.
     pub(crate) fn check_entry(
         &self,
-        branch: &mut Branch,
+        branch: &mut KeptBranch,
         place: usize,
     ) -> Result<Option<BadPart>, NoMemory>
         requires asks { Asks self.now.graph.now self.now.odds.items }
@@ -123,7 +126,7 @@ impl<'a> Checker<'a> {
     /// The first bad branch of the decision of an entry, whose sequent is one of nodes of the graph.
     fn check_tree(
         &self,
-        branch: &mut Branch,
+        branch: &mut KeptBranch,
         place: usize,
         entry: &Entry,
     ) -> Result<Option<BadPart>, NoMemory>
@@ -135,8 +138,7 @@ impl<'a> Checker<'a> {
         ensures found { IfOk result (Finds (question self.now.graph.now self.now.refutation.now) place
             (branch_parts [] (decision_of entry.now.decision))) }
     {
-        let sequent = Sequent::of(self.alloc, entry.sequent.as_slice())?;
-        branch.begin(sequent)?;
+        branch.begin(entry.sequent.as_slice())?;
         self.check_decision(branch, place, entry, &entry.decision)
     }
 
@@ -144,7 +146,7 @@ impl<'a> Checker<'a> {
     #[cycle(deciding)]
     fn check_decision(
         &self,
-        branch: &mut Branch,
+        branch: &mut KeptBranch,
         place: usize,
         entry: &Entry,
         decision: &Decision,
@@ -192,7 +194,7 @@ impl<'a> Checker<'a> {
     #[cycle(deciding)]
     fn check_side(
         &self,
-        branch: &mut Branch,
+        branch: &mut KeptBranch,
         place: usize,
         entry: &Entry,
         node: u32,
@@ -219,7 +221,7 @@ impl<'a> Checker<'a> {
     /// Whether a clash is bad at this spread.
     fn check_clash(
         &self,
-        branch: &mut Branch,
+        branch: &mut KeptBranch,
         place: usize,
         cause: Cause,
     ) -> Result<Option<BadPart>, NoMemory>
@@ -240,7 +242,7 @@ impl<'a> Checker<'a> {
     /// Whether leaving the entry along a diamond is bad at this spread, and the lowest rule that it breaks.
     fn check_go(
         &self,
-        branch: &mut Branch,
+        branch: &mut KeptBranch,
         place: usize,
         entry: &Entry,
         diamond: u32,
@@ -260,30 +262,55 @@ impl<'a> Checker<'a> {
         if !branch.has_diamond(diamond) {
             return Ok(Some(BadPart { part: 0, rule: 7 }));
         }
-        let (targets, traces) = branch.step(diamond)?;
+        let step = branch.take_step(diamond)?;
+        let found = self.check_step(place, entry, &step, target, mark);
+        branch.keep(step);
+        Ok(found)
+    }
+
+    /// Whether leaving the entry by this step is bad, and the lowest rule that it breaks.
+    fn check_step(
+        &self,
+        place: usize,
+        entry: &Entry,
+        step: &KeptStep,
+        target: usize,
+        mark: Step,
+    ) -> Option<BadPart>
+        requires asks { Asks self.now.graph.now self.now.odds.items }
+        requires entry { IsEntryOf (question self.now.graph.now self.now.refutation.now) place (entry_of entry.now) }
+        requires target { target < length self.now.refutation.now.entries.items }
+        requires mark { IsMarkOf self.now.refutation.now.names (mark_of mark) }
+        requires rise { RiseByTarget step.now.traces.items }
+        ensures { (nodes : List ℕ) (sp : SpreadList)
+            → Stands (question self.now.graph.now self.now.refutation.now) place nodes sp
+            → IsDiamondOf self.now.graph.now sp step.now.diamond
+            → IsStep self.now.graph.now nodes sp step.now.diamond step.now.targets step.now.traces.items
+            → Finds (question self.now.graph.now self.now.refutation.now) place
+            (branch_parts sp.choice (plain.Go step.now.diamond target (mark_of mark))) result }
+    {
         let behind = self.entry(target);
-        if !leads_within(targets.values(), behind.sequent.as_slice()) {
-            return Ok(Some(BadPart { part: 0, rule: 8 }));
+        if !leads_within(step.targets.values(), behind.sequent.as_slice()) {
+            return Some(BadPart { part: 0, rule: 8 });
         }
         if !keeps_names(
-            self.alloc,
             &self.odds,
-            traces.triples(),
+            &step.traces,
             behind.sequent.as_slice(),
             mark,
             entry,
             behind,
-        )? {
-            return Ok(Some(BadPart { part: 0, rule: 9 }));
+        ) {
+            return Some(BadPart { part: 0, rule: 9 });
         }
         if !heights_fall(
             mark_priority(self.refutation.names, mark),
             &entry.heights,
             &behind.heights,
         ) {
-            return Ok(Some(BadPart { part: 0, rule: 10 }));
+            return Some(BadPart { part: 0, rule: 10 });
         }
-        Ok(None)
+        None
     }
 }
 

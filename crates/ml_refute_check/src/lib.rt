@@ -23,6 +23,7 @@ mod finding;
 pub mod laws;
 mod names;
 mod parts;
+mod stepping;
 mod verdict;
 
 pub use check_graph::check_refutation;

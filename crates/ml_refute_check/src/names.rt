@@ -3,9 +3,9 @@
 // A name below the bound of the mark, or its green one, has to come from somewhere: each item behind the step that has it
 // needs a trace from an item that has it too, and for the green name from one that makes progress. `keeps_names` asks it
 // of all items and names, with the traces sorted by the nodes to which they lead.
-ghost use Rattle.std.specs.Prelude.{◌≡◌, ◌↔◌, ◌<◌, false, true, All, IfOk, IsTrue};
+ghost use Rattle.std.specs.Prelude.{◌≡◌, ◌↔◌, ◌<◌, false, true, All, IsTrue};
 ghost use Rattle.ml_lists.specs.Ascending.{IsAscending};
-ghost use Rattle.ml_refute_check.specs.private.Sources.{IsSource, SourceAmong, HasSource, Serves, IsNameTraced, IsItemTraced, AreInUse, LeadInto, RiseByNode, RiseByTarget, green_of, traces_of};
+ghost use Rattle.ml_refute_check.specs.private.Sources.{IsSource, SourceAmong, HasSource, Serves, IsNameTraced, IsItemTraced, AreInUse, led, RiseByNode, RiseByTarget, green_of, traces_of};
 ghost use Rattle.ml_refutation.specs.Views.{mark_of};
 ghost use Rattle.ml_graph.specs.Graph.{Graph, odd_priorities};
 ghost use Rattle.ml_lists.specs.Member.{IsMember};
@@ -16,12 +16,10 @@ ghost use Rattle.ml_trace.specs.NamesCondition.{NamesCondition, bound};
 ghost use Rattle.ml_trace.specs.Stack.{has, ends_in};
 
 use crate::branches::leads;
-use crate::by_node::{items_at, sort_by_target, traces_to};
+use crate::by_node::{items_at, traces_to};
 use crate::parts::has_number;
-use ml_base::NoMemory;
 use ml_refutation::{Entry, Item, Step};
 use ml_trace::Triple;
-use std::alloc::Global;
 
 /// Does the name stand in the stack?
 fn has(name: u32, stack: &[u32]) -> bool
@@ -167,10 +165,25 @@ fn item_traced(
     true
 }
 
-/// Is each name of each item behind the step traced back, where it is below the bound or green?
+/// The traces to a node, where it is one of these nodes.
+fn traces_into<'a>(traces: &'a [Triple], next: &[u32], node: u32) -> &'a [Triple]
+    requires traces { RiseByTarget traces.now }
+    requires next { IsAscending next.now }
+    ensures { (t : Triple) → IsMember t result.now ↔ (IsMember t (led next.now traces.now) × (t.to ≡ node)) }
+{
+    if has_number(next, node) {
+        traces_to(traces, node)
+    } else {
+        &[]
+    }
+}
+
+/// Is each name of each item behind the step traced back along traces into these nodes, where it is below the bound or
+/// green?
 fn items_traced(
     odds: &[u32],
     traces: &[Triple],
+    next: &[u32],
     bound: u32,
     green: Option<u32>,
     items: &[Item],
@@ -178,11 +191,12 @@ fn items_traced(
 ) -> bool
     requires odds { IsAscending odds.now }
     requires traces { RiseByTarget traces.now }
+    requires next { IsAscending next.now }
     requires items { RiseByNode items.now }
-    ensures { IsTrue result ↔ All (IsItemTraced odds.now traces.now bound green items.now) behind.now }
+    ensures { IsTrue result ↔ All (IsItemTraced odds.now (led next.now traces.now) bound green items.now) behind.now }
 {
     for item in behind {
-        let arriving = traces_to(traces, item.node);
+        let arriving = traces_into(traces, next, item.node);
         if !item_traced(odds, arriving, bound, green, items, item) {
             return false;
         }
@@ -223,49 +237,33 @@ fn are_in_use(bound: u32, green: Option<u32>, live: u32, live_behind: u32) -> bo
     }
 }
 
-/// The traces that lead to one of these nodes.
-fn lead_into(alloc: Global, made: &[Triple], next: &[u32]) -> Result<Vec<Triple>, NoMemory>
-    requires { IsAscending next.now }
-    ensures { IfOk result (λ traces. LeadInto next.now made.now traces.items) }
-{
-    let mut traces = Vec::new(alloc);
-    for trace in made {
-        if has_number(next, trace.to) {
-            traces.push(*trace)?;
-        }
-    }
-    Ok(traces)
-}
-
 /// Does a step meet the condition on names, along which these traces were made, into a sequent with these nodes?
 ///
-/// Cost: `n log n` in the traces; and for each name of each item behind the step, the traces to its node up to one from
-/// an item that serves, each with a look-up of its node among the items before the step.
+/// Cost: for each item behind the step, the logarithm of the traces; and for each of its names the traces to its node up to
+/// one from an item that serves, each with a look-up of its node among the items before the step.
 pub(crate) fn keeps_names(
-    alloc: Global,
     odds: &[u32],
     made: &[Triple],
     next: &[u32],
     mark: Step,
     before: &Entry,
     behind: &Entry,
-) -> Result<bool, NoMemory>
+) -> bool
     requires odds { IsAscending odds.now }
+    requires made { RiseByTarget made.now }
     requires next { IsAscending next.now }
     requires items { RiseByNode before.now.items.items }
-    ensures { IfOk result (λ b. (g : Graph) (step : GoStep)
+    ensures { (g : Graph) (step : GoStep)
         → odds.now ≡ odd_priorities g
         → next.now ≡ step.next
         → ((t : Triple) → IsMember t made.now ↔ IsTrace g step.sequent step.spread step.diamond t)
-        → IsTrue b
-        ↔ NamesCondition (HasTransition g) step (mark_of mark) (traces_of before.now) (traces_of behind.now)) }
+        → IsTrue result
+        ↔ NamesCondition (HasTransition g) step (mark_of mark) (traces_of before.now) (traces_of behind.now) }
 {
     let bound = bound_of(before.live, mark);
     let green = green_of(mark);
     if !are_in_use(bound, green, before.live, behind.live) {
-        return Ok(false);
+        return false;
     }
-    let mut traces = lead_into(alloc, made, next)?;
-    sort_by_target(&mut traces);
-    Ok(items_traced(odds, &traces, bound, green, &before.items, &behind.items))
+    items_traced(odds, made, next, bound, green, &before.items, &behind.items)
 }

@@ -1,5 +1,5 @@
 // What the parts of an entry before its decision are asked: its sequent, its names in use and its items.
-ghost use Rattle.std.specs.Prelude.{◌≡◌, ◌↔◌, ◌<◌, ◌||◌, false, true, ℕ, [], ◌∷◌, length, map, slice_index_or, All, IfOk, IsTrue};
+ghost use Rattle.std.specs.Prelude.{◌≡◌, ◌↔◌, ◌<◌, ◌≤◌, ◌||◌, false, true, ℕ, [], ◌∷◌, length, map, slice_index_or, All, IfOk, IsTrue};
 ghost use Rattle.ml_graph.specs.Graph.{size};
 ghost use Rattle.ml_lists.specs.Ascending.{IsAscending};
 ghost use Rattle.ml_lists.specs.Member.{IsMember};
@@ -15,11 +15,22 @@ use std::alloc::Global;
 
 /// Are these nodes of the graph, and those of the first entry the root alone?
 pub(crate) fn starts_well(graph: &ModalGraph, sequent: &[u32], entry: usize) -> bool
+    requires { IsAscending sequent.now }
     ensures { IsTrue result
         ↔ (All (λ n. n < size graph.now) sequent.now × (entry ≡ 0 → sequent.now ≡ graph.now.root ∷ [])) }
 {
-    let size = graph.size();
-    sequent.iter().all(|node| *node < size) && (entry != 0 || is_one(sequent, graph.root()))
+    all_below(sequent, graph.size()) && (entry != 0 || is_one(sequent, graph.root()))
+}
+
+/// Are these numbers, which ascend, below a bound? The last one tells.
+fn all_below(numbers: &[u32], bound: u32) -> bool
+    requires { IsAscending numbers.now }
+    ensures { IsTrue result ↔ All (λ n. n < bound) numbers.now }
+{
+    match numbers {
+        [.., last] => *last < bound,
+        [] => true,
+    }
 }
 
 /// Is this the list of one number?
@@ -32,14 +43,19 @@ fn is_one(numbers: &[u32], number: u32) -> bool
     }
 }
 
-/// Does each name in use stand in some item?
+/// Does each name in use stand in some item? Items are looked at up to one with which all do.
 pub(crate) fn names_stand(alloc: Global, live: u32, items: &[Item]) -> Result<bool, NoMemory>
     requires { All (λ a. All (λ y. y < live) a.stack.value.items) items.now }
     ensures { IfOk result (λ b. IsTrue b ↔ EachNameStands (record { live = live; items = map item_of items.now })) }
 {
     let mut stand = vec![in alloc; false; live as usize]?;
+    let mut set = 0;
     for item in items {
         note(&item.stack, &mut stand);
+        set = set_front(&stand, set);
+        if set == stand.len() {
+            return Ok(true);
+        }
     }
     Ok(all_set(&stand))
 }
@@ -53,6 +69,23 @@ fn note(names: &[u32], flags: &mut [bool])
     for name in names {
         flags[*name as usize] = true;
     }
+}
+
+/// How many flags from the first one on are set without a gap, where so many are known to be.
+fn set_front(flags: &[bool], known: usize) -> usize
+    requires within { known ≤ length flags.now }
+    requires known { (y : ℕ) → y < known → slice_index_or flags.now y false ≡ true }
+    ensures within { result ≤ length flags.now }
+    ensures set { (y : ℕ) → y < result → slice_index_or flags.now y false ≡ true }
+{
+    let mut set = known;
+    for k in known..flags.len() {
+        if !flags[k] {
+            return set;
+        }
+        set = k + 1;
+    }
+    set
 }
 
 /// Are all flags set?

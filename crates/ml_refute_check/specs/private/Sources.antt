@@ -11,8 +11,10 @@
 --   AreInUse b green live behind == bound and green name are in use before and behind the step
 --   traces_of e                 == the items and the names in use of an entry
 --   LeadInto next made ts       == ts are those of made that lead to one of the nodes next
+--   led next made               == those traces themselves
 --   RiseByNode is, RiseByTarget ts == the nodes of the items is, the targets of the traces ts don't descend
-use Rattle.std.specs.Prelude.{ℕ, ◌≡◌, ◌⊎◌, ◌↔◌, ◌<◌, ◌≤◌, Bool, true, not, List, Option, None, Some, All, map}
+use Rattle.std.specs.Prelude.{ℕ, ◌≡◌, ◌⊎◌, ◌↔◌, ◌<◌, ◌≤◌, nat_eq, Bool, true, not, List, Option, None, Some, All, map}
+use Rattle.std.specs.List.{filter, list_any}
 use Rattle.std.specs.List.Sorted.{IsNonDecreasingBy}
 use Rattle.ml_lists.specs.Member.{IsMember}
 use Rattle.ml_refutation.specs.declared.refutation.Entry.{Entry}
@@ -74,6 +76,10 @@ AreInUse bound green live live_behind =
 -- the traces that lead to one of these nodes
 abbrev pub LeadInto : List ℕ → List Triple → List Triple → Type 0
 LeadInto next made traces = (t : Triple) → IsMember t traces ↔ (IsMember t made × IsMember t.to next)
+
+-- those of the traces that lead to one of these nodes
+abbrev pub led : List ℕ → List Triple → List Triple
+led next made = filter (λ t. list_any (nat_eq t.to) next) made
 
 abbrev pub RiseByNode : List Item → Type 0
 RiseByNode items = IsNonDecreasingBy (λ (a : Item). a.node) items

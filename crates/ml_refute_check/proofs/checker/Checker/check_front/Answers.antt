@@ -1,9 +1,15 @@
-use Rattle.std.proofs.Common.{refl, ℕ, ap, ◌∙◌}
+use Rattle.std.proofs.Common.{refl, sym, subst, ℕ, ap, ◌∙◌}
 use Rattle.std.specs.Global.{Vec}
+use Rattle.ml_lists.specs.Ascending.{IsAscending}
 use Rattle.ml_refute_check.specs.private.Parts.{question}
 use Rattle.ml_refute_check.proofs.BranchesFound.{test_fails}
 use Rattle.ml_refute_check.proofs.EntryFound.{start_told, live_told, live_low, front_refused_2, front_refused_3, front_later, front_kept}
 use Rattle.ml_refute_check.proofs.checker.Checker.check_front.Goals as goal
+
+pub starts_well-requires : goal.starts_well-requires
+starts_well-requires c =
+    subst IsAscending (sym (c.as_slice.ensures.value ∙ ap (λ (v : Vec ℕ). v.items) c.deref.ensures))
+    c.requires.entry.is_entry.ascends
 
 pub returns-then-not-starts_well : goal.returns-then-not-starts_well
 returns-then-not-starts_well c =

@@ -1,29 +1,28 @@
-use Rattle.std.proofs.Common.{◌<◌, [], All, IfOk, subst, sym, ℕ, ap, ◌∙◌}
+use Rattle.std.proofs.Common.{ℕ, ◌≡◌, ◌<◌, ◌∙◌, [], List, All, IfOk, ap, subst, sym}
 use Rattle.std.specs.Global.{Vec}
 use Rattle.ml_graph.specs.Graph.{size}
+use Rattle.ml_lists.specs.Ascending.{IsAscending}
 use Rattle.ml_refutation.specs.Views.{decision_of, entry_of}
 use Rattle.ml_refute_check.specs.private.Parts.{question, Finds, Stands, branch_parts}
-use Rattle.ml_refute_check.proofs.EntryFound.{ascending_again, start_stands}
+use Rattle.ml_refute_check.proofs.EntryFound.{start_stands}
 use Rattle.ml_refute_check.proofs.checker.Checker.check_tree.Goals as goal
 
-pub begin-requires : goal.begin-requires
-begin-requires c =
-    let nodes = c.in_ok-sequent.sequent in
-    let same =
-    ascending_again c.as_slice.result.now nodes c.args.entry.now.sequent.value.items c.in_ok-sequent.ensures
-    (c.as_slice.ensures.value ∙ ap (λ (v : Vec ℕ). v.items) c.deref.ensures)
-    c.requires.entry.is_entry.ascends in
-    subst (λ g. All (λ n. n < size g) nodes) (sym c.requires.graph)
+pub begin-requires-clause-low : goal.begin-requires-clause-low
+begin-requires-clause-low c =
+    let same = c.as_slice.ensures.value ∙ ap (λ (v : Vec ℕ). v.items) c.deref.ensures in
+    subst (λ g. All (λ n. n < size g) c.as_slice.result.now) (sym c.requires.graph)
     (subst (All (λ n. n < size c.args.self.now.graph.now)) (sym same) c.requires.low)
+
+pub begin-requires-clause-ascends : goal.begin-requires-clause-ascends
+begin-requires-clause-ascends c =
+    subst IsAscending (sym (c.as_slice.ensures.value ∙ ap (λ (v : Vec ℕ). v.items) c.deref.ensures))
+    c.requires.entry.is_entry.ascends
 
 pub check_decision-requires-clause-stands : goal.check_decision-requires-clause-stands
 check_decision-requires-clause-stands c =
     let q = question c.args.self.now.graph.now c.args.self.now.refutation.now in
-    let nodes = c.in_ok-sequent.sequent in
-    let same =
-    ascending_again c.as_slice.result.now nodes c.args.entry.now.sequent.value.items c.in_ok-sequent.ensures
-    (c.as_slice.ensures.value ∙ ap (λ (v : Vec ℕ). v.items) c.deref.ensures)
-    c.requires.entry.is_entry.ascends in
+    let nodes = c.as_slice.result.now in
+    let same = c.as_slice.ensures.value ∙ ap (λ (v : Vec ℕ). v.items) c.deref.ensures in
     subst (λ ns. Stands q c.args.place ns c.begin.new.self.spread) (sym c.in_ok-begin.ensures.sequent)
     (start_stands q c.args.place
     (entry_of c.args.entry.now) nodes [] c.begin.new.self.spread c.args.branch.now.graph c.requires.graph
