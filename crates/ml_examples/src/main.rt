@@ -7,7 +7,7 @@
 // be found good; one that `migrate` or `quotient` writes has to be
 // found as the one that it is written of.
 //
-// Of each page in `data/pages` the command lines are run too, and those are printed that print something else than the page
+// The command lines of pages in `data/docs` are run too, and those are printed that print something else than their page
 // says.
 //
 //   answers       what the program answers, and what is said of a document by the command that checks it

@@ -38,7 +38,7 @@ const STATUSES: [Status; 8] = [
 
 /// Prints how many commands and statuses have a paragraph in the manual, and each one that has none.
 pub(crate) fn read_manual<R: Files + Print + AllocGlobal>(rt: &R) -> Result<(), Failure> {
-    let text = fs::read_to_string(rt, "pages/mlsolver.1")?;
+    let text = fs::read_to_string(rt, "docs/mlsolver.1")?;
     let text = text.as_str().replace(rt.alloc(), "\\-", "-")?;
     let mut commands: u32 = 0;
     for command in COMMANDS {

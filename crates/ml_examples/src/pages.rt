@@ -38,7 +38,7 @@ struct Piece<'a> {
 
 /// Runs the command lines of a page, prints those that print something else than the page says, and how many they are.
 pub(crate) fn run_page<R: Files + Print + AllocGlobal>(rt: &R, page: &str) -> Result<(), Failure> {
-    let path = format!(in rt.alloc(); "pages/{page}.md")?;
+    let path = format!(in rt.alloc(); "docs/{page}.md")?;
     let text = fs::read_to_string(rt, path.as_str())?;
     let mut session = Session {
         page: String::from_str(rt.alloc(), page)?,
