@@ -189,7 +189,7 @@ module _ (g : Graph) (limit : ℕ) (b : Pool) (v : ℕ) (sp : SpreadList) (at : 
         → IsLonger (positions_of d) (positions_of e)
         → slice_get (positions_of d) l ≡ Some (with_chosen g (at_place g (positions_of b) v) o Left)
         → slice_get (positions_of e) r ≡ Some (with_chosen g (at_place g (positions_of b) v) o Right)
-        → IsRecorded g (positions_of e) (at_place g (positions_of b) v) (recorded.Chosen l r)
+        → IsRecorded g (positions_of e) (at_place g (positions_of b) v) (recorded.Chosen (l ∷ r ∷ []))
     both_recorded d e l r first second left right = record {
       turn = open_turn;
       owner_is = refl;
@@ -249,7 +249,7 @@ pub chosen_turned : (g : Graph) (limit : ℕ) (b d e : Pool) (v : ℕ) (sp : Spr
     → IsNumbered limit (positions_of b) (beside q k (with_side q.choice o Left)) d l)
     → ((q : Position) → slice_get (positions_of d) v ≡ Some q
     → IsNumbered limit (positions_of d) (beside q k (with_side q.choice o Right)) e r)
-    → IsTurned g limit (positions_of b) v e (recorded.Chosen l r)
+    → IsTurned g limit (positions_of b) v e (recorded.Chosen (l ∷ r ∷ []))
 chosen_turned g limit b d e v sp k o l r at k_is no_clash least first second =
     let here = at_place g (positions_of b) v in
     let left = first here (stands_at g limit b v sp at) in

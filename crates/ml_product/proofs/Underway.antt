@@ -154,12 +154,12 @@ pub opened_waiting : (g : Graph) (limit : ℕ) (b d : Pool) (rs ts : List Record
     → IsUnderway g limit b rs
     → v < length (positions_of b)
     → IsOpened g limit (positions_of b) v sp d node l r
-    → Records rs v (recorded.Chosen l r) ts
+    → Records rs v (recorded.Chosen (l ∷ r ∷ [])) ts
     → (ws : List ℕ)
     → AreWaiting g b rs (v ∷ ws)
     → AreWaiting g d ts (l ∷ r ∷ ws)
 opened_waiting g limit b d rs ts v sp node l r u low is records ws before w w_low waits =
-    by_kind (still_waiting g limit b d rs ts v (recorded.Chosen l r) u low is.turned records ws (λ e. cc) before w
+    by_kind (still_waiting g limit b d rs ts v (recorded.Chosen (l ∷ r ∷ [])) u low is.turned records ws (λ e. cc) before w
     w_low waits)
   where
     by_kind : (IsMember w ws ⊎ ((at_place g (positions_of d) w).choice ≡ [])) ⊎ (length (positions_of b) ≤ w)
@@ -190,7 +190,7 @@ pub explored_both : (g : Graph) (limit : ℕ) (b d e f : Pool) (rs ts us xs : Li
     → IsAt g limit b v sp
     → HasNoneBelow (positions_of b) (at_place g (positions_of b) v)
     → IsOpened g limit (positions_of b) v sp d node l r
-    → Records rs v (recorded.Chosen l r) ts
+    → Records rs v (recorded.Chosen (l ∷ r ∷ [])) ts
     → IsExplored g limit d ts l e us
     → IsExplored g limit e us r f xs
     → IsExplored g limit b rs v f xs
@@ -199,8 +199,8 @@ explored_both g limit b d e f rs ts us xs v sp node l r u at fresh is records on
   longer = longer_both (positions_of b) (positions_of e) (positions_of f)
       (longer_both (positions_of b) (positions_of d) (positions_of e) is.turned.becomes.longer one.longer) two.longer;
   kept = λ w found. two.kept w (one.kept w
-      (recorded_kept g limit b d rs ts v (recorded.Chosen l r) u at.number is.turned records (λ x. cc) w found));
-  done = two.kept v (one.kept v (recorded_done g limit b d rs ts v (recorded.Chosen l r) u at.number is.turned records
+      (recorded_kept g limit b d rs ts v (recorded.Chosen (l ∷ r ∷ [])) u at.number is.turned records (λ x. cc) w found));
+  done = two.kept v (one.kept v (recorded_done g limit b d rs ts v (recorded.Chosen (l ∷ r ∷ [])) u at.number is.turned records
       (λ x. cc)));
   waiting = λ ws before. two.waiting ws (one.waiting (r ∷ ws)
       (opened_waiting g limit b d rs ts v sp node l r u at.number is records ws before));

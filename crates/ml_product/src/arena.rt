@@ -1,14 +1,16 @@
 // The decision game as a program holds it, over shared parts.
-ghost use Rattle.std.specs.Prelude.{◌≡◌, ◌<◌, [], length, get_or, slice_get, Some, IfOk};
+ghost use Rattle.std.specs.Prelude.{◌≡◌, ◌<◌, [], length, get_or, map, slice_get, Some, IfOk};
 ghost use Rattle.ml_parity.specs.declared.players.Player.TheVariants.{Even};
 ghost use Rattle.ml_product.specs.Arena.{game_of};
-ghost use Rattle.ml_parity.specs.Refusal.{lists_of};
 ghost use Rattle.ml_product.specs.View.{viewed};
 ghost use Rattle.ml_product.specs.private.Shared.{IsHeld};
 ghost use Rattle.ml_product.specs.private.Pools.{positions_of};
+ghost use Rattle.ml_product.specs.private.Recorded.{owner_of, moves_of};
+ghost use Rattle.ml_product.specs.private.Exploring.{arena_of};
 
 use crate::gaming::{owners_of, priorities_of, successors_of};
 use crate::pool::Pool;
+use crate::recorded::Recorded;
 use crate::view::View;
 use ml_base::NoMemory;
 use ml_parity::{Game, Player};
@@ -20,37 +22,45 @@ use std::marker::Model;
 #[derive(Drop)]
 pub struct Arena {
     pool: Pool,
-    owners: Vec<Player>,
-    moves: Vec<Vec<u64>>,
+    turns: Vec<Recorded>,
+    // the vertices of Lost and of Won
+    ends: [u64; 2],
 }
 
 impl Model for Arena {
-    ghost use Rattle.ml_parity.specs.Refusal.{lists_of};
+    ghost use Rattle.std.specs.Prelude.{◌≡◌, ◌+◌, [], ◌∷◌, length, map};
     ghost use Rattle.ml_product.specs.Arena as arenas;
     ghost use Rattle.ml_product.specs.private.Shared.{IsHeld};
     ghost use Rattle.ml_product.specs.private.Pools.{positions_of};
+    ghost use Rattle.ml_product.specs.private.Recorded.{owner_of, moves_of};
 
     ghost Value = { arenas.Arena };
 
     ghost view = { λ a. record {
       positions = positions_of a.pool;
-      owners = a.owners.items;
-      moves = lists_of a.moves.items;
+      owners = map owner_of a.turns.items;
+      moves = map (moves_of (length (positions_of a.pool))) a.turns.items;
     } };
 
-    ghost invariant = { λ a. IsHeld a.pool.sequents.keys a.pool.histories.keys a.pool.positions a.owners.items (lists_of a.moves.items) };
+    ghost invariant = { λ a. record {
+      held : IsHeld a.pool.sequents.keys a.pool.histories.keys a.pool.positions (map owner_of a.turns.items)
+          (map (moves_of (length (positions_of a.pool))) a.turns.items);
+      ends : a.ends ≡ length (positions_of a.pool) ∷ (length (positions_of a.pool) + 1) ∷ [];
+    } };
 }
 
 impl Arena {
-    // the arena of these positions, with their owners and moves
-    pub(crate) fn of(pool: Pool, owners: Vec<Player>, moves: Vec<Vec<u64>>) -> Arena
-        requires { IsHeld pool.sequents.keys pool.histories.keys pool.positions owners.items (lists_of moves.items) }
-        ensures { result ≡ record { positions = positions_of pool; owners = owners.items; moves = lists_of moves.items } }
+    // the arena of these positions, with what was found at each
+    pub(crate) fn of(pool: Pool, turns: Vec<Recorded>) -> Arena
+        requires { IsHeld pool.sequents.keys pool.histories.keys pool.positions (map owner_of turns.items)
+            (map (moves_of (length (positions_of pool))) turns.items) }
+        ensures { result ≡ arena_of pool turns.items }
     {
+        let size = pool.len() as u64;
         Arena {
             pool,
-            owners,
-            moves,
+            turns,
+            ends: [size, size + 1],
         }
     }
 
@@ -80,7 +90,7 @@ impl Arena {
         requires { v < length self.now.positions }
         ensures { result.now ≡ get_or self.now.moves v [] }
     {
-        &self.moves[v as usize]
+        self.turns[v as usize].moves(&self.ends)
     }
 
     /// Who moves at a position.
@@ -90,7 +100,7 @@ impl Arena {
         requires { v < length self.now.positions }
         ensures { result ≡ get_or self.now.owners v Even }
     {
-        self.owners[v as usize]
+        self.turns[v as usize].owner()
     }
 
     /// The parity game: the positions by their places, then Lost and Won.
@@ -102,11 +112,11 @@ impl Arena {
     pub fn game(&self) -> Result<Game, NoMemory>
         ensures { IfOk result (λ game. game ≡ game_of self.now) }
     {
-        let alloc = *self.owners.allocator();
+        let alloc = *self.turns.allocator();
         let size = self.pool.len() as u64;
-        let owner = owners_of(alloc, &self.owners)?;
+        let owner = owners_of(alloc, &self.turns)?;
         let priority = priorities_of(alloc, self.pool.positions())?;
-        let successors = successors_of(alloc, &self.moves, size)?;
+        let successors = successors_of(alloc, &self.turns, &self.ends, size)?;
         Ok(Game {
             owner,
             priority,

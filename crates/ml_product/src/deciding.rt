@@ -45,7 +45,7 @@ fn explore_at(
     match take_turn(alloc, branch, terms, pool, limit, v)? {
         Turn::Ended(found) => Ok(turns.record(v, found)?),
         Turn::Open { node, left, right } => {
-            turns.record(v, Recorded::Chosen { left, right })?;
+            turns.record(v, Recorded::Chosen([left as u64, right as u64]))?;
             explore_side(
                 alloc,
                 branch,

@@ -1,15 +1,12 @@
 // The exploration of a decision game.
 ghost use Rattle.std.specs.Prelude.{◌≡◌, ◌≤◌, ◌<◌, ◌^◌, ◌↔◌, [], IsTrue, IfOk, OnOk, IsErrOf, length, map};
 ghost use Rattle.ml_graph.specs.Graph.{IsGraph};
-ghost use Rattle.ml_parity.specs.Refusal.{lists_of};
 ghost use Rattle.ml_product.specs.Arena as arenas;
 ghost use Rattle.ml_product.specs.Position.{automaton_states};
 ghost use Rattle.ml_product.specs.DecisionGame.{HasMoreThan};
 ghost use Rattle.ml_product.specs.declared.refusals.ExploreRefusal.TheVariants as refusal;
-ghost use Rattle.ml_product.specs.private.Shared.{IsHeld};
 ghost use Rattle.ml_product.specs.private.Pools.{positions_of};
-ghost use Rattle.ml_product.specs.private.Recorded.{owner_of, moves_of};
-ghost use Rattle.ml_product.specs.private.Exploring.{AreTerms, IsStarted, IsUnderway, AreWaiting, AreTurned, arena_of};
+ghost use Rattle.ml_product.specs.private.Exploring.{AreTerms, IsStarted, IsUnderway, AreWaiting, AreTurned};
 
 use crate::arena::Arena;
 use crate::deciding::explore_from;
@@ -21,7 +18,6 @@ use crate::refusals::ExploreRefusal;
 use ml_base::NoMemory;
 use ml_graph::ModalGraph;
 use ml_history::History;
-use ml_parity::Player;
 use ml_sequent::{Branch, Sequent};
 use ml_trace::{AutomatonState, STATE_LIMIT, number};
 use std::alloc::Global;
@@ -118,41 +114,6 @@ fn turns_in(
     turns(alloc, &mut branch, terms, pool, limit)
 }
 
-// who moves at each position
-fn players(alloc: Global, turns: &[Recorded]) -> Result<Vec<Player>, NoMemory>
-    ensures { IfOk result (λ players. players.items ≡ map owner_of turns.now) }
-{
-    let mut players = Vec::with_capacity(alloc, turns.len())?;
-    for turn in turns {
-        players.push(turn.owner())?;
-    }
-    Ok(players)
-}
-
-// the moves of each position
-fn vertices(alloc: Global, turns: Vec<Recorded>, size: u64) -> Result<Vec<Vec<u64>>, NoMemory>
-    requires { size < 2 ^ 32 }
-    ensures { IfOk result (λ all. lists_of all.items ≡ map (moves_of size) turns.items) }
-{
-    let mut all = Vec::with_capacity(alloc, turns.len())?;
-    for turn in turns {
-        all.push(turn.into_moves(alloc, size)?)?;
-    }
-    Ok(all)
-}
-
-// the arena of what was found
-fn closed(alloc: Global, pool: Pool, turns: Vec<Recorded>) -> Result<Arena, NoMemory>
-    requires { IsHeld pool.sequents.keys pool.histories.keys pool.positions
-        (map owner_of turns.items) (map (moves_of (length (positions_of pool))) turns.items) }
-    ensures { IfOk result (λ arena. arena ≡ arena_of pool turns.items) }
-{
-    let size = pool.len() as u64;
-    let owners = players(alloc, &turns)?;
-    let moves = vertices(alloc, turns, size)?;
-    Ok(Arena::of(pool, owners, moves))
-}
-
 /// The decision game of a graph, if it has at most so many positions.
 ///
 /// `limit` is 1 or more, and the trace automaton of the graph has at most 2^30 states, which `fits` tests.
@@ -175,5 +136,5 @@ pub fn explore(alloc: Global, graph: &ModalGraph, limit: u32) -> Result<Arena, E
     let terms = terms_of(graph)?;
     let mut pool = started(alloc, graph, &terms)?;
     let turns = turns_in(alloc, graph, &terms, &mut pool, limit)?;
-    Ok(closed(alloc, pool, turns)?)
+    Ok(Arena::of(pool, turns))
 }

@@ -1,5 +1,5 @@
 // What was found at a position.
-ghost use Rattle.std.specs.Prelude.{◌≡◌, ◌<◌, ◌^◌, IfOk};
+ghost use Rattle.std.specs.Prelude.{◌≡◌, ◌+◌, ℕ, [], ◌∷◌, IfOk};
 ghost use Rattle.ml_product.specs.private.Recorded.{owner_of, moves_of, IsLike};
 
 use ml_base::NoMemory;
@@ -7,13 +7,13 @@ use ml_parity::Player;
 use std::alloc::Global;
 
 /// What was found at a position: nothing yet, that it is lost, or won, or the numbers of the positions to which its
-/// moves lead.
+/// moves lead, with one side chosen and with the other, or along diamonds.
 #[derive(Debug, Drop)]
 pub(crate) enum Recorded {
     Waiting,
     Lost,
     Won,
-    Chosen { left: u32, right: u32 },
+    Chosen([u64; 2]),
     Led(Vec<u64>),
 }
 
@@ -36,27 +36,21 @@ impl Recorded {
             Recorded::Waiting => Ok(Recorded::Waiting),
             Recorded::Lost => Ok(Recorded::Lost),
             Recorded::Won => Ok(Recorded::Won),
-            Recorded::Chosen { left, right } => Ok(Recorded::Chosen {
-                left: *left,
-                right: *right,
-            }),
+            Recorded::Chosen(sides) => Ok(Recorded::Chosen(*sides)),
             Recorded::Led(moves) => Ok(Recorded::Led(Vec::from_slice(alloc, moves)?)),
         }
     }
 
-    // the moves as vertices of the game, where there are so many positions
-    pub(crate) fn into_moves(self, alloc: Global, size: u64) -> Result<Vec<u64>, NoMemory>
-        requires { size < 2 ^ 32 }
-        ensures { IfOk result (λ moves. moves.items ≡ moves_of size self) }
+    // the moves as vertices of the game, where these are Lost and Won
+    pub(crate) fn moves<'a>(&'a self, ends: &'a [u64; 2]) -> &'a [u64]
+        ensures { (n : ℕ) → ends.now ≡ n ∷ (n + 1) ∷ [] → result.now ≡ moves_of n self.now }
     {
         match self {
-            Recorded::Waiting => Ok(Vec::new(alloc)),
-            Recorded::Lost => Ok(Vec::from_slice(alloc, &[size])?),
-            Recorded::Won => Ok(Vec::from_slice(alloc, &[size + 1])?),
-            Recorded::Chosen { left, right } => {
-                Ok(Vec::from_slice(alloc, &[left as u64, right as u64])?)
-            }
-            Recorded::Led(moves) => Ok(moves),
+            Recorded::Waiting => &[],
+            Recorded::Lost => &ends[..1],
+            Recorded::Won => &ends[1..],
+            Recorded::Chosen(sides) => sides,
+            Recorded::Led(moves) => moves,
         }
     }
 }

@@ -143,7 +143,7 @@ pub record IsEnded (g : Graph) (limit : ℕ) (ps : List Position) (v : ℕ) (b :
 -- or a side is chosen at this or-node, which leads to these numbers
 pub record IsOpened (g : Graph) (limit : ℕ) (ps : List Position) (v : ℕ) (sp : SpreadList) (b : Pool)
     (node l r : ℕ) : Type 0 where
-  pub turned : IsTurned g limit ps v b (recorded.Chosen l r)
+  pub turned : IsTurned g limit ps v b (recorded.Chosen (l ∷ r ∷ []))
   pub is_open : IsOpenOr g sp node
   pub left : slice_get (positions_of b) l ≡ Some (with_chosen g (at_place g ps v) node Left)
   pub right : slice_get (positions_of b) r ≡ Some (with_chosen g (at_place g ps v) node Right)

@@ -23,7 +23,7 @@ abbrev pub owner_of : Recorded → Player
 owner_of recorded.Waiting = Even
 owner_of recorded.Lost = Even
 owner_of recorded.Won = Even
-owner_of (recorded.Chosen l r) = Even
+owner_of (recorded.Chosen sides) = Even
 owner_of (recorded.Led moves) = Odd
 
 -- the moves, where there are n positions
@@ -31,7 +31,7 @@ abbrev pub moves_of : ℕ → Recorded → List ℕ
 moves_of n recorded.Waiting = []
 moves_of n recorded.Lost = n ∷ []
 moves_of n recorded.Won = (n + 1) ∷ []
-moves_of n (recorded.Chosen l r) = l ∷ r ∷ []
+moves_of n (recorded.Chosen sides) = sides
 moves_of n (recorded.Led moves) = moves.items
 
 -- v is the vertex of the target

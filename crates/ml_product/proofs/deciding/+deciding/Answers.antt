@@ -1,5 +1,5 @@
 -- The position is turned, its sides are explored one behind the other, and the branch is as before.
-use Rattle.std.proofs.Common.{◌≡◌, ◌<◌, ◌≤◌, ◌+◌, ◌-◌, ◌*◌, ◌^◌, length, sym, ◌∙◌, subst, arith}
+use Rattle.std.proofs.Common.{◌≡◌, ◌<◌, ◌≤◌, ◌+◌, ◌-◌, ◌*◌, ◌^◌, [], ◌∷◌, length, sym, ◌∙◌, subst, arith}
 use Rattle.std.proofs.lemmas.Result.{on_ok_weaker}
 use Rattle.ml_graph.specs.Graph.{Graph, IsGraph, size}
 use Rattle.ml_sequent.specs.declared.choice.Side.TheVariants.{Left, Right}
@@ -28,7 +28,7 @@ explore_at-explore_side-requires t c =
     let opened : IsOpened g limit (positions_of b) v sp d node c.in-Open.left c.in-Open.right =
     subst (IsTurnOf g limit (positions_of b) v sp d) c.in-Open.is c.in_ok-found.ensures.turned in
     let under = recorded_underway g limit b d c.args.turns.now c.record-in-Open.new.self v
-    (recorded.Chosen c.in-Open.left c.in-Open.right) c.requires.underway c.requires.at.number opened.turned
+    (recorded.Chosen (c.in-Open.left ∷ c.in-Open.right ∷ [])) c.requires.underway c.requires.at.number opened.turned
     c.in_ok-record-in-Open.ensures in
     let fresh = fresh_sides g limit b d v sp node c.in-Open.left c.in-Open.right c.requires.at c.requires.fresh opened in
     let side = side_place g limit b d v c.in-Open.left node Left C sp c.requires.at c.requires.sequent opened.left in

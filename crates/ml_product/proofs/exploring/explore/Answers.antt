@@ -13,14 +13,14 @@ turns_in-requires-clause-underway c =
 pub turns_in-requires-clause-waiting : goal.turns_in-requires-clause-waiting
 turns_in-requires-clause-waiting c = started_waiting c.args.graph.now c.in_ok-pool.pool c.in_ok-pool.ensures
 
-pub closed-requires : goal.closed-requires
-closed-requires c =
+pub of-requires : goal.of-requires
+of-requires c =
     held_of c.args.graph.now c.args.limit c.turns_in.new.pool c.in_ok-turns.turns.items c.in_ok-turns.ensures.turned
     c.in_ok-turns.ensures.whole (omega (arith, c.ranges.limit.fits))
 
 pub returns-clause-arena : goal.returns-clause-arena
 returns-clause-arena c =
-    subst (IsArenaOf c.args.graph.now) (sym c.in_ok-closed.ensures)
+    subst (IsArenaOf c.args.graph.now) (sym c.of.ensures)
     (is_arena c.args.graph.now c.args.limit c.turns_in.new.pool c.in_ok-turns.turns.items c.in_ok-turns.ensures.turned
     c.in_ok-turns.ensures.whole)
 
