@@ -83,7 +83,7 @@ struct Tally {
     unlike: Option<u64>,
 }
 
-fn tally(alloc: Global, seeds: u64, nodes: u32) -> Result<Tally, Fail>
+fn counted(alloc: Global, seeds: u64, nodes: u32) -> Result<Tally, Fail>
     requires { 0 < nodes }
 {
     let mut counts = Tally {
@@ -119,9 +119,9 @@ fn well(even: u64, odd: u64, beyond: u64) -> Tally {
 
 #[test]
 fn searches_find_what_games_decide(rt: HostRuntime) -> Result<(), Fail> {
-    assert_eq!(rt; tally(rt.alloc(), 400, 8)?, well(219, 181, 0));
-    assert_eq!(rt; tally(rt.alloc(), 400, 12)?, well(195, 205, 0));
-    assert_eq!(rt; tally(rt.alloc(), 200, 20)?, well(88, 112, 0));
-    assert_eq!(rt; tally(rt.alloc(), 60, 40)?, well(24, 35, 1));
+    assert_eq!(rt; counted(rt.alloc(), 400, 8)?, well(219, 181, 0));
+    assert_eq!(rt; counted(rt.alloc(), 400, 12)?, well(195, 205, 0));
+    assert_eq!(rt; counted(rt.alloc(), 200, 20)?, well(88, 112, 0));
+    assert_eq!(rt; counted(rt.alloc(), 60, 40)?, well(24, 35, 1));
     Ok(())
 }
