@@ -6,6 +6,7 @@
 //   kripke_tests    structures, and the texts of models
 //   line_tests      lines written and cut
 //   refutation_tests  refutations read from their texts in both versions
+//   shared_tests    refutations that are drawn, with lists that many of their lines name
 //   text_tests      the tokens of texts
 #![tactic(auto)]
 
@@ -17,5 +18,7 @@ mod kripke_tests;
 mod line_tests;
 #[cfg(test)]
 mod refutation_tests;
+#[cfg(test)]
+mod shared_tests;
 #[cfg(test)]
 mod text_tests;
