@@ -43,17 +43,7 @@ use Rattle.ml_lists.specs.InTurn.{RunsOn}
 use Rattle.ml_refute.proofs.Leaving.{placed, reached_here}
 use Rattle.ml_lists.proofs.InTurn.{runs_append, runs_up, runs_has}
 use Rattle.ml_lists.proofs.Entries.{get_grown}
-
--- ---- lists
-
--- what stands in a list stands in a longer one
-
--- the last one, put behind
-pub get_last : {X : Type 0} (xs : List X) (x : X) → slice_get (xs ++ x ∷ []) (length xs) ≡ Some x
-get_last xs x =
-    let same : length xs + 0 ≡ length xs = omega arith in
-    slice_get-get_or (xs ++ x ∷ []) (length xs) x (omega (arith, length-append xs (x ∷ [])))
-    ∙ ap Some (ap (λ k. get_or (xs ++ x ∷ []) k x) (sym same) ∙ get_or-append-add xs (x ∷ []) 0 x)
+use Rattle.ml_product.proofs.Naming.{stands_last}
 
 -- a new one stands behind
 different_more : (ps : List Position) (p : Position)
@@ -375,7 +365,7 @@ module _ (g : Graph) (a : Arena) (s : GameSolution) where
               length-append ds
                   (d ∷ []),
             ) in
-            let last : Some x ≡ Some d = sym stands ∙ ap (slice_get (ds ++ d ∷ [])) e_is ∙ get_last ds d in
+            let last : Some x ≡ Some d = sym stands ∙ ap (slice_get (ds ++ d ∷ [])) e_is ∙ stands_last ds d in
             let x_is : d ≡ x = cc in
             subst (λ y. IsDecisionAt g a s (map (position_at g a) ws) (position_at g a (get_or ws e 0)) y) x_is
             (subst (λ w. IsDecisionAt g a s (map (position_at g a) ws) (position_at g a w) d)

@@ -35,7 +35,7 @@ use Rattle.ml_refute.specs.private.Found.{OddWins, AreNumbered, AreLooked, posit
 use Rattle.ml_refute.specs.private.PutTogether.{IsMostBelow, HasMarksOf, arcs_at, go_graph_of, IsNamesOf, IsPut, ArePut}
 use Rattle.ml_refute.proofs.Accepted.{extracted_accepted}
 use Rattle.ml_refute.proofs.Entries.{Extraction}
-use Rattle.ml_refute.proofs.FoundEntries.{get_last}
+use Rattle.ml_product.proofs.Naming.{stands_last}
 use Rattle.ml_refute.proofs.GoCycles.{no_even_cycle}
 use Rattle.ml_refute.proofs.GoGraph.{is_one_sided}
 use Rattle.ml_lists.proofs.InTurn.{in_turn}
@@ -145,10 +145,10 @@ put_more g a vs rows ds es d e put is = record {
           length-append es
               (e ∷ []),
         ) in
-        let last : Some x ≡ Some e = sym stands ∙ ap (slice_get (es ++ e ∷ [])) (sym k_is) ∙ get_last es e in
+        let last : Some x ≡ Some e = sym stands ∙ ap (slice_get (es ++ e ∷ [])) (sym k_is) ∙ stands_last es e in
         let x_is : e ≡ x = cc in (
           d,
-          ap (slice_get (ds ++ d ∷ [])) (sym k_is ∙ put.an_entry_each) ∙ get_last ds d,
+          ap (slice_get (ds ++ d ∷ [])) (sym k_is ∙ put.an_entry_each) ∙ stands_last ds d,
           subst (λ z. IsPut (odd_priorities g) (position_at g a (get_or vs k 0)) (get_or rows k []) d z) x_is
               (subst (λ i. IsPut (odd_priorities g) (position_at g a (get_or vs i 0)) (get_or rows i []) d e) k_is is),
         )

@@ -5,21 +5,17 @@
 --                             kept
 --   front_refused_2, front_refused_3, front_later, front_kept == what is found of the three together
 --   live_low        == the names of an entry's items are in use
---   last_tells      == the last of ascending numbers tells whether all are below a bound
 --   ascending_again, start_stands == the sequent of an entry as a set, and its spread
 --   odds_ascend     == the odd priorities of a graph ascend
 --   entry_of_index  == an entry that a program reads by its place
 --   whole_front, whole_later, whole_kept == what is found of an entry
-use Rattle.std.proofs.Common.{◌≡◌, ◌↔◌, ℕ, zero, suc, ◌+◌, ◌-◌, ◌<◌, ◌≤◌, ◌%◌, ◌==◌, ◌⊎◌, filter, ltb, Bool, true, false, List, [], ◌∷◌, ◌++◌, None}
-use Rattle.std.proofs.Common.{Some, All, length, get_or, take, map, IsTrue, inl, inr, refl, sym, ap, ◌∙◌, subst, arith}
+use Rattle.std.proofs.Common.{◌≡◌, ◌↔◌, ℕ, zero, suc, ◌+◌, ◌<◌, ◌≤◌, ◌%◌, ◌==◌, filter, Bool, List, [], ◌∷◌, ◌++◌, None}
+use Rattle.std.proofs.Common.{Some, All, length, get_or, take, map, IsTrue, inl, refl, sym, ap, ◌∙◌, subst, arith}
 use Rattle.std.proofs.lemmas.List.{map-append, take_more, take_all, get_or-map, length-map}
-use Rattle.std.proofs.lemmas.Bool.{ltb-true, ltb-false, cases_Bool}
-use Rattle.std.proofs.lemmas.Bool.Decides.{nat_tests}
-use Rattle.std.proofs.lemmas.List.{get_or_default}
 use Rattle.std.specs.Global.{Vec}
 use Rattle.ml_lists.specs.Ascending.{IsAscending, ascending}
 use Rattle.ml_lists.specs.Member.{IsMember}
-use Rattle.ml_lists.proofs.Ascending.{ascending-apart, ascending-is, ascending_same, ascending-member, member-ascending}
+use Rattle.ml_lists.proofs.Ascending.{ascending-is, ascending_same, ascending-member, member-ascending}
 use Rattle.ml_graph.specs.Graph.{Graph, size, odd_priorities}
 use Rattle.ml_trace.specs.Automaton.{IsGuess}
 use Rattle.ml_trace.specs.LabelledLoop.{EachNameStands}
@@ -235,31 +231,6 @@ ascending_again nodes made made_is ascends =
     made_is
     ∙ ascending_same (ascending nodes) nodes (ascending-is nodes) ascends (λ v h. ascending-member v nodes h)
     (λ v h. member-ascending v nodes h)
-
--- the last of ascending numbers tells whether all are below a bound
-pub last_tells : (xs : List ℕ) (bound : ℕ)
-    → IsAscending xs
-    → 0 < length xs
-    → IsTrue (ltb (get_or xs (length xs - 1) 0) bound) ↔ All (λ n. n < bound) xs
-last_tells xs bound ascends some = (λ h k d low. below (ltb-true _ bound h) k d low (cases_Bool (ltb k last)), λ all. back (all last 0 (omega arith)))
-  where
-    last : ℕ
-    last = length xs - 1
-
-    below : get_or xs last 0 < bound
-        → (k d : ℕ)
-        → k < length xs
-        → (ltb k last ≡ true) ⊎ (ltb k last ≡ false)
-        → get_or xs k d < bound
-    below high k d low (inl t) =
-        let apart = ascending-apart xs k last 0 ascends (ltb-true k last t) (omega arith) in
-        omega (arith, high, apart, get_or_default xs k d 0 low)
-    below high k d low (inr f) =
-        let same : k ≡ last = let least = ltb-false k last f in omega (arith, least, low) in
-        subst (λ n. n < bound) (sym (get_or_default xs k d 0 low ∙ ap (λ i. get_or xs i 0) same)) high
-
-    back : get_or xs last 0 < bound → IsTrue (ltb (get_or xs last 0) bound)
-    back low = grind (arith, nat_tests)
 
 pub start_stands : (q : Question) (e : ℕ) (entry : plain.Entry) (nodes : List ℕ) (c : List (ℕ × Side)) (sp : SpreadList)
     (h : Graph)

@@ -1,5 +1,5 @@
 use Rattle.std.proofs.Common.{arith}
-use Rattle.ml_refute_check.proofs.EntryFound.{last_tells}
+use Rattle.ml_refutation_text.proofs.AscendingTests.{last_tells}
 use Rattle.ml_refute_check.proofs.parts.all_below.Goals as goal
 
 pub returns-in-len1-up : goal.returns-in-len1-up

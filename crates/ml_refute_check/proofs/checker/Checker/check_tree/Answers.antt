@@ -1,4 +1,4 @@
-use Rattle.std.proofs.Common.{ℕ, ◌≡◌, ◌<◌, ◌∙◌, [], List, All, IfOk, ap, subst, sym}
+use Rattle.std.proofs.Common.{ℕ, ◌<◌, ◌∙◌, [], All, IfOk, ap, subst, sym}
 use Rattle.std.specs.Global.{Vec}
 use Rattle.ml_graph.specs.Graph.{size}
 use Rattle.ml_lists.specs.Ascending.{IsAscending}

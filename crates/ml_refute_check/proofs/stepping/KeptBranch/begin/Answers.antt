@@ -1,4 +1,4 @@
-use Rattle.std.proofs.Common.{◌<◌, ◌∙◌, [], All, ap, sym, subst}
+use Rattle.std.proofs.Common.{◌<◌, ◌∙◌, [], All, sym, subst}
 use Rattle.ml_graph.specs.Graph.{size}
 use Rattle.ml_sequent.specs.Branch.{BranchList}
 use Rattle.ml_sequent.specs.Spread.{IsSpreadOf}

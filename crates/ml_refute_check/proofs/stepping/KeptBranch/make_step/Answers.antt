@@ -1,4 +1,4 @@
-use Rattle.std.proofs.Common.{◌≡◌, ◌∙◌, ◌↔◌, List, subst, sym}
+use Rattle.std.proofs.Common.{◌≡◌, ◌∙◌, ◌↔◌, List, subst}
 use Rattle.ml_lists.specs.Member.{IsMember}
 use Rattle.ml_sequent.specs.Branch.{BranchList}
 use Rattle.ml_sequent.specs.Step.{IsStep}
