@@ -106,22 +106,14 @@ vertex_more g m made made2 vs v owner priority moves has owners priorities lists
 }
 
 -- the pair of a state and one node more
-pub pair_more : (g : Graph) (m : Structure) (made made2 : Vertices) (vs : List Vertex) (s n : ℕ) (owner : Player)
-    (priority : ℕ) (moves : Vec ℕ)
-    → HasVertices g m made (vs ++ map (Pair s) (range_with_len 0 n)) → made2.owner.items
-    ≡ made.owner.items ++ owner ∷ []
-    → made2.priority.items ≡ made.priority.items ++ priority ∷ [] → made2.successors.items
-    ≡ made.successors.items ++ moves ∷ []
-    → owner ≡ owner_at g (Pair s n) → priority ≡ priority_at_vertex g (Pair s n)
-    → moves.items ≡ map (vertex_number g m) (successors g m (Pair s n))
+pub pair_more : (g : Graph) (m : Structure) (made made2 : Vertices) (vs : List Vertex) (s n : ℕ)
+    → HasVertices g m made (vs ++ map (Pair s) (range_with_len 0 n))
+    → ((us : List Vertex) → HasVertices g m made us → HasVertices g m made2 (us ++ Pair s n ∷ []))
     → HasVertices g m made2 (vs ++ map (Pair s) (range_with_len 0 (n + 1)))
-pair_more g m made made2 vs s n owner priority moves has owners priorities lists own prio next =
-    let longer : (vs ++ map (Pair s) (range_with_len 0 n)) ++ Pair s n ∷ []
-    ≡ vs ++ map (Pair s) (range_with_len 0 (n + 1)) =
-    append_assoc vs (map (Pair s) (range_with_len 0 n)) (Pair s n ∷ [])
-    ∙ ap (λ xs. vs ++ xs) (sym (map-more (Pair s) n)) in
-    subst (HasVertices g m made2) longer (vertex_more g m made made2 (vs ++ map (Pair s) (range_with_len 0 n))
-    (Pair s n) owner priority moves has owners priorities lists own prio next)
+pair_more g m made made2 vs s n has more =
+    subst (HasVertices g m made2)
+    (append_assoc vs (map (Pair s) (range_with_len 0 n)) (Pair s n ∷ []) ∙ ap (λ xs. vs ++ xs) (sym (map-more (Pair s) n)))
+    (more (vs ++ map (Pair s) (range_with_len 0 n)) has)
 
 -- the pairs of all states, and then the two sinks
 pub all_pairs : (g : Graph) (m : Structure) (made made2 : Vertices) (s : ℕ)

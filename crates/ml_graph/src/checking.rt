@@ -110,6 +110,25 @@ impl Vertices {
         Ok(())
     }
 
+    /// Adds the pair of a state and a node.
+    fn push_pair(
+        &mut self,
+        alloc: Global,
+        graph: &ModalGraph,
+        structure: &Structure,
+        at: &AtState,
+        state: u32,
+        n: u32,
+    ) -> Result<(), NoMemory>
+        requires here { IsAt graph.now structure.now state at.now }
+        requires node { n < size graph.now }
+        ensures { OnOk result ((vs : List Vertex) → HasVertices graph.now structure.now self.old vs
+            → HasVertices graph.now structure.now self.new (vs ++ Pair state n ∷ [])) }
+    {
+        let moves = moves_from(alloc, graph, structure, at, state, n)?;
+        self.push(mover(*graph.node(n)), graph.priority(n), moves)
+    }
+
     /// Adds the pairs of a state and each node of the graph.
     fn push_pairs(
         &mut self,
@@ -124,8 +143,7 @@ impl Vertices {
             → HasVertices graph.now structure.now self.new (vs ++ pairs_at graph.now state)) }
     {
         for n in 0..graph.size() {
-            let moves = moves_from(alloc, graph, structure, at, state, n)?;
-            self.push(mover(*graph.node(n)), graph.priority(n), moves)?;
+            self.push_pair(alloc, graph, structure, at, state, n)?;
         }
         Ok(())
     }

@@ -145,7 +145,7 @@ fn read_labels(alloc: Global, behind: Option<&[u8]>) -> Result<Vec<Name>, NameRe
     ensures read { IfOk result (λ labels. (labels.items ≡ words_behind (option_copied behind.entry)) × All IsName labels.items × Ascend labels.items) }
     ensures refused { IsErrOf result NameRefusal.NotAName → ¬ (All IsName (words_behind (option_copied behind.entry)) × Ascend (words_behind (option_copied behind.entry))) }
 {
-    let mut labels = Vec::new(alloc);
+    let mut labels = Vec::with_capacity(alloc, count_words(behind))?;
     let mut left = behind;
     while let Some(text) = left {
         let (word, rest) = split_word(text);
@@ -158,8 +158,15 @@ fn read_labels(alloc: Global, behind: Option<&[u8]>) -> Result<Vec<Name>, NameRe
             Err(_) => return Err(NameRefusal::NoMemory),
         }
     }
-    labels.shrink_to_fit();
     Ok(labels)
+}
+
+// how many words stand there: one more than the blanks between them
+fn count_words(behind: Option<&[u8]>) -> usize {
+    match behind {
+        Some(text) => text.iter().filter(|byte| **byte == b' ').count() + 1,
+        None => 0,
+    }
 }
 
 // is the label above the last one, if there is one?

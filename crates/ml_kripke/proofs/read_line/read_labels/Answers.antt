@@ -1,11 +1,9 @@
-use Rattle.std.proofs.Common.{◌≡◌, ◌∷◌, ◌++◌, [], All, None, ap, sym, subst, ◌∙◌}
+use Rattle.std.proofs.Common.{◌∷◌, ◌++◌, [], None, ap, sym, subst, ◌∙◌}
 use Rattle.std.specs.Option.{option_copied}
 use Rattle.std.specs.Ordering.{nat_cmp}
 use Rattle.std.specs.Cmp.Lexicographic.{slice_cmp}
-use Rattle.ml_base.specs.Name.{IsName}
 use Rattle.ml_lines.specs.Reading.{words_behind}
 use Rattle.ml_lists.specs.Chains.{Above, last_of}
-use Rattle.ml_kripke.specs.private.BodyParts.{Ascend}
 use Rattle.ml_kripke.proofs.LabelWords.{AreLabelsTo, label_read, not_above, labels_done}
 use Rattle.ml_kripke.proofs.read_line.read_labels.Goals as goal
 
@@ -37,9 +35,5 @@ loop-left-preserved c =
 
 pub returns-clause-read : goal.returns-clause-read
 returns-clause-read c =
-    let all = words_behind (option_copied c.args.behind) in
-    let labels = c.loop-left.labels.items in
-    let done =
-    labels_done all labels (subst (AreLabelsTo all labels) (ap option_copied c.in_default.is) c.loop-left.invariant)
-    in
-    subst (λ ls. (ls ≡ all) × All IsName ls × Ascend ls) (sym c.shrink_to_fit.ensures.items) done
+    labels_done (words_behind (option_copied c.args.behind)) c.loop-left.labels.items
+    (subst (AreLabelsTo (words_behind (option_copied c.args.behind)) c.loop-left.labels.items) (ap option_copied c.in_default.is) c.loop-left.invariant)

@@ -1,7 +1,7 @@
-use Rattle.std.proofs.Common.{◌≡◌, sym, ap, ◌∙◌, subst, arith, append-nil, ◌++◌, map}
+use Rattle.std.proofs.Common.{◌≡◌, sym, subst, arith, append-nil, ◌++◌, map}
 use Rattle.std.specs.List.{range_with_len}
 use Rattle.ml_graph.specs.Graph.{size}
-use Rattle.ml_graph.specs.CheckingGame.{Pair, mover}
+use Rattle.ml_graph.specs.CheckingGame.{Pair}
 use Rattle.ml_graph.specs.private.Making.{HasVertices}
 use Rattle.ml_graph.proofs.Making.{pair_more}
 use Rattle.ml_graph.proofs.checking.Vertices.push_pairs.Goals as goal
@@ -12,9 +12,8 @@ loop-n-init c = λ vs has. subst (HasVertices c.args.graph.now c.args.structure.
 
 pub loop-n-preserved : goal.loop-n-preserved
 loop-n-preserved c = λ vs has.
-    pair_more c.args.graph.now c.args.structure.now _ _ vs c.args.state c.loop-n.n _ _ _ (c.loop-n.invariant vs has)
-    c.in_ok-push.ensures.owners c.in_ok-push.ensures.priorities c.in_ok-push.ensures.moves
-    (c.mover.ensures ∙ ap mover c.node.ensures) c.priority.ensures c.in_ok-moves.ensures
+    pair_more c.args.graph.now c.args.structure.now _ _ vs c.args.state c.loop-n.n (c.loop-n.invariant vs has)
+    c.in_ok-push_pair.ensures
 
 pub returns : goal.returns
 returns c = λ vs has.
