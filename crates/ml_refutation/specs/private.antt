@@ -2,3 +2,5 @@
 
 -- what a refutation keeps is a proposition
 pub mod Propositions
+-- lists in one list of numbers
+pub mod Rows

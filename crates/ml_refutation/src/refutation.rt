@@ -3,29 +3,12 @@ ghost use Rattle.ml_refutation.specs.Refutation.{IsRefutation};
 ghost use Rattle.ml_refutation.specs.Views.{of_parts};
 ghost use Rattle.ml_refutation.specs.private.Propositions.{prop_refutation};
 
-use std::rc::Rc;
+use crate::lists::Lists;
+use ml_sequent::ClashCause;
+use ml_trace::Mark;
 
 /// How deep splits may be nested in a decision.
 pub const NESTING_LIMIT: u32 = 4096;
-
-/// A clash that a branch ends in, as a file names it.
-#[derive(Clone, Copy, Debug, PartialEq, Eq)]
-pub enum Cause {
-    /// The node is False.
-    False(u32),
-    /// The nodes are the positive and the negative literal of one proposition.
-    Pair(u32, u32),
-    /// The node has an odd priority, and lies on a closed local walk through nodes of no lower priority.
-    Cycle(u32),
-}
-
-/// The mark of a step from one entry to another, as a file names it.
-#[derive(Clone, Copy, Debug, PartialEq, Eq)]
-pub enum Step {
-    Red(u32),
-    Green(u32),
-    Neutral,
-}
 
 /// What is decided at an entry: each side of each or-node that has to be chosen ends in a clash, or goes on along a
 /// diamond to an entry.
@@ -37,27 +20,28 @@ pub enum Decision {
         left: Box<Decision>,
         right: Box<Decision>,
     },
-    Clash(Cause),
+    Clash(ClashCause),
     Go {
         diamond: u32,
         entry: u32,
-        mark: Step,
+        mark: Mark,
     },
 }
 
 /// A state of the trace automaton (a node, with no odd priority or with one that was guessed) with its stack of names.
-#[derive(Debug, Drop)]
+#[derive(Clone, Copy, Debug)]
 pub struct Item {
     pub node: u32,
     pub odd: Option<u32>,
-    pub stack: Rc<Vec<u32>>,
+    /// Its place among the stacks of the refutation.
+    pub stack: usize,
 }
 
 /// A sequent with what is known of its traces, the heights of the entry, and what is decided there.
 #[derive(Debug, Drop)]
 pub struct Entry {
-    /// The nodes, ascending.
-    pub sequent: Rc<Vec<u32>>,
+    /// Its place among the sequents of the refutation, each of which is nodes, ascending.
+    pub sequent: usize,
     /// How many names are in use.
     pub live: u32,
     /// Ascending by node, and at one node first without an odd priority and then by it.
@@ -67,12 +51,15 @@ pub struct Entry {
     pub decision: Decision,
 }
 
-/// Entries, of which the first is the start, and how many names they may use.
+/// Entries, of which the first is the start, how many names they may use, and the sequents and stacks that they name by
+/// their places. A list may stand there again, and need not be named.
 #[derive(Debug, Drop)]
 pub struct Refutation {
     pub names: u32,
+    pub sequents: Lists,
+    pub stacks: Lists,
     pub entries: Vec<Entry>,
-    pub ghost is_refutation: { IsRefutation (of_parts names entries) } by { prop_refutation (of_parts names entries) },
+    pub ghost is_refutation: { IsRefutation (of_parts names sequents stacks entries) } by { prop_refutation (of_parts names sequents stacks entries) },
 }
 
 impl Refutation {
@@ -83,11 +70,18 @@ impl Refutation {
     /// The refutation of these entries, which keep what can be said of them without a graph.
     ///
     /// Cost: constant.
-    pub fn new(names: u32, entries: Vec<Entry>) -> Refutation
-        requires { IsRefutation (of_parts names entries) }
+    pub fn new(names: u32, sequents: Lists, stacks: Lists, entries: Vec<Entry>) -> Refutation
+        requires { IsRefutation (of_parts names sequents stacks entries) }
         ensures names { result.names ≡ names }
+        ensures sequents { result.sequents ≡ sequents }
+        ensures stacks { result.stacks ≡ stacks }
         ensures entries { result.entries ≡ entries }
     {
-        Refutation { names, entries }
+        Refutation {
+            names,
+            sequents,
+            stacks,
+            entries,
+        }
     }
 }
