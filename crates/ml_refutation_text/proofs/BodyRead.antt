@@ -1,37 +1,34 @@
 -- A whole body, read from its first line to its end.
 --
 --   names_goes, count_goes, no_entries, end_goes, not_end, behind_end == the lines that are no part of an entry or a table
---   body_size           == how many lines a body has
---   text_size           == how many lines a text of a refutation has
 --   runs_of             == what was read to a place runs there
 --   at_end              == behind the last entry
 --   body_read           == a text that was read to its end is one of what was read
 --   one_parts           == the parts of the entries of a text begin at one list of lines
-use Rattle.std.proofs.Common.{◌≡◌, ◌≢◌, ℕ, ◌+◌, ◌<◌, ◌≤◌, false, cond, nat_lt, List, [], ◌∷◌, ◌++◌, length, map, codes, inl, inr, refl, sym, ap, subst, ◌∙◌, length-append, append_assoc, arith}
+use Rattle.std.proofs.Common.{◌≡◌, ◌≢◌, ℕ, ◌+◌, ◌-◌, ◌<◌, ◌≤◌, false, cond, nat_lt, List, [], ◌∷◌, ◌++◌, length, map, codes, inl, inr, refl, sym, ap, subst, ◌∙◌, length-append, append_assoc, arith}
 use Rattle.std.specs.List.{slice_split, join_with_byte}
 use Rattle.std.proofs.lemmas.Bool.Decides.{nat_tests}
 use Rattle.std.proofs.lemmas.List.{append-nil, length-map}
 use Rattle.std.proofs.lemmas.List.Splits.{join_with_byte-slice_split}
 use Rattle.ml_base.specs.declared.version.Version.{Version}
-use Rattle.ml_base.specs.declared.version.Version.TheVariants.{One, Two}
+use Rattle.ml_base.specs.declared.version.Version.TheVariants.{One}
 use Rattle.ml_base.specs.declared.doc_refusal.DocRefusal.{DocRefusal}
 use Rattle.ml_base.specs.declared.doc_refusal.DocRefusal.TheVariants as refused
 use Rattle.ml_lines.specs.Lines.{Line, text_of}
 use Rattle.ml_lines.specs.Reading.{lines_of, left_of, words_of, fronts, is_line_end, is_blank}
 use Rattle.ml_lines.proofs.Cuts.{some_part}
-use Rattle.ml_lines.proofs.WrittenLines.{lines_read, text_read}
+use Rattle.ml_lines.proofs.WrittenLines.{text_read}
 use Rattle.ml_lists.specs.Documents.{IsReadTo, nothing_read, line_read}
-use Rattle.ml_trace.specs.Stack as traced
-use Rattle.ml_trace.specs.declared.letters.AutomatonState.{AutomatonState}
-use Rattle.ml_refutation.specs.Refutation.{Refutation, Entry, Fits, IsRefutation}
+use Rattle.ml_refutation.specs.Refutation.{Refutation, Fits, IsRefutation}
 use Rattle.ml_refutation.specs.Views.{entry_of}
 use Rattle.ml_refutation.specs.declared.refutation.Entry as program
-use Rattle.ml_refutation_text.specs.RefutationText.{Form, InFull, ByTables, names_line, entries_line, sequent_line, stack_line, stacks_line, live_line, heights_line}
-use Rattle.ml_refutation_text.specs.RefutationText.{end_line, decision_lines, HeadLines, ItemLines, EntriesLines, FirstLines, BodyLines, IsForm, IsTextOf}
+use Rattle.ml_refutation_text.specs.RefutationText.{Form, names_line, entries_line}
+use Rattle.ml_refutation_text.specs.RefutationText.{end_line}
+use Rattle.ml_refutation_text.specs.BodyRules.{IsTextOf}
 use Rattle.ml_refutation_text.specs.BodyRules.{Place, AtNames, AtEntries, AtEntry, AtEnd, AtNothing, after_names, after, at_entry, rule_number, body}
 use Rattle.ml_refutation_text.specs.LineKinds.{kind, Fixed, IsOfKinds}
 use Rattle.ml_lines.proofs.Faults.{fault_here, fault_missing}
-use Rattle.ml_refutation_text.specs.PartLines.{head_size, entries_size, parts_from, lines_before, AreLinesOf}
+use Rattle.ml_refutation_text.specs.PartLines.{entries_size, parts_from, AreLinesOf}
 use Rattle.ml_refutation_text.specs.private.Reads.{IsNext, Goes, Breaks, TellsFault}
 use Rattle.ml_refutation_text.specs.private.ItemReads.{knows}
 use Rattle.ml_refutation_text.specs.private.BodyReads.{IsBodyRead}
@@ -39,12 +36,9 @@ use Rattle.ml_refutation_text.specs.declared.lines.EntryLines.{EntryLines}
 use Rattle.ml_refutation_text.specs.declared.rest.Rest.{Rest}
 use Rattle.ml_refutation_text.specs.declared.body_rule.BodyRule.TheVariants.{OfKind, HasEntries}
 use Rattle.ml_refutation_text.proofs.ReadWords.{value_back}
-use Rattle.ml_refutation_text.proofs.Runs.{Runs, run_on, run_readable, one_end}
+use Rattle.ml_refutation_text.proofs.Runs.{Runs, run_on}
 use Rattle.ml_refutation_text.proofs.GoodLines.{numbered_of, numbered_fits, names_run, entries_run, end_run}
-use Rattle.ml_refutation_text.proofs.GoodEntries.{body_run}
-use Rattle.ml_refutation_text.proofs.PlainLines.{run_plain}
-use Rattle.ml_refutation_text.proofs.ReadableTexts.{readable_is_text}
-use Rattle.ml_refutation_text.proofs.RefutationTexts.{text_lines, same_end}
+use Rattle.ml_refutation_text.proofs.RefutationTexts.{text_refutation}
 use Rattle.ml_refutation_text.proofs.Going.{goes_run}
 
 -- ---- single lines
@@ -117,66 +111,6 @@ behind_end v r at told some is = go (fronts (slice_split is_line_end at.text.now
         (fault_here (body v) at.line (AtNothing r) at.text.now 21 (words_of part) (map words_of parts) begins
         (inl (refl, λ kind. absurd (omega (arith, ap length kind.0, some_part is_blank part)))))
 
--- ---- how many lines
-
-item_count : (F : Form) (items : List (traced.Item AutomatonState)) (lines : List Line)
-    → ItemLines F items lines
-    → length lines ≡ length items
-item_count F [] lines is = ap length is
-item_count F (a ∷ items) lines (line, others, first, rest, is) =
-    omega (arith, ap length is, item_count F items others rest)
-
-head_count : (v : Version) (names : ℕ) (F : Form) (i : ℕ) (q : List ℕ) (lines : List Line)
-    → IsForm v names F
-    → HeadLines F i q lines
-    → length lines ≡ head_size v
-head_count One names InFull i q lines form is = ap length is
-head_count One names (ByTables qs ks) i q lines form is = absurd form
-head_count Two names InFull i q lines form is = absurd form
-head_count Two names (ByTables qs ks) i q lines form (s, there, is) = ap length is
-
-entries_count : (v : Version) (names : ℕ) (F : Form) (i : ℕ) (es : List Entry) (lines : List Line) → IsForm v names F
-    → EntriesLines F i es lines → length lines ≡ entries_size v es
-entries_count v names F i [] lines form is = ap length is
-entries_count v names F i (e ∷ es) lines form (first, others, one, rest, is) =
-    omega (
-      arith,
-      ap length is,
-      length-append first others,
-      ap length one.are_lines,
-      length-append one.head (live_line
-          e.traces.live ∷ (one.items ++ heights_line e.heights ∷ decision_lines e.decision)),
-      length-append one.items (heights_line e.heights ∷ decision_lines e.decision),
-      head_count v names F i e.sequent one.head form one.is_head,
-      item_count F e.traces.items one.items one.are_items,
-      entries_count v names F (i + 1) es others form rest,
-    )
-
-first_count : (v : Version) (F : Form) (names : ℕ) (lines : List Line)
-    → FirstLines F names lines
-    → length lines + 1 ≡ lines_before F
-first_count v InFull names lines is = omega (arith, ap length is)
-first_count v (ByTables qs ks) names lines (w, spells, is) =
-    omega (
-      arith,
-      ap length is,
-      length-append (map sequent_line qs) (stacks_line w ∷ map stack_line ks),
-      length-map qs sequent_line,
-      length-map ks stack_line,
-    )
-
-pub body_size : (v : Version) (F : Form) (r : Refutation) (lines : List Line) → IsForm v r.names F → BodyLines F r lines
-    → length lines ≡ lines_before F + entries_size v r.entries + 1
-body_size v F r lines form is =
-    omega (
-      arith,
-      ap length is.are_lines,
-      length-append is.first (entries_line (length r.entries) ∷ (is.entries ++ end_line ∷ [])),
-      length-append is.entries (end_line ∷ []),
-      first_count v F r.names is.first is.are_first,
-      entries_count v r.names F 0 r.entries is.entries form is.are_entries,
-    )
-
 -- ---- what was read to a place
 
 pub record RunsOf (v : Version) (left : List ℕ) (k : ℕ) (p : Place) (lines : List Line) (j : ℕ) (q : Place)
@@ -214,17 +148,6 @@ at_end {v = v} {p = p} {at = at} {rest = rest} names wanted F items whole goes =
 
 -- ---- a whole text
 
-pub text_size : (v : Version) (t : List ℕ) (r : Refutation) → IsRefutation r → (written : IsTextOf v t r)
-    → length (lines_of t) ≡ lines_before written.form + entries_size v r.entries + 1
-text_size v t r is written =
-    let plain =
-    run_plain v 0 [] AtNames (AtNothing r) written.lines
-    (body_run v (0 ∷ []) written.form r written.lines is written.is_form written.are_lines)
-    in
-    let read = lines_read written.lines plain in
-    ap length (ap lines_of written.is_text ∙ read.0)
-    ∙ body_size v written.form r written.lines written.is_form written.are_lines
-
 module _ (v : Version) (at rest : Rest) (r : Refutation) (goes : Goes v AtNames at (AtNothing r) rest)
     (none : rest.text.now ≡ []) where
   pub record IsWhole : Type 0 where
@@ -241,15 +164,10 @@ module _ (v : Version) (at rest : Rest) (r : Refutation) (goes : Goes v AtNames 
       let full : lines_of t ≡ read.front =
       read.is_front ∙ ap (λ text. read.front ++ lines_of text) none ∙ append-nil read.front in
       let run = subst (λ ls. Runs (body v (left_of t)) AtNames ls (AtNothing r)) (sym full) read.run in
-      let readable = run_readable (body v (left_of t)) AtNames (AtNothing r) (lines_of t) run ((refl, left), tt) in
-      let text = readable_is_text v t readable in
-      let lines = text_lines v t text.0 text.1 text.2 in
-      let mine = subst (λ l. Runs (body v l) AtNames (lines_of t) (AtNothing r)) left run in
-      let same =
-      same_end r text.0 (one_end (body v []) AtNames (AtNothing r) (AtNothing text.0) (lines_of t) mine lines.run) in
+      let written : IsTextOf v t r = record { runs = subst (λ l. Runs (body v l) AtNames (lines_of t) (AtNothing r)) left run; none_left = left } in
       record {
-        is = subst IsRefutation (sym same) text.1;
-        written = subst (IsTextOf v t) (sym same) text.2;
+        is = text_refutation v t r written;
+        written = written;
         counted = omega (arith, read.counted, ap length full);
       }
 
@@ -259,20 +177,12 @@ module _ (v : Version) (at rest : Rest) (r : Refutation) (goes : Goes v AtNames 
       → rest.line ≡ start + entries_size v r.entries + 1 → IsBodyRead v at.text.now at.line r parts
   body_read start before parts begins are counted =
       let whole = whole_read in
-      let size = text_size v at.text.now r whole.is whole.written in
-      let first : start ≡ at.line + lines_before whole.written.form =
-      omega (arith, begins, counted, whole.counted, size) in record {
+      let first : start ≡ at.line + (length (lines_of at.text.now) - (entries_size v r.entries + 1)) =
+      omega (arith, begins, counted, whole.counted) in record {
         is_refutation = whole.is;
-        are_lines = record {
-          written = whole.written;
-          are_parts = are ∙ ap (λ n. parts_from v n r.entries) first;
-        };
+        are_lines = record { written = whole.written; are_parts = are ∙ ap (λ n. parts_from v n r.entries) first };
       }
 
-pub one_parts : (v : Version) (t : List ℕ) (n : ℕ) (r : Refutation) (ps qs : List EntryLines) → IsRefutation r
+pub one_parts : (v : Version) (t : List ℕ) (n : ℕ) (r : Refutation) (ps qs : List EntryLines)
     → AreLinesOf v t n r ps → AreLinesOf v t n r qs → ps ≡ qs
-one_parts v t n r ps qs is first second =
-    let one = text_size v t r is first.written in
-    let two = text_size v t r is second.written in
-    let same : n + lines_before first.written.form ≡ n + lines_before second.written.form = omega (arith, one, two) in
-    first.are_parts ∙ ap (λ m. parts_from v m r.entries) same ∙ sym second.are_parts
+one_parts v t n r ps qs first second = first.are_parts ∙ sym second.are_parts

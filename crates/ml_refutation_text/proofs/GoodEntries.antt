@@ -21,7 +21,7 @@ use Rattle.ml_trace.specs.Stack as traced
 use Rattle.ml_refutation.specs.Refutation.{Refutation, Entry, Fits, FitsGuess, IsAbove, AreAbove, IsItem, IsEntry, IsRefutation}
 use Rattle.ml_refutation_text.specs.RefutationText.{Spells, Form, InFull, ByTables, numbers, names_line, entries_line, sequents_line, stacks_line}
 use Rattle.ml_refutation_text.specs.RefutationText.{stack_line, sequent_line, live_line, guess_word, item_line, heights_line, decision_lines, end_line}
-use Rattle.ml_refutation_text.specs.RefutationText.{HeadLines, StackWords, ItemLines, EntryLines, EntriesLines, FirstLines, BodyLines, IsForm}
+use Rattle.ml_refutation_text.specs.private.TextLines.{HeadLines, StackWords, ItemLines, EntryLines, EntriesLines, FirstLines, BodyLines, IsForm}
 use Rattle.ml_refutation_text.specs.LineKinds.{IsOfKind, HaveNumbers}
 use Rattle.ml_refutation_text.specs.BodyRules.{Known, Begun, Place, AtNames, AtSequents, AtStacks, AtEntries, AtEntry, AtLive, AtItem, AtDecision}
 use Rattle.ml_refutation_text.specs.BodyRules.{AtEnd, AtNothing, IsNextItem, item_kind, heights_kind, state_of, stack_of, at_entry, body}

@@ -1,7 +1,7 @@
--- What has no bad line is a text of a refutation.
+-- What has no bad line has the lines of a refutation.
 --
 --   step              == with one more good line, what was read is what the next place keeps
---   readable_is_text  == a text without a bad line is one of a refutation
+--   readable_has_lines == a text without a bad line has the lines of a refutation
 use Rattle.std.proofs.Common.{◌≡◌, ℕ, ◌+◌, ◌<◌, true, false, cond, List, [], ◌∷◌, ◌++◌, None, length, drop, map, All, codes, refl, sym, ap, subst, ◌∙◌, inl, inr, append_assoc, arith}
 use Rattle.std.specs.Str.{bytes_eq}
 use Rattle.std.proofs.lemmas.List.{append-nil, length-map, map-append}
@@ -14,13 +14,13 @@ use Rattle.ml_lines.specs.Reading.{value, word, lines_of, left_of}
 use Rattle.ml_lines.proofs.Fronts.{HaveWords, have_words}
 use Rattle.ml_lines.proofs.WrittenLines.{text_read}
 use Rattle.ml_refutation_text.proofs.PlainLines.{kinds_plain, place_plain}
-use Rattle.ml_refutation_text.specs.Laws.{IsRefutationText}
 use Rattle.ml_lists.specs.Ascending.{IsAscending}
 use Rattle.ml_lists.specs.Documents.{IsGood, IsReadable}
 use Rattle.ml_trace.specs.Stack as traced
 use Rattle.ml_trace.specs.declared.letters.AutomatonState.{AutomatonState}
-use Rattle.ml_refutation.specs.Refutation.{Refutation, Entry, Fits, AreAbove, IsStack, IsItem, IsEntry}
-use Rattle.ml_refutation_text.specs.RefutationText.{Form, InFull, ByTables, names_line, entries_line, numbered_line, entry_line, live_line, split_line, decision_lines, end_line, HeadLines, IsForm}
+use Rattle.ml_refutation.specs.Refutation.{Refutation, Entry, Fits, AreAbove, IsStack, IsItem, IsEntry, IsRefutation}
+use Rattle.ml_refutation_text.specs.RefutationText.{Form, InFull, ByTables, names_line, entries_line, numbered_line, entry_line, live_line, split_line, decision_lines, end_line}
+use Rattle.ml_refutation_text.specs.private.TextLines.{HeadLines, IsForm, HasLines}
 use Rattle.ml_refutation_text.specs.LineKinds.{kind, IsOfKind, HasNumbers, Fixed, ANumber, AGuess, AnySize, IsOfKinds, HaveNumbers}
 use Rattle.ml_refutation_text.specs.BodyRules.{kinds, clash_kinds, go_kinds, item_kind, heights_kind, IsNextItem, StackInTable, Known, Around, InLeft, Begun, Place, AtNames}
 use Rattle.ml_refutation_text.specs.BodyRules.{AtSequents, AtTableSequent, AtStacks, AtTableStack, AtEntries, AtEntry, AtSequent, AtLive, AtItem, AtDecision, AtEnd, AtNothing}
@@ -342,8 +342,10 @@ module _ (v : Version) (left : List ℕ) where
       subst Refuted (append_assoc before (line ∷ []) lines)
       (read_on (after v p line) (before ++ line ∷ []) lines words.1 (step p before line words.0 is readable.0) readable.1)
 
-pub readable_is_text : (v : Version) (t : List ℕ) → IsReadableBody v t → IsRefutationText v t
-readable_is_text v t readable =
+pub readable_has_lines : (v : Version) (t : List ℕ)
+    → IsReadableBody v t
+    → (r : Refutation) × IsRefutation r × HasLines v t r
+readable_has_lines v t readable =
     let found = read_on v (left_of t) AtNames [] (lines_of t) (have_words t) refl readable in
     let is = found.is_whole in (
       found.r,

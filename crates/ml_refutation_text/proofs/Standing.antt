@@ -22,8 +22,9 @@ use Rattle.ml_trace.specs.declared.letters.AutomatonState.{AutomatonState}
 use Rattle.ml_refutation.specs.Refutation.{Refutation, Entry, Decision, Split, Fits, IsAbove, AreAbove, IsStack, IsItem, IsDecided, IsEntry, IsRefutation, nesting}
 use Rattle.ml_refutation.specs.declared.refutation.TheConstants.{NESTING_LIMIT}
 use Rattle.ml_refutation_text.specs.RefutationText.{Spells, Form, InFull, ByTables, names_line, entries_line, sequents_line, stacks_line, sequent_line}
-use Rattle.ml_refutation_text.specs.RefutationText.{stack_line, numbered_line, live_line, heights_line, split_line, decision_lines, HeadLines, ItemLine}
-use Rattle.ml_refutation_text.specs.RefutationText.{ItemLines, EntryLines, EntriesLines, FirstLines, BodyLines, IsForm}
+use Rattle.ml_refutation_text.specs.RefutationText.{stack_line, numbered_line, live_line, heights_line, split_line, decision_lines}
+use Rattle.ml_refutation_text.specs.private.TextLines.{HeadLines, ItemLine}
+use Rattle.ml_refutation_text.specs.private.TextLines.{ItemLines, EntryLines, EntriesLines, FirstLines, BodyLines, IsForm}
 use Rattle.ml_refutation_text.specs.BodyRules.{Known, Around, InLeft, InRight, Begun, Place, AtNames, AtSequents, AtTableSequent, AtStacks}
 use Rattle.ml_refutation_text.specs.BodyRules.{AtTableStack, AtEntries, AtEntry, AtSequent, AtLive, AtItem, AtDecision, AtEnd, AtNothing}
 use Rattle.ml_refutation_text.specs.BodyRules.{values, at_sequent_table, at_stack_table, at_entry, whole, closed}

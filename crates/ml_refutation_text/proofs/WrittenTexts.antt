@@ -2,8 +2,8 @@
 --
 --   entries_written      == the lines of entries that are written are lines of them, in full and by tables
 --   tables_are           == the tables of a refutation are as what they stand for
---   has_text             == the written text is one of the refutation
---   written_is_text      == so it is of one whose stacks were counted
+--   has_lines            == the written text has the lines of the refutation
+--   written_is_text      == so it is a text of it
 use Rattle.std.proofs.Common.{ℕ, ◌+◌, ◌<◌, ◌≤◌, List, [], ◌∷◌, ◌++◌, length, map, All, refl, arith}
 use Rattle.std.specs.List.{flat_map, AllByRecursion}
 use Rattle.std.proofs.lemmas.List.{length-map}
@@ -15,8 +15,11 @@ use Rattle.ml_lists.specs.Ascending.{IsAscending}
 use Rattle.ml_trace.specs.declared.letters.AutomatonState.{AutomatonState}
 use Rattle.ml_trace.specs.Stack as traced
 use Rattle.ml_refutation.specs.Refutation.{Refutation, Entry, Fits, IsStack, IsItem, IsEntry, IsRefutation}
-use Rattle.ml_refutation_text.specs.RefutationText.{Form, InFull, ByTables, HeadLines, StackWords, ItemLines, EntryLines, EntriesLines, AreTables, IsTextOf, item_line}
-use Rattle.ml_refutation_text.specs.WrittenText.{IsCounted, Writing, in_full, by_tables, used_stacks, sequents_of, stacks_of, place_in, entry_lines, entries_lines, written_lines, written_text}
+use Rattle.ml_refutation_text.specs.RefutationText.{Form, InFull, ByTables, item_line}
+use Rattle.ml_refutation_text.specs.private.TextLines.{HeadLines, StackWords, ItemLines, EntryLines, EntriesLines, AreTables, HasLines}
+use Rattle.ml_refutation_text.specs.BodyRules.{IsTextOf}
+use Rattle.ml_refutation_text.specs.WrittenText.{Writing, in_full, by_tables, used_stacks, sequents_of, stacks_of, place_in, entry_lines, entries_lines, written_lines, written_text}
+use Rattle.ml_refutation_text.proofs.RefutationTexts.{text_lines}
 use Rattle.ml_refutation_text.proofs.StackCounts.{spells_wide, few_stacks}
 use Rattle.ml_refutation_text.proofs.TableEntries.{Has, made_has, made_all, made_length, has_inside, has_place}
 
@@ -120,8 +123,8 @@ full_heads i q any = refl
 full_words : (ns : List ℕ) → Unit {0} → StackWords InFull ns (in_full.words ns)
 full_words ns any = refl
 
-pub has_text : (v : Version) (r : Refutation) → IsRefutation r → IsTextOf v (written_text v r) r
-has_text One r is = record {
+has_lines : (v : Version) (r : Refutation) → IsRefutation r → HasLines v (written_text v r) r
+has_lines One r is = record {
   form = InFull;
   is_form = tt;
   lines = written_lines One r;
@@ -137,7 +140,7 @@ has_text One r is = record {
   };
   is_text = refl;
 }
-has_text Two r is =
+has_lines Two r is =
     let qs = sequents_of r.entries in
     let ks = stacks_of r.entries in
     let few = few_stacks r is in record {
@@ -165,6 +168,5 @@ has_text Two r is =
       is_text = refl;
     }
 
--- the same of what was counted, as a call says it
-pub written_is_text : (v : Version) (r : Refutation) → IsRefutation r → IsCounted v r → IsTextOf v (written_text v r) r
-written_is_text v r is counted = has_text v r is
+pub written_is_text : (v : Version) (r : Refutation) → IsRefutation r → IsTextOf v (written_text v r) r
+written_is_text v r is = text_lines v (written_text v r) r is (has_lines v r is)

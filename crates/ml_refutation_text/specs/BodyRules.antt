@@ -4,6 +4,8 @@
 -- of version 2, how many entries there are to be, the whole entries, and of the entry that isn't whole yet its sequent,
 -- its traces, its heights, and the splits around the next line of its decision. The rules of a place stand in the order
 -- of their numbers, so the first one that a line breaks is the lowest. A line that is missing is the line of no words.
+-- A line of a table may be written again or stay without use, so in version 2 a refutation has many texts. A text is of
+-- one refutation at most in both versions.
 --
 --   Known                  == the number of names, the form, and how many entries there are to be
 --   Around                 == a split around a decision: with the right one still to come, or with the left one read
@@ -19,6 +21,9 @@
 --   IsFaultOf v text n f   == f tells the first bad line of the text of a body, whose first line has the number n, and
 --                             the lowest rule that it breaks
 --   IsReadableBody v text  == the text has no bad line
+--   Runs F p ls q          == in the format F the lines ls are good from the place p on, and behind them stands q
+--   IsTextOf v text r      == the text is one of the refutation r in the version v: its lines are good, and behind the last
+--                             one stands r, at its end
 use Rattle.std.specs.Prelude.{ℕ, ◌+◌, ◌<◌, ◌≤◌, ◌≡◌, ⊤, nat_lt, List, [], ◌∷◌, ◌++◌, Option, None, Some, length, drop, map, All, codes, slice_index_or, if◌then◌else◌}
 use Rattle.std.specs.Str.{bytes_eq}
 use Rattle.ml_base.specs.declared.doc_fault.DocFault.{DocFault}
@@ -29,7 +34,7 @@ use Rattle.ml_lines.specs.Lines.{Word, Line}
 use Rattle.ml_lines.specs.Reading.{value, word, lines_of, left_of}
 use Rattle.ml_lists.specs.Ascending.{IsAscending}
 use Rattle.ml_lists.specs.Chains.{last_of}
-use Rattle.ml_lists.specs.Documents.{Format, Rule, rule, IsReadable}
+use Rattle.ml_lists.specs.Documents.{Format, Rule, rule, IsGood, IsReadable}
 use Rattle.ml_trace.specs.declared.letters.AutomatonState.{AutomatonState}
 use Rattle.ml_trace.specs.declared.marks.Mark.{Mark}
 use Rattle.ml_trace.specs.declared.marks.Mark.TheVariants.{Red, Green, Neutral}
@@ -307,3 +312,14 @@ IsFaultOf v text first fault = IsFault (body v) first AtNames text fault
 
 abbrev pub IsReadableBody : Version → List ℕ → Type 0
 IsReadableBody v text = IsReadable (body v (left_of text)) AtNames (lines_of text)
+
+-- ---- texts
+
+-- the lines are good from this place on, and behind them stands that one
+abbrev pub Runs : {L P : Type 0} → Format L P → P → List L → P → Type 0
+Runs F place [] behind = place ≡ behind
+Runs F place (line ∷ lines) behind = IsGood F place line × Runs F (F.after place line) lines behind
+
+pub record IsTextOf (v : Version) (text : List ℕ) (r : Refutation) : Type 0 where
+  pub runs : Runs (body v []) AtNames (lines_of text) (AtNothing r)
+  pub none_left : left_of text ≡ []

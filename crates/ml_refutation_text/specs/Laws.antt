@@ -12,7 +12,7 @@ use Rattle.std.specs.Prelude.{ℕ, ◌≡◌, ◌↔◌, ◌⊎◌, List}
 use Rattle.ml_base.specs.declared.doc_fault.DocFault.{DocFault}
 use Rattle.ml_base.specs.declared.version.Version.{Version}
 use Rattle.ml_refutation.specs.Refutation.{Refutation, IsRefutation}
-use Rattle.ml_refutation_text.specs.RefutationText.{IsTextOf}
+use Rattle.ml_refutation_text.specs.BodyRules.{IsTextOf}
 use Rattle.ml_refutation_text.specs.WrittenText.{written_text}
 use Rattle.ml_lists.specs.Documents.{NumbersRise}
 use Rattle.ml_refutation_text.specs.BodyRules.{body, IsFaultOf, IsReadableBody}

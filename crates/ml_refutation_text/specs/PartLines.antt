@@ -1,9 +1,8 @@
 -- The lines at which the parts of the entries of a text begin.
 --
--- Lines are counted by what is written before. The first line of the text has a number that is given. Before the entries
--- stand the number of names, in version 2 each table with its number of lines, and the number of entries. An entry has
--- its number and its sequent, in version 1 on two lines and in version 2 on one; then a line for the names in use, one
--- for each item, one for the heights, and those of its decision.
+-- The first line of the text has a number that is given, and the entries are its last lines but one. An entry has its
+-- number and its sequent, in version 1 on two lines and in version 2 on one; then a line for the names in use, one for
+-- each item, one for the heights, and those of its decision.
 --
 --   head_size v             == how many lines tell the number and the sequent of an entry
 --   sequent_at v n          == the line that tells the sequent of an entry whose first line is n
@@ -11,14 +10,16 @@
 --   entries_size v es       == so the entries es
 --   parts_of v n e          == the lines at which the parts of the entry e begin, whose first line is n
 --   parts_from v n es       == those of the entries es, the first of which has the first line n
---   lines_before F          == how many lines stand before the entries
+--   parts_in v t n r        == those of the entries of r in the text t, whose first line is n
 --   AreLinesOf v t n r ps   == t is a text of the refutation r, and with the first line n the parts of its entries begin
 --                              at the lines ps
-use Rattle.std.specs.Prelude.{ℕ, ◌+◌, ◌≡◌, List, [], ◌∷◌, length}
+use Rattle.std.specs.Prelude.{ℕ, ◌+◌, ◌-◌, ◌≡◌, List, [], ◌∷◌, length}
 use Rattle.ml_base.specs.declared.version.Version.{Version}
 use Rattle.ml_base.specs.declared.version.Version.TheVariants.{One, Two}
+use Rattle.ml_lines.specs.Reading.{lines_of}
 use Rattle.ml_refutation.specs.Refutation.{Refutation, Entry}
-use Rattle.ml_refutation_text.specs.RefutationText.{Form, InFull, ByTables, IsTextOf, decision_lines}
+use Rattle.ml_refutation_text.specs.BodyRules.{IsTextOf}
+use Rattle.ml_refutation_text.specs.RefutationText.{decision_lines}
 use Rattle.ml_refutation_text.specs.declared.lines.EntryLines.{EntryLines}
 
 -- `entry` and `sequent`, or `entry` alone
@@ -51,11 +52,10 @@ abbrev pub entries_size : Version → List Entry → ℕ
 entries_size v [] = 0
 entries_size v (e ∷ entries) = entry_size v e + entries_size v entries
 
--- `names` and `entries`, and the tables with their numbers of lines, if there are any
-abbrev pub lines_before : Form → ℕ
-lines_before InFull = 2
-lines_before (ByTables sequents stacks) = 4 + length sequents + length stacks
+-- behind the entries stands one line, `end`
+abbrev pub parts_in : Version → List ℕ → ℕ → Refutation → List EntryLines
+parts_in v text first r = parts_from v (first + (length (lines_of text) - (entries_size v r.entries + 1))) r.entries
 
 pub record AreLinesOf (v : Version) (text : List ℕ) (first : ℕ) (r : Refutation) (parts : List EntryLines) : Type 0 where
   pub written : IsTextOf v text r
-  pub are_parts : parts ≡ parts_from v (first + lines_before written.form) r.entries
+  pub are_parts : parts ≡ parts_in v text first r

@@ -16,3 +16,5 @@ pub mod BranchReads
 pub mod EntryReads
 -- what it knows of a whole body
 pub mod BodyReads
+-- the texts of refutations, line by line
+pub mod TextLines

@@ -3,7 +3,8 @@ ghost use Rattle.std.specs.Prelude.{◌≡◌, ◌+◌, ◌<◌, ◌^◌, [], �
 ghost use Rattle.std.specs.List.{flat_map};
 ghost use Rattle.ml_lines.specs.Lines.{number, next, line_text, text_of};
 ghost use Rattle.ml_refutation.specs.Views.{cause_of, mark_of, decision_of, item_of, entry_of, of_parts};
-ghost use Rattle.ml_refutation_text.specs.RefutationText.{IsTextOf, numbers, guess_word, item_line, clash_line, go_line, decision_lines};
+ghost use Rattle.ml_refutation_text.specs.RefutationText.{numbers, guess_word, item_line, clash_line, go_line, decision_lines};
+ghost use Rattle.ml_refutation_text.specs.BodyRules.{IsTextOf};
 ghost use Rattle.ml_refutation_text.specs.WrittenText.{IsCounted, stacks_of as used, written_text, entry_lines, entries_lines, table_lines, last_lines, lines_by_tables};
 ghost use Rattle.ml_refutation_text.specs.private.Filings.{shown, writing_of};
 

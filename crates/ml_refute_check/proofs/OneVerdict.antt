@@ -16,7 +16,7 @@ use Rattle.ml_front.proofs.OneFault as head
 use Rattle.ml_refutation.specs.Refutation.{Refutation}
 use Rattle.ml_refutation.specs.Acceptance.{IsAccepted}
 use Rattle.ml_refutation_text.specs.BodyRules.{IsFaultOf}
-use Rattle.ml_refutation_text.specs.RefutationText.{IsTextOf}
+use Rattle.ml_refutation_text.specs.BodyRules.{IsTextOf}
 use Rattle.ml_refutation_text.proofs.RefutationTexts as body
 use Rattle.ml_refutation.specs.Acceptance.{entry_at, IsFirstBad}
 use Rattle.ml_refutation_text.specs.PartLines.{AreLinesOf}
@@ -120,7 +120,7 @@ rejected_once text l n k m x y =
     (subst (λ b. AreLinesOf y.version b first_body_line x.refutation x.lines) one.bodies
     (subst (λ v. AreLinesOf v x.is_document.body first_body_line x.refutation x.lines) one.versions x.are_lines)) in
     let lines =
-    one_parts y.version y.is_document.body first_body_line y.refutation x.lines y.lines y.is_document.is_refutation here
+    one_parts y.version y.is_document.body first_body_line y.refutation x.lines y.lines here
     y.are_lines in
     let found : slice_get y.lines y.entry ≡ Some x.at =
     subst (λ e. slice_get y.lines e ≡ Some x.at) same.0

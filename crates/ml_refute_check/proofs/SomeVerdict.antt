@@ -17,7 +17,7 @@ use Rattle.ml_front.proofs.SomeGraph.{some_graph}
 use Rattle.ml_refutation.specs.Refutation.{Refutation}
 use Rattle.ml_refutation.specs.Acceptance.{entry_at, IsAccepted, IsFirstBad}
 use Rattle.ml_refutation_text.specs.BodyRules.{IsFaultOf, IsReadableBody}
-use Rattle.ml_refutation_text.specs.PartLines.{parts_from, lines_before}
+use Rattle.ml_refutation_text.specs.PartLines.{parts_in}
 use Rattle.ml_refutation_text.specs.declared.lines.EntryLines.{EntryLines}
 use Rattle.ml_refutation_text.proofs.RefutationTexts as body
 use Rattle.ml_refute_check.specs.Documents.{IsDocument, IsVerdict, line_of, first_body_line, formula_line}
@@ -30,14 +30,14 @@ use Rattle.ml_refute_check.proofs.SomeFault.{some_fault}
 module _ (text : List ℕ) (v : Version) (p : Problem) (r : Refutation) (x : IsDocument text v p r)
     (g : Graph) (is_graph : IsGraphOf g p) (closed : ¬ (HasLargeClosure p MOST_NODES)) where
   lines : List EntryLines
-  lines = parts_from v (first_body_line + lines_before x.has_body.form) r.entries
+  lines = parts_in v x.body first_body_line r
 
   none : EntryLines
   none = record { sequent = 0; live = 0; items = 0; heights = 0; decision = 0 }
 
   many : length lines ≡ length r.entries
   unfolding lines
-  many = length-parts v (first_body_line + lines_before x.has_body.form) r.entries
+  many = length-parts v _ r.entries
 
   of_finding : IsAccepted g r ⊎ ((e : ℕ) × (k : ℕ) × (number : ℕ) × IsFirstBad g r e k number)
       → (w : Verdict) × IsVerdict text w

@@ -38,7 +38,7 @@ use Rattle.ml_refutation.specs.Refutation.{Refutation, IsRefutation}
 use Rattle.ml_refutation.specs.Acceptance.{entry_at, IsAccepted, IsFirstBad}
 use Rattle.ml_refutation_text.specs.BodyRules.{IsFaultOf}
 use Rattle.ml_refutation_text.specs.PartLines.{AreLinesOf}
-use Rattle.ml_refutation_text.specs.RefutationText.{IsTextOf}
+use Rattle.ml_refutation_text.specs.BodyRules.{IsTextOf}
 use Rattle.ml_refutation_text.specs.WrittenText.{written_text}
 use Rattle.ml_refutation_text.specs.declared.lines.EntryLines.{EntryLines}
 use Rattle.ml_refute_check.specs.declared.verdict.Verdict.{Verdict}

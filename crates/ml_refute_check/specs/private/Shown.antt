@@ -10,7 +10,7 @@ use Rattle.ml_front.specs.HeadRules.{IsHead}
 use Rattle.ml_refutation.specs.Views.{of_parts}
 use Rattle.ml_refutation.specs.declared.refutation.Refutation as held
 use Rattle.ml_refutation_text.specs.PartLines.{AreLinesOf}
-use Rattle.ml_refutation_text.specs.RefutationText.{IsTextOf}
+use Rattle.ml_refutation_text.specs.BodyRules.{IsTextOf}
 use Rattle.ml_refutation_text.specs.declared.lines.Lines.{Lines}
 use Rattle.ml_refute_check.specs.Documents.{first_body_line}
 

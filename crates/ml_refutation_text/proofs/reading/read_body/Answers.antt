@@ -2,7 +2,8 @@ use Rattle.std.proofs.Common.{◌≡◌, ◌+◌, map, refl, ap, ◌∙◌, arit
 use Rattle.ml_refutation.specs.Refutation.{Refutation}
 use Rattle.ml_refutation.specs.Views.{entry_of}
 use Rattle.ml_refutation_text.specs.BodyRules.{AtNames}
-use Rattle.ml_refutation_text.specs.PartLines.{lines_before, entries_size, parts_from}
+use Rattle.ml_refutation_text.specs.PartLines.{entries_size, parts_from}
+use Rattle.ml_refutation_text.specs.private.TextLines.{lines_before}
 use Rattle.ml_refutation_text.specs.private.Reads.{form_of}
 use Rattle.ml_refutation_text.proofs.Going.{goes_on, fault_on, room_on}
 use Rattle.ml_refutation_text.proofs.BodyRead.{names_goes, at_end, body_read}
