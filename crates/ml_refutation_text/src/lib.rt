@@ -2,8 +2,9 @@
 //
 // `write` gives the text of a refutation, and `read` the refutation of a text, with the lines at which the parts of its
 // entries begin, or the first bad line. In version 1 sequents and stacks stand in full where they are used; in version 2
-// each stands in a table, and is named by its place there. `specs/RefutationText.antt` says which texts are those of a
-// refutation, `specs/BodyRules.antt` where a text that is none is refused, `specs/PartLines.antt` which lines are told.
+// each stands in a table, and is named by its place there. `specs/BodyRules.antt` is the format of both: it says which
+// texts are those of a refutation, and where a text that is none is refused; `specs/PartLines.antt` says which lines are
+// told.
 //
 // Below stand `ml_refutation`, whose refutations these are, and `ml_lines`.
 #![tactic(auto)]
