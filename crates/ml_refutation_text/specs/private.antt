@@ -4,8 +4,10 @@
 pub mod Filings
 -- what the reader of a body knows
 pub mod Reads
--- rows of tables
+-- the stacks that were read
 pub mod ReadRows
+-- the sequents and stacks that a reader has
+pub mod ReadTables
 -- what it knows of words
 pub mod WordReads
 -- what it knows of the lines of an entry

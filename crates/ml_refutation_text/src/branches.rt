@@ -5,7 +5,6 @@ ghost use Rattle.ml_base.specs.declared.version.Version.{Version};
 ghost use Rattle.ml_lines.specs.Reading.{words_of, AreWords};
 ghost use Rattle.ml_refutation.specs.Refutation.{Entry, FitsCause, IsMarkOf};
 ghost use Rattle.ml_refutation.specs.Refutation as plain;
-ghost use Rattle.ml_refutation.specs.Views as views;
 ghost use Rattle.ml_refutation.specs.Views.{decision_of};
 ghost use Rattle.ml_refutation_text.specs.RefutationText.{decision_lines, cause_words, mark_words};
 ghost use Rattle.ml_refutation_text.specs.RefutationText as text;
@@ -19,7 +18,9 @@ use crate::rest::{Rest, fault, next_line};
 use crate::words::word_behind;
 use ml_base::{DocRefusal, NoMemory};
 use ml_lines::{are_words, more_words, one_word, read_number, split_word, two_words};
-use ml_refutation::{Cause, Decision, NESTING_LIMIT, Step};
+use ml_refutation::{Decision, NESTING_LIMIT};
+use ml_sequent::ClashCause;
+use ml_trace::Mark;
 use std::alloc::Global;
 
 /// A split around a line of a decision: with the right part still to come, or with the left one read.
@@ -162,8 +163,8 @@ fn clash_of(line: &[u8], rest: &[u8]) -> Result<Branch, BodyRule>
 }
 
 // the cause of a clash that these words tell
-fn cause_of(words: &[u8]) -> Result<Cause, BodyRule>
-    ensures read { IfOk result (λ x. (words_of words.now ≡ cause_words (views.cause_of x)) × FitsCause (views.cause_of x)) }
+fn cause_of(words: &[u8]) -> Result<ClashCause, BodyRule>
+    ensures read { IfOk result (λ x. (words_of words.now ≡ cause_words x) × FitsCause x) }
     ensures refused { IfErr result (LacksCause (words_of words.now)) }
 {
     let (kind, behind) = split_word(words);
@@ -173,17 +174,17 @@ fn cause_of(words: &[u8]) -> Result<Cause, BodyRule>
     };
     if kind == b"false".as_slice() {
         match one_number(rest) {
-            Ok(node) => Ok(Cause::False(node)),
+            Ok(node) => Ok(ClashCause::False(node)),
             Err(rule) => Err(rule),
         }
     } else if kind == b"pair".as_slice() {
         match two_numbers(rest) {
-            Ok((positive, negative)) => Ok(Cause::Pair(positive, negative)),
+            Ok((positive, negative)) => Ok(ClashCause::Pair(positive, negative)),
             Err(rule) => Err(rule),
         }
     } else if kind == b"cycle".as_slice() {
         match one_number(rest) {
-            Ok(node) => Ok(Cause::Cycle(node)),
+            Ok(node) => Ok(ClashCause::Cycle(node)),
             Err(rule) => Err(rule),
         }
     } else {
@@ -215,8 +216,8 @@ fn go_of(line: &[u8], rest: &[u8], names: u32, wanted: u32) -> Result<Branch, Bo
 }
 
 // the diamond, the entry and the mark that these words tell
-fn go_words(words: &[u8]) -> Result<(u32, u32, Step), BodyRule>
-    ensures read { IfOk result (λ g. (words_of words.now ≡ number g.0 ∷ number g.1 ∷ mark_words (views.mark_of g.2)) × (g.0 < 2 ^ 32) × (g.1 < 2 ^ 32) × FitsMark (views.mark_of g.2)) }
+fn go_words(words: &[u8]) -> Result<(u32, u32, Mark), BodyRule>
+    ensures read { IfOk result (λ g. (words_of words.now ≡ number g.0 ∷ number g.1 ∷ mark_words g.2) × (g.0 < 2 ^ 32) × (g.1 < 2 ^ 32) × FitsMark g.2) }
     ensures refused { IfErr result (LacksGo (words_of words.now)) }
 {
     let (diamond, rest) = match more_words(words) {
@@ -240,8 +241,8 @@ fn go_words(words: &[u8]) -> Result<(u32, u32, Step), BodyRule>
 }
 
 // the mark that these words tell
-fn mark_of(words: &[u8]) -> Result<Step, BodyRule>
-    ensures read { IfOk result (λ m. (words_of words.now ≡ mark_words (views.mark_of m)) × FitsMark (views.mark_of m)) }
+fn mark_of(words: &[u8]) -> Result<Mark, BodyRule>
+    ensures read { IfOk result (λ m. (words_of words.now ≡ mark_words m) × FitsMark m) }
     ensures refused { IfErr result (LacksMark (words_of words.now)) }
 {
     let (color, behind) = split_word(words);
@@ -249,12 +250,12 @@ fn mark_of(words: &[u8]) -> Result<Step, BodyRule>
         Some(rest) => {
             if color == b"red".as_slice() {
                 match one_number(rest) {
-                    Ok(name) => Ok(Step::Red(name)),
+                    Ok(name) => Ok(Mark::Red(name)),
                     Err(rule) => Err(rule),
                 }
             } else if color == b"green".as_slice() {
                 match one_number(rest) {
-                    Ok(name) => Ok(Step::Green(name)),
+                    Ok(name) => Ok(Mark::Green(name)),
                     Err(rule) => Err(rule),
                 }
             } else {
@@ -263,7 +264,7 @@ fn mark_of(words: &[u8]) -> Result<Step, BodyRule>
         }
         None => {
             if color == b"neutral".as_slice() {
-                Ok(Step::Neutral)
+                Ok(Mark::Neutral)
             } else {
                 Err(BodyRule::OfKind)
             }
@@ -272,13 +273,13 @@ fn mark_of(words: &[u8]) -> Result<Step, BodyRule>
 }
 
 // is the mark's name one of so many?
-fn is_mark(mark: Step, names: u32) -> bool
-    ensures yes { IsTrue result → IsMarkOf names (views.mark_of mark) }
-    ensures otherwise { result ≡ false → ¬ (IsMarkOf names (views.mark_of mark)) }
+fn is_mark(mark: Mark, names: u32) -> bool
+    ensures yes { IsTrue result → IsMarkOf names mark }
+    ensures otherwise { result ≡ false → ¬ (IsMarkOf names mark) }
 {
     match mark {
-        Step::Red(name) | Step::Green(name) => name < names,
-        Step::Neutral => true,
+        Mark::Red(name) | Mark::Green(name) => name < names,
+        Mark::Neutral => true,
     }
 }
 

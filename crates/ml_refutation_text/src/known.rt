@@ -1,29 +1,23 @@
-// What a text tells before its entries.
+// What a text tells before its entries, and the lists that its entries name.
 ghost use Rattle.std.specs.Prelude.{All};
 ghost use Rattle.ml_lists.specs.Ascending.{IsAscending};
-ghost use Rattle.ml_refutation_text.specs.private.ReadRows.{rows_of, prop_rows};
+ghost use Rattle.ml_refutation_text.specs.private.ReadRows.{prop_rows};
 
-use std::rc::Rc;
+use ml_base::Version;
+use ml_refutation::Lists;
 
-/// Sequents and stacks, each as a line of a table of version 2 has it, shared by all that name the line.
+/// The sequents and stacks that were read: in version 1 those of the entries so far, in version 2 the tables.
 #[derive(Drop)]
-pub(crate) struct ReadTables {
-    pub(crate) sequents: Vec<Rc<Vec<u32>>>,
-    pub(crate) stacks: Vec<Rc<Vec<u32>>>,
-    pub(crate) ghost ascend: { All IsAscending (rows_of stacks) } by { prop_rows (rows_of stacks) },
+pub(crate) struct Tables {
+    pub(crate) sequents: Lists,
+    pub(crate) stacks: Lists,
+    pub(crate) ghost ascend: { All IsAscending stacks } by { prop_rows stacks },
 }
 
-/// Sequents and stacks in full, or by their places in tables.
-#[derive(Drop)]
-pub(crate) enum Form {
-    InFull,
-    ByTables(ReadTables),
-}
-
-/// The number of names, the form, and how many entries there are to be.
-#[derive(Drop)]
+/// The number of names, the version, and how many entries there are to be.
+#[derive(Clone, Copy)]
 pub(crate) struct Known {
     pub(crate) names: u32,
-    pub(crate) form: Form,
+    pub(crate) version: Version,
     pub(crate) wanted: u32,
 }

@@ -9,20 +9,21 @@ ghost use Rattle.ml_refutation_text.specs.RefutationText as text;
 ghost use Rattle.ml_refutation_text.specs.PartLines.{AreLinesOf};
 ghost use Rattle.ml_refutation_text.specs.private.TextLines.{lines_before};
 ghost use Rattle.ml_refutation_text.specs.BodyRules.{IsFaultOf, AtNames, AtEntries, AtEnd, AtNothing, after_names, at_entry};
-ghost use Rattle.ml_refutation_text.specs.private.Reads.{form_of, version_of, HasRoom, Goes, TellsFault};
+ghost use Rattle.ml_refutation_text.specs.private.Reads.{HasRoom, Goes, TellsFault};
+ghost use Rattle.ml_refutation_text.specs.private.ReadTables.{form_of};
 ghost use Rattle.ml_refutation_text.specs.private.ItemReads.{knows};
 ghost use Rattle.ml_refutation_text.specs.private.BodyReads.{IsBodyRead};
 ghost use Rattle.ml_refutation_text.specs.Laws.{IsRefutationText};
 
 use crate::body_rule::BodyRule;
 use crate::entries::read_entries;
-use crate::known::{Form, Known};
+use crate::known::{Known, Tables};
 use crate::lines::{EntryLines, Lines};
 use crate::rest::{Rest, fault, next_line};
 use crate::rows::read_tables;
 use crate::words::read_numbered;
 use ml_base::{DocRefusal, Version};
-use ml_refutation::{Entry, Refutation};
+use ml_refutation::{Entry, Lists, Refutation};
 use std::alloc::Global;
 
 /// The refutation whose text in a version this is, and the lines at which the parts of its entries begin: the body of an
@@ -44,8 +45,8 @@ pub fn read(
     version: Version,
 ) -> Result<(Refutation, Lines), DocRefusal>
     requires { first_line ≤ 2 ^ 63 }
-    ensures text { IfOk result (λ r. IsTextOf version bytes.now (of_parts r.0.names r.0.entries)) }
-    ensures lines { IfOk result (λ r. AreLinesOf version bytes.now first_line (of_parts r.0.names r.0.entries) r.1.entries.items) }
+    ensures text { IfOk result (λ r. IsTextOf version bytes.now (of_parts r.0.names r.0.sequents r.0.stacks r.0.entries)) }
+    ensures lines { IfOk result (λ r. AreLinesOf version bytes.now first_line (of_parts r.0.names r.0.sequents r.0.stacks r.0.entries) r.1.entries.items) }
     ensures refused { (fault : DocFault) → IsErrOf result (DocRefusal.Fault fault) → IsFaultOf version bytes.now first_line fault }
     ensures no_text { (fault : DocFault) → IsErrOf result (DocRefusal.Fault fault) → ¬ (IsRefutationText version bytes.now) }
 {
@@ -54,29 +55,29 @@ pub fn read(
         line: first_line,
     };
     match read_body(alloc, at, version) {
-        Ok((names, entries, parts)) => Ok((
-            Refutation::new(names, entries),
+        Ok((names, tables, entries, parts)) => Ok((
+            Refutation::new(names, tables.sequents, tables.stacks, entries),
             Lines { entries: parts },
         )),
         Err(refusal) => Err(refusal),
     }
 }
 
-// the number of names, the entries and the lines of their parts
+// the number of names, the sequents and stacks, the entries and the lines of their parts
 fn read_body(
     alloc: Global,
     at: Rest,
     version: Version,
-) -> Result<(u32, Vec<Entry>, Vec<EntryLines>), DocRefusal>
+) -> Result<(u32, Tables, Vec<Entry>, Vec<EntryLines>), DocRefusal>
     requires { HasRoom at }
-    ensures read { IfOk result (λ r. IsBodyRead version at.entry.text.now at.entry.line (of_parts r.0 r.1) r.2.items) }
+    ensures read { IfOk result (λ r. IsBodyRead version at.entry.text.now at.entry.line (of_parts r.0 r.1.sequents r.1.stacks r.2) r.3.items) }
     ensures refused { IfErr result (TellsFault version AtNames at.entry) }
 {
     let (names, at_form) = match read_numbered(at, b"names") {
         Ok(read) => read,
         Err(refusal) => return Err(refusal),
     };
-    let (form, at_count) = match read_form(alloc, at_form, names, version) {
+    let (mut tables, at_count) = match read_form(alloc, at_form, names, version) {
         Ok(read) => read,
         Err(refusal) => return Err(refusal),
     };
@@ -86,38 +87,40 @@ fn read_body(
     };
     let known = Known {
         names,
-        form,
+        version,
         wanted,
     };
-    let (entries, parts, at_end) = match read_entries(alloc, at_entries, &known) {
+    let (entries, parts, at_end) = match read_entries(alloc, at_entries, known, &mut tables) {
         Ok(read) => read,
         Err(refusal) => return Err(refusal),
     };
     match read_end(at_end) {
-        Ok(_) => Ok((names, entries, parts)),
+        Ok(_) => Ok((names, tables, entries, parts)),
         Err(refusal) => Err(refusal),
     }
 }
 
-// the form of this version, with its tables, if it has any
+// the tables of this version, and none yet where sequents and stacks stand in full
 fn read_form<'a>(
     alloc: Global,
     at: Rest<'a>,
     names: u32,
     version: Version,
-) -> Result<(Form, Rest<'a>), DocRefusal>
+) -> Result<(Tables, Rest<'a>), DocRefusal>
     requires { HasRoom at }
-    ensures read { IfOk result (λ r. Goes version (after_names version names) at.entry (AtEntries names (form_of r.0)) r.1) }
-    ensures counted { IfOk result (λ r. r.1.line + 2 ≡ at.entry.line + lines_before (form_of r.0)) }
-    ensures version { IfOk result (λ r. version_of (form_of r.0) ≡ version) }
+    ensures read { IfOk result (λ r. Goes version (after_names version names) at.entry (AtEntries names (form_of version r.0)) r.1) }
+    ensures counted { IfOk result (λ r. r.1.line + 2 ≡ at.entry.line + lines_before (form_of version r.0)) }
     ensures refused { IfErr result (TellsFault version (after_names version names) at.entry) }
 {
     match version {
-        Version::One => Ok((Form::InFull, at)),
-        Version::Two => match read_tables(alloc, at, names) {
-            Ok((tables, rest)) => Ok((Form::ByTables(tables), rest)),
-            Err(refusal) => Err(refusal),
-        },
+        Version::One => Ok((
+            Tables {
+                sequents: Lists::new(alloc),
+                stacks: Lists::new(alloc),
+            },
+            at,
+        )),
+        Version::Two => read_tables(alloc, at, names),
     }
 }
 

@@ -7,27 +7,27 @@ ghost use Rattle.ml_refutation_text.specs.LineKinds.{IsOfKind};
 ghost use Rattle.ml_refutation_text.specs.RefutationText.{sequent_line, stack_line};
 ghost use Rattle.ml_refutation_text.specs.RefutationText as text;
 ghost use Rattle.ml_refutation_text.specs.BodyRules.{Known, AtSequents, AtTableSequent, AtSequent, AtStacks, AtTableStack, AtEntries, at_sequent_table, at_stack_table, stack_kind};
-ghost use Rattle.ml_refutation_text.specs.private.Reads.{rows_of, HasRoom, Goes, Breaks, TellsFault, TellsRule};
+ghost use Rattle.ml_refutation_text.specs.private.Reads.{HasRoom, Goes, Breaks, TellsFault, TellsRule};
 ghost use Rattle.ml_lists.specs.Ascending.{IsAscending};
 ghost use Rattle.ml_refutation_text.specs.private.EntryReads.{IsSequentRead, TellsSequent, IsStacks};
 
 use crate::body_rule::BodyRule;
-use crate::known::ReadTables;
+use crate::known::Tables;
 use crate::lists::{are_names, ascends};
 use crate::rest::{LineRefusal, Rest, at_line, fault, next_line};
 use crate::words::{listed_words, read_any, read_numbered, read_numbers, word_behind};
 use ml_base::DocRefusal;
 use ml_lines::{are_words, more_words};
+use ml_refutation::Lists;
 use std::alloc::Global;
-use std::rc::Rc;
 
 // a line with a sequent
 pub(crate) fn read_sequent<'a>(
     alloc: Global,
     at: Rest<'a>,
-) -> Result<(Rc<Vec<u32>>, Rest<'a>), DocRefusal>
+) -> Result<(Vec<u32>, Rest<'a>), DocRefusal>
     requires { HasRoom at }
-    ensures read { IfOk result (λ r. IsSequentRead at.entry r.0.value.items r.1) }
+    ensures read { IfOk result (λ r. IsSequentRead at.entry r.0.items r.1) }
     ensures refused { IfErr result (TellsSequent at.entry) }
 {
     let (line, rest) = match next_line(at) {
@@ -41,8 +41,8 @@ pub(crate) fn read_sequent<'a>(
 }
 
 // the sequent that a line tells
-fn sequent_of(alloc: Global, line: &[u8]) -> Result<Rc<Vec<u32>>, LineRefusal>
-    ensures read { IfOk result (λ q. (words_of line.now ≡ sequent_line q.value.items) × All plain.Fits q.value.items × IsAscending q.value.items) }
+fn sequent_of(alloc: Global, line: &[u8]) -> Result<Vec<u32>, LineRefusal>
+    ensures read { IfOk result (λ q. (words_of line.now ≡ sequent_line q.items) × All plain.Fits q.items × IsAscending q.items) }
     ensures table { IfErr result (λ e. (names size : ℕ) (rows : List (List ℕ)) → TellsRule (AtTableSequent names size rows) (words_of line.now) e) }
     ensures entry { IfErr result (λ e. (k : Known) (es : List plain.Entry) → TellsRule (AtSequent k es) (words_of line.now) e) }
 {
@@ -50,7 +50,7 @@ fn sequent_of(alloc: Global, line: &[u8]) -> Result<Rc<Vec<u32>>, LineRefusal>
         Some(behind) => match read_numbers(alloc, behind)? {
             Some(sequent) => {
                 if ascends(&sequent) {
-                    Ok(Rc::new(alloc, sequent)?)
+                    Ok(sequent)
                 } else {
                     Err(LineRefusal::Breaks(BodyRule::SequentAscends))
                 }
@@ -66,10 +66,10 @@ pub(crate) fn read_tables<'a>(
     alloc: Global,
     at: Rest<'a>,
     names: u32,
-) -> Result<(ReadTables, Rest<'a>), DocRefusal>
+) -> Result<(Tables, Rest<'a>), DocRefusal>
     requires { HasRoom at }
-    ensures read { IfOk result (λ r. (v : Version) → Goes v (AtSequents names) at.entry (AtEntries names (text.ByTables (rows_of r.0.sequents) (rows_of r.0.stacks))) r.1) }
-    ensures counted { IfOk result (λ r. r.1.line ≡ at.entry.line + 2 + length r.0.sequents.items + length r.0.stacks.items) }
+    ensures read { IfOk result (λ r. (v : Version) → Goes v (AtSequents names) at.entry (AtEntries names (text.ByTables r.0.sequents r.0.stacks)) r.1) }
+    ensures counted { IfOk result (λ r. r.1.line ≡ at.entry.line + 2 + length r.0.sequents + length r.0.stacks) }
     ensures refused { IfErr result (λ e. (v : Version) → TellsFault v (AtSequents names) at.entry e) }
 {
     let (sequents, behind) = match read_sequents(alloc, at) {
@@ -77,7 +77,7 @@ pub(crate) fn read_tables<'a>(
         Err(refusal) => return Err(refusal),
     };
     match read_stacks(alloc, behind, names) {
-        Ok((stacks, rest)) => Ok((ReadTables { sequents, stacks }, rest)),
+        Ok((stacks, rest)) => Ok((Tables { sequents, stacks }, rest)),
         Err(refusal) => Err(refusal),
     }
 }
@@ -86,10 +86,10 @@ pub(crate) fn read_tables<'a>(
 fn read_sequents<'a>(
     alloc: Global,
     at: Rest<'a>,
-) -> Result<(Vec<Rc<Vec<u32>>>, Rest<'a>), DocRefusal>
+) -> Result<(Lists, Rest<'a>), DocRefusal>
     requires { HasRoom at }
-    ensures read { IfOk result (λ r. (v : Version) (names : ℕ) → Goes v (AtSequents names) at.entry (AtStacks names (rows_of r.0)) r.1) }
-    ensures counted { IfOk result (λ r. r.1.line ≡ at.entry.line + 1 + length r.0.items) }
+    ensures read { IfOk result (λ r. (v : Version) (names : ℕ) → Goes v (AtSequents names) at.entry (AtStacks names r.0) r.1) }
+    ensures counted { IfOk result (λ r. r.1.line ≡ at.entry.line + 1 + length r.0) }
     ensures refused { IfErr result (λ e. (v : Version) (names : ℕ) → TellsFault v (AtSequents names) at.entry e) }
 {
     let (size, behind) = match read_numbered(at, b"sequents") {
@@ -104,20 +104,20 @@ fn read_sequent_rows<'a>(
     alloc: Global,
     at: Rest<'a>,
     size: u32,
-) -> Result<(Vec<Rc<Vec<u32>>>, Rest<'a>), DocRefusal>
+) -> Result<(Lists, Rest<'a>), DocRefusal>
     requires { HasRoom at }
-    ensures read { IfOk result (λ r. (v : Version) (names : ℕ) → Goes v (at_sequent_table names size []) at.entry (AtStacks names (rows_of r.0)) r.1) }
-    ensures counted { IfOk result (λ r. r.1.line ≡ at.entry.line + length r.0.items) }
+    ensures read { IfOk result (λ r. (v : Version) (names : ℕ) → Goes v (at_sequent_table names size []) at.entry (AtStacks names r.0) r.1) }
+    ensures counted { IfOk result (λ r. r.1.line ≡ at.entry.line + length r.0) }
     ensures refused { IfErr result (λ e. (v : Version) (names : ℕ) → TellsFault v (at_sequent_table names size []) at.entry e) }
 {
-    let mut rows: Vec<Rc<Vec<u32>>> = Vec::new(alloc);
+    let mut rows = Lists::new(alloc);
     let mut rest = at;
     'rows: while (rows.len() as u64) < u64::from(size) {
         let (sequent, behind) = match read_sequent(alloc, rest) {
             Ok(read) => read,
             Err(refusal) => return Err(refusal),
         };
-        rows.push(sequent)?;
+        rows.push(&sequent)?;
         rest = behind;
     }
     Ok((rows, rest))
@@ -128,11 +128,11 @@ fn read_stacks<'a>(
     alloc: Global,
     at: Rest<'a>,
     names: u32,
-) -> Result<(Vec<Rc<Vec<u32>>>, Rest<'a>), DocRefusal>
+) -> Result<(Lists, Rest<'a>), DocRefusal>
     requires { HasRoom at }
-    ensures read { IfOk result (λ r. (v : Version) (qs : List (List ℕ)) → Goes v (AtStacks names qs) at.entry (AtEntries names (text.ByTables qs (rows_of r.0))) r.1) }
-    ensures counted { IfOk result (λ r. r.1.line ≡ at.entry.line + 1 + length r.0.items) }
-    ensures ascend { IfOk result (λ r. All IsAscending (rows_of r.0)) }
+    ensures read { IfOk result (λ r. (v : Version) (qs : List (List ℕ)) → Goes v (AtStacks names qs) at.entry (AtEntries names (text.ByTables qs r.0)) r.1) }
+    ensures counted { IfOk result (λ r. r.1.line ≡ at.entry.line + 1 + length r.0) }
+    ensures ascend { IfOk result (λ r. All IsAscending r.0) }
     ensures refused { IfErr result (λ e. (v : Version) (qs : List (List ℕ)) → TellsFault v (AtStacks names qs) at.entry e) }
 {
     let (line, behind) = match next_line(at) {
@@ -151,17 +151,17 @@ fn read_stack_rows<'a>(
     at: Rest<'a>,
     names: u32,
     size: u64,
-) -> Result<(Vec<Rc<Vec<u32>>>, Rest<'a>), DocRefusal>
+) -> Result<(Lists, Rest<'a>), DocRefusal>
     requires room { HasRoom at }
     requires some { 0 < at.line }
     ensures read { IfOk result (λ r. (v : Version) (count : ℕ) (qs : List (List ℕ)) → size ≡ min count (2 ^ 64 - 1)
-        → Goes v (at_stack_table names qs count []) at.entry (AtEntries names (text.ByTables qs (rows_of r.0))) r.1) }
-    ensures counted { IfOk result (λ r. r.1.line ≡ at.entry.line + length r.0.items) }
-    ensures ascend { IfOk result (λ r. All IsAscending (rows_of r.0)) }
+        → Goes v (at_stack_table names qs count []) at.entry (AtEntries names (text.ByTables qs r.0)) r.1) }
+    ensures counted { IfOk result (λ r. r.1.line ≡ at.entry.line + length r.0) }
+    ensures ascend { IfOk result (λ r. All IsAscending r.0) }
     ensures refused { IfErr result (λ e. (v : Version) (count : ℕ) (qs : List (List ℕ)) → size ≡ min count (2 ^ 64 - 1)
         → TellsFault v (at_stack_table names qs count []) at.entry e) }
 {
-    let mut rows: Vec<Rc<Vec<u32>>> = Vec::new(alloc);
+    let mut rows = Lists::new(alloc);
     let mut rest = at;
     'rows: while (rows.len() as u64) < size {
         let (line, behind) = match next_line(rest) {
@@ -172,7 +172,7 @@ fn read_stack_rows<'a>(
             Ok(stack) => stack,
             Err(refusal) => return Err(at_line(rest.line, refusal)),
         };
-        rows.push(stack)?;
+        rows.push(&stack)?;
         rest = behind;
     }
     Ok((rows, rest))
@@ -193,15 +193,15 @@ fn stacks_of(line: &[u8]) -> Result<u64, BodyRule>
 }
 
 // the stack that a line of its table tells
-fn stack_of(alloc: Global, line: &[u8], names: u32) -> Result<Rc<Vec<u32>>, LineRefusal>
-    ensures read { IfOk result (λ ns. (words_of line.now ≡ stack_line ns.value.items) × plain.IsStack names ns.value.items) }
+fn stack_of(alloc: Global, line: &[u8], names: u32) -> Result<Vec<u32>, LineRefusal>
+    ensures read { IfOk result (λ ns. (words_of line.now ≡ stack_line ns.items) × plain.IsStack names ns.items) }
     ensures refused { IfErr result (λ e. (qs rows : List (List ℕ)) (size : ℕ) → TellsRule (AtTableStack names qs size rows) (words_of line.now) e) }
 {
     match stack_words(line) {
         Some(behind) => match read_numbers(alloc, Some(behind))? {
             Some(stack) => {
                 if are_names(&stack, names) {
-                    Ok(Rc::new(alloc, stack)?)
+                    Ok(stack)
                 } else {
                     Err(LineRefusal::Breaks(BodyRule::ItemsAscend))
                 }

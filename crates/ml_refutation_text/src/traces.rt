@@ -11,20 +11,21 @@ ghost use Rattle.ml_refutation_text.specs.RefutationText.{guess_word};
 ghost use Rattle.ml_refutation_text.specs.RefutationText as text;
 ghost use Rattle.ml_refutation_text.specs.BodyRules.{AtItem, AtDecision};
 ghost use Rattle.ml_base.specs.declared.version.Version.{Version};
-ghost use Rattle.ml_refutation_text.specs.private.Reads.{form_of, rows_of, HasRoom, Goes, TellsFault};
+ghost use Rattle.ml_base.specs.declared.version.Version.TheVariants.{One};
+ghost use Rattle.ml_refutation_text.specs.private.Reads.{HasRoom, Goes, TellsFault};
+ghost use Rattle.ml_refutation_text.specs.private.ReadTables.{form_of, known_of, Grows};
 ghost use Rattle.ml_refutation_text.specs.private.WordReads.{FitsAGuess};
 ghost use Rattle.ml_refutation_text.specs.private.ItemReads.{knows, AreNames, IsItemed, before_of, IsItemOf, TellsItem, IsTraceLine, TellsTrace, IsHeights, LacksStack};
 
 use crate::body_rule::BodyRule;
-use crate::known::{Form, ReadTables};
+use crate::known::{Known, Tables};
 use crate::lists::{are_names, ascend_below};
 use crate::rest::{LineRefusal, Rest, at_line, next_line};
 use crate::words::{listed_words, read_any, read_guess, read_numbers};
-use ml_base::DocRefusal;
+use ml_base::{DocRefusal, Version};
 use ml_lines::{are_words, more_words, one_word, read_number};
-use ml_refutation::Item;
+use ml_refutation::{Item, Lists};
 use std::alloc::Global;
-use std::rc::Rc;
 
 /// A line of an entry behind the number of names in use.
 #[derive(Drop)]
@@ -37,18 +38,19 @@ pub(crate) enum TraceLine {
 pub(crate) fn read_traces<'a>(
     alloc: Global,
     at: Rest<'a>,
-    form: &Form,
-    names: u32,
+    known: Known,
+    tables: &mut Tables,
     live: u32,
 ) -> Result<(Vec<Item>, Vec<u32>, Rest<'a>), DocRefusal>
     requires room { HasRoom at }
-    requires within { live ≤ names }
-    ensures read { IfOk result (λ r. (v : Version) (wanted : ℕ) (es : List Entry) (q : List ℕ)
-        → Goes v (AtItem (knows names (form_of form.now) wanted) es q (record { live = live; items = [] })) at.entry
-        (AtDecision (knows names (form_of form.now) wanted) es (record { sequent = q; traces = record { live = live; items = map item_of r.0.items }; heights = r.1.items }) []) r.2) }
+    requires within { live ≤ known.names }
+    ensures read { IfOk result (λ r. (v : Version) (es : List Entry) (q : List ℕ) (later : Tables) → Grows known.version tables.new later
+        → Goes v (AtItem (known_of known tables.old) es q (record { live = live; items = [] })) at.entry
+        (AtDecision (known_of known tables.old) es (record { sequent = q; traces = record { live = live; items = map (item_of later.stacks) r.0.items }; heights = r.1.items }) []) r.2) }
+    ensures grows { Grows known.version tables.old tables.new }
     ensures counted { IfOk result (λ r. r.2.line ≡ at.entry.line + length r.0.items + 1) }
-    ensures refused { IfErr result (λ e. (v : Version) (wanted : ℕ) (es : List Entry) (q : List ℕ)
-        → TellsFault v (AtItem (knows names (form_of form.now) wanted) es q (record { live = live; items = [] })) at.entry e) }
+    ensures refused { IfErr result (λ e. (v : Version) (es : List Entry) (q : List ℕ)
+        → TellsFault v (AtItem (known_of known tables.old) es q (record { live = live; items = [] })) at.entry e) }
 {
     let mut items: Vec<Item> = Vec::new(alloc);
     let mut rest = at;
@@ -57,7 +59,7 @@ pub(crate) fn read_traces<'a>(
             Ok(next) => next,
             Err(refusal) => return Err(refusal),
         };
-        let told = match trace_line(alloc, line, form, names, live, items.last()) {
+        let told = match trace_line(alloc, line, known, tables, live, items.last()) {
             Ok(told) => told,
             Err(refusal) => return Err(at_line(rest.line, refusal)),
         };
@@ -73,20 +75,22 @@ pub(crate) fn read_traces<'a>(
 fn trace_line(
     alloc: Global,
     line: &[u8],
-    form: &Form,
-    names: u32,
+    known: Known,
+    tables: &mut Tables,
     live: u32,
     before: Option<&Item>,
 ) -> Result<TraceLine, LineRefusal>
-    ensures read { IfOk result (IsTraceLine (form_of form.now) names live (before_of (option_copied before.entry)) (words_of line.now)) }
-    ensures refused { IfErr result (TellsTrace (form_of form.now) names live (before_of (option_copied before.entry)) (words_of line.now)) }
+    ensures read { IfOk result (λ told. (later : Tables) → Grows known.version tables.new later
+        → IsTraceLine (form_of known.version tables.old) known.names live (before_of (option_copied before.entry)) (words_of line.now) later.stacks told) }
+    ensures grows { Grows known.version tables.old tables.new }
+    ensures refused { IfErr result (TellsTrace (form_of known.version tables.old) known.names live (before_of (option_copied before.entry)) (words_of line.now)) }
 {
     match listed_words(line, b"heights") {
-        Some(behind) => match heights_of(alloc, line, names, behind) {
+        Some(behind) => match heights_of(alloc, line, known.names, behind) {
             Ok(heights) => Ok(TraceLine::Heights(heights)),
             Err(refusal) => Err(refusal),
         },
-        None => match item_at(alloc, line, form, live, before) {
+        None => match item_at(alloc, line, known.version, tables, live, before) {
             Ok(item) => Ok(TraceLine::Item(item)),
             Err(refusal) => Err(refusal),
         },
@@ -97,16 +101,19 @@ fn trace_line(
 fn item_at(
     alloc: Global,
     line: &[u8],
-    form: &Form,
+    version: Version,
+    tables: &mut Tables,
     live: u32,
     before: Option<&Item>,
 ) -> Result<Item, LineRefusal>
-    ensures read { IfOk result (λ a. IsItemOf (form_of form.now) live (before_of (option_copied before.entry)) (words_of line.now) (item_of a)) }
-    ensures refused { IfErr result (λ e. (names : ℕ) → TellsItem (form_of form.now) names live (before_of (option_copied before.entry)) (words_of line.now) e) }
+    ensures read { IfOk result (λ a. (later : Tables) → Grows version tables.new later
+        → IsItemOf (form_of version tables.old) live (before_of (option_copied before.entry)) (words_of line.now) (item_of later.stacks a)) }
+    ensures grows { Grows version tables.old tables.new }
+    ensures refused { IfErr result (λ e. (names : ℕ) → TellsItem (form_of version tables.old) names live (before_of (option_copied before.entry)) (words_of line.now) e) }
 {
-    match form {
-        Form::InFull => item_in_full(alloc, line, live, before),
-        Form::ByTables(tables) => item_by_table(line, tables, live, before),
+    match version {
+        Version::One => item_in_full(alloc, line, tables, live, before),
+        Version::Two => item_by_table(line, tables, live, before),
     }
 }
 
@@ -138,10 +145,13 @@ fn heights_of(
 fn item_in_full(
     alloc: Global,
     line: &[u8],
+    tables: &mut Tables,
     live: u32,
     before: Option<&Item>,
 ) -> Result<Item, LineRefusal>
-    ensures read { IfOk result (λ a. IsItemOf text.InFull live (before_of (option_copied before.entry)) (words_of line.now) (item_of a)) }
+    ensures read { IfOk result (λ a. (later : Tables) → Grows One tables.new later
+        → IsItemOf text.InFull live (before_of (option_copied before.entry)) (words_of line.now) (item_of later.stacks a)) }
+    ensures grows { Grows One tables.old tables.new }
     ensures refused { IfErr result (λ e. (names : ℕ) → TellsItem text.InFull names live (before_of (option_copied before.entry)) (words_of line.now) e) }
 {
     match item_words(line) {
@@ -149,7 +159,7 @@ fn item_in_full(
             Some((node, odd)) => match read_numbers(alloc, Some(rest))? {
                 Some(stack) => {
                     if comes_behind(before, node, odd) && are_names(&stack, live) {
-                        let stack = Rc::new(alloc, stack)?;
+                        let stack = tables.stacks.push(&stack)?;
                         Ok(Item { node, odd, stack })
                     } else {
                         Err(LineRefusal::Breaks(BodyRule::ItemsAscend))
@@ -166,13 +176,13 @@ fn item_in_full(
 // the item that a line of version 2 tells, behind another one or none
 fn item_by_table(
     line: &[u8],
-    tables: &ReadTables,
+    tables: &Tables,
     live: u32,
     before: Option<&Item>,
 ) -> Result<Item, LineRefusal>
-    ensures read { IfOk result (λ a. (qs : List (List ℕ)) → IsItemOf (text.ByTables qs (rows_of tables.now.stacks)) live (before_of (option_copied before.entry)) (words_of line.now) (item_of a)) }
+    ensures read { IfOk result (λ a. (qs : List (List ℕ)) → IsItemOf (text.ByTables qs tables.now.stacks) live (before_of (option_copied before.entry)) (words_of line.now) (item_of tables.now.stacks a)) }
     ensures refused { IfErr result (λ e. (names : ℕ) (qs : List (List ℕ))
-        → TellsItem (text.ByTables qs (rows_of tables.now.stacks)) names live (before_of (option_copied before.entry)) (words_of line.now) e) }
+        → TellsItem (text.ByTables qs tables.now.stacks) names live (before_of (option_copied before.entry)) (words_of line.now) e) }
 {
     match item_words(line) {
         Some((node, guess, rest)) => match one_word(rest) {
@@ -197,17 +207,17 @@ fn item_by_table(
     }
 }
 
-// the stack of this number, whose names have to be in use
-fn stack_at(tables: &ReadTables, place: u64, live: u32) -> Result<Rc<Vec<u32>>, LineRefusal>
-    ensures read { IfOk result (λ ns. (slice_get (rows_of tables.now.stacks) place ≡ Some ns.value.items) × (place < 2 ^ 64 - 1) × AreNames live ns.value.items) }
-    ensures refused { IfErr result (LacksStack (rows_of tables.now.stacks) place live) }
+// the place of the stack of this number, whose names have to be in use
+fn stack_at(tables: &Tables, number: u64, live: u32) -> Result<usize, LineRefusal>
+    ensures read { IfOk result (λ place. (place ≡ number) × (place < length tables.now.stacks) × AreNames live (slice_index_or tables.now.stacks place [])) }
+    ensures refused { IfErr result (LacksStack tables.now.stacks number live) }
 {
-    if place >= tables.stacks.len() as u64 {
+    if number >= tables.stacks.len() as u64 {
         return Err(LineRefusal::Breaks(BodyRule::InTables));
     }
-    let stack = &tables.stacks[place as usize];
-    if ascend_below(stack.as_slice(), live) {
-        Ok(Rc::clone(stack)?)
+    let place = number as usize;
+    if ascend_below(tables.stacks.at(place), live) {
+        Ok(place)
     } else {
         Err(LineRefusal::Breaks(BodyRule::ItemsAscend))
     }

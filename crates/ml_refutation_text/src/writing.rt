@@ -2,7 +2,7 @@
 ghost use Rattle.std.specs.Prelude.{◌≡◌, ◌+◌, ◌<◌, ◌^◌, [], ◌∷◌, ◌++◌, map, length, codes, take, IfOk, OnOk, OnErr, vec_len};
 ghost use Rattle.std.specs.List.{flat_map};
 ghost use Rattle.ml_lines.specs.Lines.{number, next, line_text, text_of};
-ghost use Rattle.ml_refutation.specs.Views.{cause_of, mark_of, decision_of, item_of, entry_of, of_parts};
+ghost use Rattle.ml_refutation.specs.Views.{decision_of, item_of, entry_of, of_parts};
 ghost use Rattle.ml_refutation_text.specs.RefutationText.{numbers, guess_word, item_line, clash_line, go_line, decision_lines};
 ghost use Rattle.ml_refutation_text.specs.BodyRules.{IsTextOf};
 ghost use Rattle.ml_refutation_text.specs.WrittenText.{IsCounted, stacks_of as used, written_text, entry_lines, entries_lines, table_lines, last_lines, lines_by_tables};
@@ -11,7 +11,9 @@ ghost use Rattle.ml_refutation_text.specs.private.Filings.{shown, writing_of};
 use crate::tables::{Filing, Table, Tables, place_of, tables_of};
 use ml_base::{NoMemory, Version};
 use ml_lines::{end_line, whole_or_none, write_next_number, write_next_word, write_word};
-use ml_refutation::{Cause, Decision, Entry, Item, Refutation, Step};
+use ml_refutation::{Decision, Entry, Item, Lists, Refutation};
+use ml_sequent::ClashCause;
+use ml_trace::Mark;
 use std::alloc::Global;
 
 /// The text of a refutation in a version: the body of an unsatisfiable document. In version 2 each sequent and each stack
@@ -22,8 +24,8 @@ use std::alloc::Global;
 ///
 /// Cost: linear in the text of version 1, in both versions.
 pub fn write(alloc: Global, refutation: &Refutation, version: Version) -> Result<Vec<u8>, NoMemory>
-    ensures text { IfOk result (λ bytes. bytes.items ≡ written_text version (of_parts refutation.now.names refutation.now.entries)) }
-    ensures is_text { IfOk result (λ bytes. IsTextOf version bytes.items (of_parts refutation.now.names refutation.now.entries)) }
+    ensures text { IfOk result (λ bytes. bytes.items ≡ written_text version (of_parts refutation.now.names refutation.now.sequents refutation.now.stacks refutation.now.entries)) }
+    ensures is_text { IfOk result (λ bytes. IsTextOf version bytes.items (of_parts refutation.now.names refutation.now.sequents refutation.now.stacks refutation.now.entries)) }
 {
     let mut out = Vec::new(alloc);
     append_refutation(alloc, &mut out, refutation, version)?;
@@ -42,8 +44,8 @@ pub fn append_refutation(
     refutation: &Refutation,
     version: Version,
 ) -> Result<(), NoMemory>
-    ensures text { OnOk result (out.new.items ≡ out.old.items ++ written_text version (of_parts refutation.now.names refutation.now.entries)) }
-    ensures counted { OnOk result (IsCounted version (of_parts refutation.now.names refutation.now.entries)) }
+    ensures text { OnOk result (out.new.items ≡ out.old.items ++ written_text version (of_parts refutation.now.names refutation.now.sequents refutation.now.stacks refutation.now.entries)) }
+    ensures counted { OnOk result (IsCounted version (of_parts refutation.now.names refutation.now.sequents refutation.now.stacks refutation.now.entries)) }
     ensures kept { OnErr result (out.new.items ≡ out.old.items) }
 {
     let end = out.len();
@@ -58,27 +60,26 @@ fn write_parts(
     refutation: &Refutation,
     version: Version,
 ) -> Result<(), NoMemory>
-    ensures text { OnOk result (out.new.items ≡ out.old.items ++ written_text version (of_parts refutation.now.names refutation.now.entries)) }
-    ensures counted { OnOk result (IsCounted version (of_parts refutation.now.names refutation.now.entries)) }
+    ensures text { OnOk result (out.new.items ≡ out.old.items ++ written_text version (of_parts refutation.now.names refutation.now.sequents refutation.now.stacks refutation.now.entries)) }
+    ensures counted { OnOk result (IsCounted version (of_parts refutation.now.names refutation.now.sequents refutation.now.stacks refutation.now.entries)) }
     ensures front { take (vec_len out.old) out.new.items ≡ out.old.items }
 {
     write_numbered(out, b"names", u64::from(refutation.names))?;
-    let entries = refutation.entries.as_slice();
     match version {
-        Version::One => write_last(out, entries, &Filing::InFull),
-        Version::Two => write_by_tables(alloc, out, entries),
+        Version::One => write_last(out, refutation, &Filing::InFull),
+        Version::Two => write_by_tables(alloc, out, refutation),
     }
 }
 
 // the tables, and the entries by their places there
-fn write_by_tables(alloc: Global, out: &mut Vec<u8>, entries: &[Entry]) -> Result<(), NoMemory>
-    ensures text { OnOk result (out.new.items ≡ out.old.items ++ text_of (lines_by_tables (map entry_of entries.now))) }
-    ensures counted { OnOk result (length (used (map entry_of entries.now)) < 2 ^ 64) }
+fn write_by_tables(alloc: Global, out: &mut Vec<u8>, r: &Refutation) -> Result<(), NoMemory>
+    ensures text { OnOk result (out.new.items ≡ out.old.items ++ text_of (lines_by_tables (of_parts r.now.names r.now.sequents r.now.stacks r.now.entries).entries)) }
+    ensures counted { OnOk result (length (used (of_parts r.now.names r.now.sequents r.now.stacks r.now.entries).entries) < 2 ^ 64) }
     ensures front { take (vec_len out.old) out.new.items ≡ out.old.items }
 {
-    let tables = tables_of(alloc, entries)?;
+    let tables = tables_of(alloc, r)?;
     write_tables(out, &tables)?;
-    write_last(out, entries, &Filing::ByTables(tables))
+    write_last(out, r, &Filing::ByTables(tables))
 }
 
 fn write_tables(out: &mut Vec<u8>, tables: &Tables) -> Result<(), NoMemory>
@@ -106,33 +107,40 @@ fn write_table(out: &mut Vec<u8>, many: &[u8], one: &[u8], table: &Table) -> Res
 }
 
 // the entries with their number, and the end
-fn write_last(out: &mut Vec<u8>, entries: &[Entry], filing: &Filing) -> Result<(), NoMemory>
-    ensures text { OnOk result (out.new.items ≡ out.old.items ++ text_of (last_lines (writing_of filing.now) (map entry_of entries.now))) }
+fn write_last(out: &mut Vec<u8>, r: &Refutation, filing: &Filing) -> Result<(), NoMemory>
+    ensures text { OnOk result (out.new.items ≡ out.old.items ++ text_of (last_lines (writing_of filing.now) (of_parts r.now.names r.now.sequents r.now.stacks r.now.entries).entries)) }
     ensures front { take (vec_len out.old) out.new.items ≡ out.old.items }
 {
-    write_numbered(out, b"entries", entries.len() as u64)?;
-    write_entries(out, entries, filing)?;
+    write_numbered(out, b"entries", r.entries.len() as u64)?;
+    write_entries(out, r, filing)?;
     write_word(out, b"end")?;
     end_line(out)
 }
 
-fn write_entries(out: &mut Vec<u8>, entries: &[Entry], filing: &Filing) -> Result<(), NoMemory>
-    ensures text { OnOk result (out.new.items ≡ out.old.items ++ text_of (entries_lines (writing_of filing.now) 0 (map entry_of entries.now))) }
+fn write_entries(out: &mut Vec<u8>, r: &Refutation, filing: &Filing) -> Result<(), NoMemory>
+    ensures text { OnOk result (out.new.items ≡ out.old.items ++ text_of (entries_lines (writing_of filing.now) 0 (of_parts r.now.names r.now.sequents r.now.stacks r.now.entries).entries)) }
     ensures front { take (vec_len out.old) out.new.items ≡ out.old.items }
 {
-    for (i, entry) in entries.iter().enumerate() {
-        write_entry(out, i, entry, filing)?;
+    for (i, entry) in r.entries.iter().enumerate() {
+        write_entry(out, i, &r.sequents, &r.stacks, entry, filing)?;
     }
     Ok(())
 }
 
-fn write_entry(out: &mut Vec<u8>, i: usize, entry: &Entry, filing: &Filing) -> Result<(), NoMemory>
-    ensures text { OnOk result (out.new.items ≡ out.old.items ++ text_of (entry_lines (writing_of filing.now) i (entry_of entry.now))) }
+fn write_entry(
+    out: &mut Vec<u8>,
+    i: usize,
+    sequents: &Lists,
+    stacks: &Lists,
+    entry: &Entry,
+    filing: &Filing,
+) -> Result<(), NoMemory>
+    ensures text { OnOk result (out.new.items ≡ out.old.items ++ text_of (entry_lines (writing_of filing.now) i (entry_of sequents.now stacks.now entry.now))) }
     ensures front { take (vec_len out.old) out.new.items ≡ out.old.items }
 {
-    write_head(out, i, entry.sequent.as_slice(), filing)?;
+    write_head(out, i, sequents.at(entry.sequent), filing)?;
     write_numbered(out, b"live", u64::from(entry.live))?;
-    write_items(out, entry.items.as_slice(), filing)?;
+    write_items(out, stacks, entry.items.as_slice(), filing)?;
     write_listed(out, b"heights", entry.heights.as_slice())?;
     write_decision(out, &entry.decision)
 }
@@ -155,26 +163,26 @@ fn write_head(out: &mut Vec<u8>, i: usize, sequent: &[u32], filing: &Filing) -> 
     }
 }
 
-fn write_items(out: &mut Vec<u8>, items: &[Item], filing: &Filing) -> Result<(), NoMemory>
+fn write_items(out: &mut Vec<u8>, stacks: &Lists, items: &[Item], filing: &Filing) -> Result<(), NoMemory>
     ensures text { OnOk result (out.new.items ≡ out.old.items
-        ++ text_of (map (λ a. item_line a.state ((writing_of filing.now).words a.stack)) (map item_of items.now))) }
+        ++ text_of (map (λ a. item_line a.state ((writing_of filing.now).words a.stack)) (map (item_of stacks.now) items.now))) }
     ensures front { take (vec_len out.old) out.new.items ≡ out.old.items }
 {
     for item in items {
-        write_item(out, item, filing)?;
+        write_item(out, stacks, item, filing)?;
     }
     Ok(())
 }
 
-fn write_item(out: &mut Vec<u8>, item: &Item, filing: &Filing) -> Result<(), NoMemory>
+fn write_item(out: &mut Vec<u8>, stacks: &Lists, item: &Item, filing: &Filing) -> Result<(), NoMemory>
     ensures text { OnOk result (out.new.items ≡ out.old.items
-        ++ line_text (item_line (item_of item.now).state ((writing_of filing.now).words item.now.stack.value.items))) }
+        ++ line_text (item_line (item_of stacks.now item.now).state ((writing_of filing.now).words (item_of stacks.now item.now).stack))) }
     ensures front { take (vec_len out.old) out.new.items ≡ out.old.items }
 {
     write_word(out, b"item")?;
     write_next_number(out, u64::from(item.node))?;
     write_guess(out, item.odd)?;
-    write_stack(out, item.stack.as_slice(), filing)?;
+    write_stack(out, stacks.at(item.stack), filing)?;
     end_line(out)
 }
 
@@ -220,22 +228,22 @@ fn write_decision(out: &mut Vec<u8>, decision: &Decision) -> Result<(), NoMemory
     }
 }
 
-fn write_clash(out: &mut Vec<u8>, cause: Cause) -> Result<(), NoMemory>
-    ensures text { OnOk result (out.new.items ≡ out.old.items ++ line_text (clash_line (cause_of cause))) }
+fn write_clash(out: &mut Vec<u8>, cause: ClashCause) -> Result<(), NoMemory>
+    ensures text { OnOk result (out.new.items ≡ out.old.items ++ line_text (clash_line cause)) }
     ensures front { take (vec_len out.old) out.new.items ≡ out.old.items }
 {
     write_word(out, b"clash")?;
     match cause {
-        Cause::False(node) => {
+        ClashCause::False(node) => {
             write_next_word(out, b"false")?;
             write_next_number(out, u64::from(node))?;
         }
-        Cause::Pair(positive, negative) => {
+        ClashCause::Pair(positive, negative) => {
             write_next_word(out, b"pair")?;
             write_next_number(out, u64::from(positive))?;
             write_next_number(out, u64::from(negative))?;
         }
-        Cause::Cycle(node) => {
+        ClashCause::Cycle(node) => {
             write_next_word(out, b"cycle")?;
             write_next_number(out, u64::from(node))?;
         }
@@ -243,23 +251,23 @@ fn write_clash(out: &mut Vec<u8>, cause: Cause) -> Result<(), NoMemory>
     end_line(out)
 }
 
-fn write_go(out: &mut Vec<u8>, diamond: u32, entry: u32, mark: Step) -> Result<(), NoMemory>
-    ensures text { OnOk result (out.new.items ≡ out.old.items ++ line_text (go_line diamond entry (mark_of mark))) }
+fn write_go(out: &mut Vec<u8>, diamond: u32, entry: u32, mark: Mark) -> Result<(), NoMemory>
+    ensures text { OnOk result (out.new.items ≡ out.old.items ++ line_text (go_line diamond entry mark)) }
     ensures front { take (vec_len out.old) out.new.items ≡ out.old.items }
 {
     write_word(out, b"go")?;
     write_next_number(out, u64::from(diamond))?;
     write_next_number(out, u64::from(entry))?;
     match mark {
-        Step::Red(name) => {
+        Mark::Red(name) => {
             write_next_word(out, b"red")?;
             write_next_number(out, u64::from(name))?;
         }
-        Step::Green(name) => {
+        Mark::Green(name) => {
             write_next_word(out, b"green")?;
             write_next_number(out, u64::from(name))?;
         }
-        Step::Neutral => write_next_word(out, b"neutral")?,
+        Mark::Neutral => write_next_word(out, b"neutral")?,
     }
     end_line(out)
 }

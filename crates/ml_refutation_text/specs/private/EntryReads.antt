@@ -3,8 +3,8 @@
 --   IsSequentRead at q rest  == the next line is that of the sequent q, which ascends
 --   TellsSequent at e        == the refusal e tells the first bad line, where a sequent stands: in its table, or in an entry
 --   IsStacks line n          == the line tells the number of stacks, and n is it, or the greatest of 64 bits
---   IsPlacedAt qs i line q   == the line is the first one of the entry i of version 2, and names the sequent q
-use Rattle.std.specs.Prelude.{ℕ, ◌-◌, ◌^◌, ◌≡◌, min, List, Some, slice_get, All}
+--   IsPlacedAt k i line s    == the line is the first one of the entry i of version 2, and names s, one of k sequents
+use Rattle.std.specs.Prelude.{ℕ, ◌-◌, ◌^◌, ◌≡◌, ◌<◌, min, List, All}
 use Rattle.ml_base.specs.declared.doc_refusal.DocRefusal.{DocRefusal}
 use Rattle.ml_base.specs.declared.version.Version.{Version}
 use Rattle.ml_lines.specs.Lines.{Word, Line}
@@ -26,11 +26,10 @@ pub record TellsSequent (at : Rest) (e : DocRefusal) : Type 0 where
       → TellsFault v (AtTableSequent names size rows) at e
   pub in_entry : (v : Version) (k : Known) (es : List Entry) → TellsFault v (AtSequent k es) at e
 
-pub record IsPlacedAt (sequents : List (List ℕ)) (i : ℕ) (line : Line) (q : List ℕ) : Type 0 where
-  pub place : ℕ
+pub record IsPlacedAt (size i : ℕ) (line : Line) (place : ℕ) : Type 0 where
   pub fits : Fits place
   pub is_line : line ≡ entry_line i place
-  pub there : slice_get sequents place ≡ Some q
+  pub there : place < size
 
 -- the number of stacks, however great; of a greater one the greatest of 64 bits is kept
 pub record IsStacks (line : Line) (size : ℕ) : Type 0 where

@@ -12,7 +12,7 @@
 --   TellsItem F n m b line e == the refusal e of a line that isn't that of the heights tells the rule that it breaks there
 --   LacksStack ks t m e      == the refusal e tells why t isn't the number of one of the stacks ks with names below m
 --   IsHeights n line hs      == the line is that of the heights hs, for n names
---   IsTraceLine F n m b line t == the line is that of an item, or that of the heights
+--   IsTraceLine F n m b line ks t == the line is that of an item, by the stacks ks, or that of the heights
 --   TellsTrace F n m b line e  == the refusal e tells the rule that the line breaks there
 use Rattle.std.specs.Prelude.{ℕ, ◌+◌, ◌-◌, ◌^◌, ◌<◌, ◌≤◌, ◌≡◌, ◌⊎◌, ⊤, slice_index_or, Bool, true, nat_lt, ◌&&◌, List, [], ◌∷◌, Option, None, Some, length, map, drop, codes, All}
 use Rattle.ml_lines.specs.Lines.{Line}
@@ -50,7 +50,7 @@ IsItemed line = AreWords line × (line ≡ codes "item" ∷ word line 1 ∷ word
 
 abbrev pub before_of : Option Item → Option AutomatonState
 before_of None = None
-before_of (Some a) = Some (item_of a).state
+before_of (Some a) = Some (record { node = a.node; odd = a.odd })
 
 pub record AtItems (live : ℕ) (before : Option AutomatonState) (traces : traced.Entry AutomatonState) : Type 0 where
   pub with_live : traces.live ≡ live
@@ -91,9 +91,9 @@ pub record IsHeights (names : ℕ) (line : Line) (heights : List ℕ) : Type 0 w
   pub fit : All Fits heights
   pub one_each : length heights ≡ names + 1
 
-abbrev pub IsTraceLine : Form → ℕ → ℕ → Option AutomatonState → Line → TraceLine → Type 0
-IsTraceLine F names live before line (trace.Item a) = IsItemOf F live before line (item_of a)
-IsTraceLine F names live before line (trace.Heights hs) = IsHeights names line hs.items
+abbrev pub IsTraceLine : Form → ℕ → ℕ → Option AutomatonState → Line → List (List ℕ) → TraceLine → Type 0
+IsTraceLine F names live before line stacks (trace.Item a) = IsItemOf F live before line (item_of stacks a)
+IsTraceLine F names live before line stacks (trace.Heights hs) = IsHeights names line hs.items
 
 abbrev pub TellsTrace : Form → ℕ → ℕ → Option AutomatonState → Line → LineRefusal → Type 0
 TellsTrace F names live before line e =

@@ -3,7 +3,6 @@
 -- A reader goes through a text from place to place; what it keeps is what the place keeps. Each of its functions goes from
 -- one place to another, or tells the first bad line between them.
 --
---   form_of, known_of      == what the program keeps, as a place keeps it
 --   version_of F           == the version of a form
 --   around_of, arounds_of  == the splits around a line; the program has the innermost last
 --   HasRoom at             == the numbers of the lines that are left fit 64 bits
@@ -25,7 +24,6 @@ use Rattle.ml_lines.specs.Lines.{Word, Line}
 use Rattle.ml_lines.specs.Reading.{AreWords, lines_of, left_of, word}
 use Rattle.ml_lists.specs.Documents.{IsFirstBroken, IsReadTo}
 use Rattle.ml_refutation.specs.Views.{decision_of}
-pub use Rattle.ml_refutation_text.specs.private.ReadRows.{Shared, rows_in, rows_of}
 use Rattle.ml_refutation_text.specs.RefutationText as text
 use Rattle.ml_refutation_text.specs.BodyRules as body
 use Rattle.ml_refutation_text.specs.BodyRules.{Place, AtNothing, rules, rule_number}
@@ -33,20 +31,10 @@ use Rattle.ml_refutation_text.specs.declared.body_rule.BodyRule.{BodyRule}
 use Rattle.ml_refutation_text.specs.declared.rest.Rest.{Rest}
 use Rattle.ml_refutation_text.specs.declared.rest.LineRefusal.{LineRefusal}
 use Rattle.ml_refutation_text.specs.declared.rest.LineRefusal.TheVariants as line
-use Rattle.ml_refutation_text.specs.declared.known.Form.{Form}
-use Rattle.ml_refutation_text.specs.declared.known.Form.TheVariants as form
-use Rattle.ml_refutation_text.specs.declared.known.Known.{Known}
 use Rattle.ml_refutation_text.specs.declared.branches.Around.{Around}
 use Rattle.ml_refutation_text.specs.declared.branches.Around.TheVariants as around
 
 -- ---- what the program keeps
-
-abbrev pub form_of : Form → text.Form
-form_of form.InFull = text.InFull
-form_of (form.ByTables tables) = text.ByTables (rows_of tables.sequents) (rows_of tables.stacks)
-
-abbrev pub known_of : Known → body.Known
-known_of k = record { names = k.names; form = form_of k.form; wanted = k.wanted }
 
 abbrev pub version_of : text.Form → Version
 version_of text.InFull = One
