@@ -1,5 +1,5 @@
 // Reading the lines of an entry that tell its traces and its heights.
-ghost use Rattle.std.specs.Prelude.{◌≡◌, ◌<◌, ◌≤◌, ◌+◌, ◌-◌, ◌^◌, ℕ, List, [], ◌∷◌, None, Some, Option, slice_get, false, IfOk, IfErr, IsTrue, MatchOption, codes, map, length};
+ghost use Rattle.std.specs.Prelude.{◌≡◌, ◌<◌, ◌≤◌, ◌+◌, ◌-◌, ◌^◌, ℕ, List, [], ◌∷◌, None, Some, Option, slice_index_or, false, IfOk, IfErr, IsTrue, MatchOption, codes, map, length};
 ghost use Rattle.std.specs.Option.{option_copied};
 ghost use Rattle.ml_lines.specs.Lines.{number};
 ghost use Rattle.ml_lines.specs.Reading.{words_of, words_behind, AreWords, IsNumber};
