@@ -3,7 +3,6 @@
 --   same             == when two lists that are lent are the same
 --   shown_insert     == one more list is put into a table as into what it shows
 --   place_shown      == the place of a list in a table is that in what it shows
---   table_more, stacks_more == one more of some lists is put into a table, and the stacks of one more entry
 --   place_found, place_missing == it is what a look-up gives, and otherwise the table's length
 use Rattle.std.proofs.Common.{◌≡◌, ℕ, ◌+◌, ◌<◌, ◌≤◌, Bool, true, false, cond, not, List, [], ◌∷◌, ◌++◌, None, Some, Bor}
 use Rattle.std.proofs.Common.{length, map, fold, take, get_or, refl, sym, ap, ◌∙◌, inl, inr, ◌⊎◌, arith, nat_lt}
@@ -19,7 +18,7 @@ use Rattle.indexmap.specs.IndexSet.{insert_key}
 use Rattle.ml_refutation_text.specs.WrittenText.{with_new, each_once, place_in, used_stacks}
 use Rattle.ml_refutation.specs.declared.refutation.Entry.{Entry}
 use Rattle.ml_refutation.specs.Views.{entry_of}
-use Rattle.ml_refutation_text.specs.private.Filings.{shown}
+use Rattle.ml_refutation_text.specs.private.Collecting.{shown}
 
 abbrev pub same : Bor (List ℕ) → Bor (List ℕ) → Bool
 same a b = bytes_eq a.now b.now
@@ -64,31 +63,3 @@ module _ {X : Type 0} (p : X → Bool) where
           let some : position p xs ≡ Some (position_or_len p xs) = ap (λ b. cond b (Some (position_or_len p xs)) None) e in
           apart (sym is ∙ some)
       go (inr past) = omega (arith, prefix_len-le-length (λ x. not (p x)) xs)
-
--- one more of some lists is put into a table
-pub table_more : {X Y : Type 0} (f : X → Y) (g : Y → List ℕ) (before : List (List ℕ)) (xs : List X) (i : ℕ) (x : X)
-    → (keys more : List (Bor (List ℕ))) (lent : Bor (List ℕ)) → i < length xs → x ≡ get_or xs i x
-    → shown keys ≡ fold with_new before (map g (map f (take i xs)))
-    → more ≡ insert_key same keys lent → lent.now ≡ g (f x)
-    → shown more ≡ fold with_new before (map g (map f (take (i + 1) xs)))
-table_more f g before xs i x keys more lent here is so_far inserted lists =
-    ap shown inserted ∙ shown_insert keys lent ∙ (λ j. with_new (so_far j) (lists j))
-    ∙ sym (fold-append with_new before (map g (map f (take i xs))) (g (f x) ∷ []))
-    ∙ ap (λ ys. fold with_new before ys)
-    (sym (map-append g (map f (take i xs)) (f x ∷ [])) ∙ ap (map g) (sym (map-append f (take i xs) (x ∷ [])))
-    ∙ ap (λ ys. map g (map f ys)) (ap (λ y. take i xs ++ y ∷ []) is ∙ sym (take_more xs i x here)))
-
-pub stacks_more : (entries : List Entry) (i : ℕ) (e : Entry) (keys more : List (Bor (List ℕ)))
-    → i < length entries → e ≡ get_or entries i e
-    → shown keys ≡ each_once (flat_map used_stacks (map entry_of (take i entries)))
-    → shown more ≡ fold with_new (shown keys) (used_stacks (entry_of e))
-    → shown more ≡ each_once (flat_map used_stacks (map entry_of (take (i + 1) entries)))
-stacks_more entries i e keys more here is so_far added =
-    let first = map entry_of (take i entries) in
-    added ∙ ap (λ known. fold with_new known (used_stacks (entry_of e))) so_far
-    ∙ sym (fold-append with_new [] (flat_map used_stacks first) (used_stacks (entry_of e)))
-    ∙ ap (λ ys. each_once (flat_map used_stacks first ++ ys)) (sym (append-nil (used_stacks (entry_of e))))
-    ∙ ap each_once (sym (flat_map-append used_stacks first (entry_of e ∷ [])))
-    ∙ ap (λ es. each_once (flat_map used_stacks es))
-    (sym (map-append entry_of (take i entries) (e ∷ []))
-    ∙ ap (map entry_of) (ap (λ y. take i entries ++ y ∷ []) is ∙ sym (take_more entries i e here)))

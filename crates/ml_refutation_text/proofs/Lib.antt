@@ -1,5 +1,7 @@
 -- lists, each once, and their places
 pub mod EachOnce
+-- what is known of places while lists are met
+pub mod MetLists
 -- lines and texts that are written part by part
 pub mod WrittenLines
 -- what stands in a table that is made of lists

@@ -60,14 +60,14 @@ rows_written qs ks out first second is_first is_second =
     ∙ ap (λ text. out ++ text) (sym (flat_map-append line_text a b))
 
 -- the tables and the entries, written one behind the other
-pub tables_written : (es : List Entry) (qs ks : List (List ℕ)) (out second third : List ℕ)
-    → qs ≡ sequents_of es → ks ≡ stacks_of es
+pub tables_written : (es others : List Entry) (qs ks : List (List ℕ)) (out second third : List ℕ)
+    → others ≡ es → qs ≡ sequents_of es → ks ≡ stacks_of es
     → second ≡ out ++ text_of (table_lines qs ks)
-    → third ≡ second ++ text_of (last_lines (by_tables qs ks) es)
+    → third ≡ second ++ text_of (last_lines (by_tables qs ks) others)
     → third ≡ out ++ text_of (lines_by_tables es)
-tables_written es qs ks out second third is_qs is_ks is_second is_third =
+tables_written es others qs ks out second third is_es is_qs is_ks is_second is_third =
     let a : List Line = table_lines qs ks in
-    let c : List Line = last_lines (by_tables qs ks) es in
+    let c : List Line = last_lines (by_tables qs ks) others in
     is_third ∙ ap (λ text. text ++ text_of c) is_second ∙ append_assoc out (text_of a) (text_of c)
     ∙ ap (λ text. out ++ text) (sym (flat_map-append line_text a c))
-    ∙ (λ i. out ++ text_of (table_lines (is_qs i) (is_ks i) ++ last_lines (by_tables (is_qs i) (is_ks i)) es))
+    ∙ (λ i. out ++ text_of (table_lines (is_qs i) (is_ks i) ++ last_lines (by_tables (is_qs i) (is_ks i)) (is_es i)))

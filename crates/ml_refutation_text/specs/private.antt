@@ -1,5 +1,7 @@
 -- what private contracts cite
 
+-- what is known of a table while it is made
+pub mod Collecting
 -- how the program writes sequents and stacks
 pub mod Filings
 -- what the reader of a body knows

@@ -19,6 +19,7 @@ mod lists;
 mod reading;
 mod rest;
 mod rows;
+mod table;
 mod tables;
 mod traces;
 mod words;

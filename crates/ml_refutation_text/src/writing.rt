@@ -1,17 +1,18 @@
 // The text of a refutation.
-ghost use Rattle.std.specs.Prelude.{◌≡◌, ◌+◌, ◌<◌, ◌^◌, [], ◌∷◌, ◌++◌, map, length, codes, take, IfOk, OnOk, OnErr, vec_len};
+ghost use Rattle.std.specs.Prelude.{◌≡◌, ◌+◌, ◌<◌, ◌^◌, [], ◌∷◌, ◌++◌, map, length, codes, take, slice_index_or, IfOk, OnOk, OnErr, vec_len};
 ghost use Rattle.std.specs.List.{flat_map};
 ghost use Rattle.ml_lines.specs.Lines.{number, next, line_text, text_of};
-ghost use Rattle.ml_refutation.specs.Views.{decision_of, item_of, entry_of, of_parts};
-ghost use Rattle.ml_refutation_text.specs.RefutationText.{numbers, guess_word, item_line, clash_line, go_line, decision_lines};
+ghost use Rattle.ml_refutation.specs.Views.{decision_of, of_parts};
+ghost use Rattle.ml_refutation_text.specs.RefutationText.{numbers, guess_word, entry_line, item_line, clash_line, go_line, decision_lines};
 ghost use Rattle.ml_refutation_text.specs.BodyRules.{IsTextOf};
 ghost use Rattle.ml_refutation_text.specs.WrittenText.{IsCounted, stacks_of as used, written_text, entry_lines, entries_lines, table_lines, last_lines, lines_by_tables};
-ghost use Rattle.ml_refutation_text.specs.private.Filings.{shown, writing_of};
+ghost use Rattle.ml_refutation_text.specs.private.Collecting.{shown};
+ghost use Rattle.ml_refutation_text.specs.private.Filings.{entries_of, sequents_in, stacks_in, entry_in, item_in, writing_of};
 
-use crate::tables::{Filing, Table, Tables, place_of, tables_of};
+use crate::tables::{Filing, Tables, tables_of};
 use ml_base::{NoMemory, Version};
 use ml_lines::{end_line, whole_or_none, write_next_number, write_next_word, write_word};
-use ml_refutation::{Decision, Entry, Item, Lists, Refutation};
+use ml_refutation::{Decision, Entry, Item, Refutation};
 use ml_sequent::ClashCause;
 use ml_trace::Mark;
 use std::alloc::Global;
@@ -22,10 +23,12 @@ use std::alloc::Global;
 /// # Errors
 /// `NoMemory` alone.
 ///
-/// Cost: linear in the text of version 1, in both versions.
+/// Cost: linear in the entries, in the sequents and stacks of the refutation, and in the text.
 pub fn write(alloc: Global, refutation: &Refutation, version: Version) -> Result<Vec<u8>, NoMemory>
-    ensures text { IfOk result (λ bytes. bytes.items ≡ written_text version (of_parts refutation.now.names refutation.now.sequents refutation.now.stacks refutation.now.entries)) }
-    ensures is_text { IfOk result (λ bytes. IsTextOf version bytes.items (of_parts refutation.now.names refutation.now.sequents refutation.now.stacks refutation.now.entries)) }
+    ensures text { IfOk result (λ bytes. bytes.items ≡ written_text version
+        (of_parts refutation.now.names refutation.now.sequents refutation.now.stacks refutation.now.entries)) }
+    ensures is_text { IfOk result (λ bytes. IsTextOf version bytes.items
+        (of_parts refutation.now.names refutation.now.sequents refutation.now.stacks refutation.now.entries)) }
 {
     let mut out = Vec::new(alloc);
     append_refutation(alloc, &mut out, refutation, version)?;
@@ -44,8 +47,10 @@ pub fn append_refutation(
     refutation: &Refutation,
     version: Version,
 ) -> Result<(), NoMemory>
-    ensures text { OnOk result (out.new.items ≡ out.old.items ++ written_text version (of_parts refutation.now.names refutation.now.sequents refutation.now.stacks refutation.now.entries)) }
-    ensures counted { OnOk result (IsCounted version (of_parts refutation.now.names refutation.now.sequents refutation.now.stacks refutation.now.entries)) }
+    ensures text { OnOk result (out.new.items ≡ out.old.items ++ written_text version
+        (of_parts refutation.now.names refutation.now.sequents refutation.now.stacks refutation.now.entries)) }
+    ensures counted { OnOk result (IsCounted version
+        (of_parts refutation.now.names refutation.now.sequents refutation.now.stacks refutation.now.entries)) }
     ensures kept { OnErr result (out.new.items ≡ out.old.items) }
 {
     let end = out.len();
@@ -60,129 +65,148 @@ fn write_parts(
     refutation: &Refutation,
     version: Version,
 ) -> Result<(), NoMemory>
-    ensures text { OnOk result (out.new.items ≡ out.old.items ++ written_text version (of_parts refutation.now.names refutation.now.sequents refutation.now.stacks refutation.now.entries)) }
-    ensures counted { OnOk result (IsCounted version (of_parts refutation.now.names refutation.now.sequents refutation.now.stacks refutation.now.entries)) }
+    ensures text { OnOk result (out.new.items ≡ out.old.items ++ written_text version
+        (of_parts refutation.now.names refutation.now.sequents refutation.now.stacks refutation.now.entries)) }
+    ensures counted { OnOk result (IsCounted version
+        (of_parts refutation.now.names refutation.now.sequents refutation.now.stacks refutation.now.entries)) }
     ensures front { take (vec_len out.old) out.new.items ≡ out.old.items }
 {
     write_numbered(out, b"names", u64::from(refutation.names))?;
     match version {
-        Version::One => write_last(out, refutation, &Filing::InFull),
+        Version::One => write_last(
+            out,
+            refutation.entries.as_slice(),
+            &Filing::InFull(refutation),
+        ),
         Version::Two => write_by_tables(alloc, out, refutation),
     }
 }
 
 // the tables, and the entries by their places there
-fn write_by_tables(alloc: Global, out: &mut Vec<u8>, r: &Refutation) -> Result<(), NoMemory>
-    ensures text { OnOk result (out.new.items ≡ out.old.items ++ text_of (lines_by_tables (of_parts r.now.names r.now.sequents r.now.stacks r.now.entries).entries)) }
-    ensures counted { OnOk result (length (used (of_parts r.now.names r.now.sequents r.now.stacks r.now.entries).entries) < 2 ^ 64) }
+fn write_by_tables(
+    alloc: Global,
+    out: &mut Vec<u8>,
+    refutation: &Refutation,
+) -> Result<(), NoMemory>
+    ensures text { OnOk result (out.new.items ≡ out.old.items ++ text_of (lines_by_tables (entries_of refutation.now))) }
+    ensures counted { OnOk result (length (used (entries_of refutation.now)) < 2 ^ 64) }
     ensures front { take (vec_len out.old) out.new.items ≡ out.old.items }
 {
-    let tables = tables_of(alloc, r)?;
+    let tables = tables_of(alloc, refutation)?;
     write_tables(out, &tables)?;
-    write_last(out, r, &Filing::ByTables(tables))
+    write_last(
+        out,
+        refutation.entries.as_slice(),
+        &Filing::ByTables(tables),
+    )
 }
 
 fn write_tables(out: &mut Vec<u8>, tables: &Tables) -> Result<(), NoMemory>
     ensures text { OnOk result (out.new.items ≡ out.old.items
-        ++ text_of (table_lines (shown tables.now.sequents.keys) (shown tables.now.stacks.keys))) }
-    ensures counted { OnOk result (length (shown tables.now.stacks.keys) < 2 ^ 64) }
+        ++ text_of (table_lines tables.now.sequents.met tables.now.stacks.met)) }
+    ensures counted { OnOk result (length tables.now.stacks.met < 2 ^ 64) }
     ensures front { take (vec_len out.old) out.new.items ≡ out.old.items }
 {
-    write_table(out, b"sequents", b"sequent", &tables.sequents)?;
-    write_table(out, b"stacks", b"stack", &tables.stacks)
+    write_table(out, b"sequents", b"sequent", tables.sequents.met())?;
+    write_table(out, b"stacks", b"stack", tables.stacks.met())
 }
 
 // a table with its number of lines
-fn write_table(out: &mut Vec<u8>, many: &[u8], one: &[u8], table: &Table) -> Result<(), NoMemory>
-    ensures counted { length (shown table.now.keys) < 2 ^ 64 }
+fn write_table(out: &mut Vec<u8>, many: &[u8], one: &[u8], lists: &[&[u32]]) -> Result<(), NoMemory>
+    ensures counted { length (shown lists.now) < 2 ^ 64 }
     ensures text { OnOk result (out.new.items ≡ out.old.items
-        ++ text_of ((many.now ∷ number (length (shown table.now.keys)) ∷ []) ∷ map (λ ns. one.now ∷ numbers ns) (shown table.now.keys))) }
+        ++ text_of ((many.now ∷ number (length (shown lists.now)) ∷ [])
+        ∷ map (λ ns. one.now ∷ numbers ns) (shown lists.now))) }
     ensures front { take (vec_len out.old) out.new.items ≡ out.old.items }
 {
-    write_numbered(out, many, table.len() as u64)?;
-    for list in table.as_slice() {
+    write_numbered(out, many, lists.len() as u64)?;
+    for list in lists {
         write_listed(out, one, *list)?;
     }
     Ok(())
 }
 
 // the entries with their number, and the end
-fn write_last(out: &mut Vec<u8>, r: &Refutation, filing: &Filing) -> Result<(), NoMemory>
-    ensures text { OnOk result (out.new.items ≡ out.old.items ++ text_of (last_lines (writing_of filing.now) (of_parts r.now.names r.now.sequents r.now.stacks r.now.entries).entries)) }
+fn write_last(out: &mut Vec<u8>, entries: &[Entry], filing: &Filing) -> Result<(), NoMemory>
+    ensures text { OnOk result (out.new.items ≡ out.old.items
+        ++ text_of (last_lines (writing_of filing.now) (map (entry_in filing.now) entries.now))) }
     ensures front { take (vec_len out.old) out.new.items ≡ out.old.items }
 {
-    write_numbered(out, b"entries", r.entries.len() as u64)?;
-    write_entries(out, r, filing)?;
+    write_numbered(out, b"entries", entries.len() as u64)?;
+    write_entries(out, entries, filing)?;
     write_word(out, b"end")?;
     end_line(out)
 }
 
-fn write_entries(out: &mut Vec<u8>, r: &Refutation, filing: &Filing) -> Result<(), NoMemory>
-    ensures text { OnOk result (out.new.items ≡ out.old.items ++ text_of (entries_lines (writing_of filing.now) 0 (of_parts r.now.names r.now.sequents r.now.stacks r.now.entries).entries)) }
+fn write_entries(out: &mut Vec<u8>, entries: &[Entry], filing: &Filing) -> Result<(), NoMemory>
+    ensures text { OnOk result (out.new.items ≡ out.old.items
+        ++ text_of (entries_lines (writing_of filing.now) 0 (map (entry_in filing.now) entries.now))) }
     ensures front { take (vec_len out.old) out.new.items ≡ out.old.items }
 {
-    for (i, entry) in r.entries.iter().enumerate() {
-        write_entry(out, i, &r.sequents, &r.stacks, entry, filing)?;
+    for (i, entry) in entries.iter().enumerate() {
+        write_entry(out, i, entry, filing)?;
     }
     Ok(())
 }
 
-fn write_entry(
-    out: &mut Vec<u8>,
-    i: usize,
-    sequents: &Lists,
-    stacks: &Lists,
-    entry: &Entry,
-    filing: &Filing,
-) -> Result<(), NoMemory>
-    ensures text { OnOk result (out.new.items ≡ out.old.items ++ text_of (entry_lines (writing_of filing.now) i (entry_of sequents.now stacks.now entry.now))) }
+fn write_entry(out: &mut Vec<u8>, i: usize, entry: &Entry, filing: &Filing) -> Result<(), NoMemory>
+    ensures text { OnOk result (out.new.items ≡ out.old.items
+        ++ text_of (entry_lines (writing_of filing.now) i (entry_in filing.now entry.now))) }
     ensures front { take (vec_len out.old) out.new.items ≡ out.old.items }
 {
-    write_head(out, i, sequents.at(entry.sequent), filing)?;
+    write_head(out, i, entry.sequent, filing)?;
     write_numbered(out, b"live", u64::from(entry.live))?;
-    write_items(out, stacks, entry.items.as_slice(), filing)?;
+    write_items(out, entry.items.as_slice(), filing)?;
     write_listed(out, b"heights", entry.heights.as_slice())?;
     write_decision(out, &entry.decision)
 }
 
-fn write_head(out: &mut Vec<u8>, i: usize, sequent: &[u32], filing: &Filing) -> Result<(), NoMemory>
-    ensures text { OnOk result (out.new.items ≡ out.old.items ++ text_of ((writing_of filing.now).head i sequent.now)) }
+fn write_head(out: &mut Vec<u8>, i: usize, sequent: usize, filing: &Filing) -> Result<(), NoMemory>
+    ensures text { OnOk result (out.new.items ≡ out.old.items
+        ++ text_of ((writing_of filing.now).head i (slice_index_or (sequents_in filing.now) sequent []))) }
     ensures front { take (vec_len out.old) out.new.items ≡ out.old.items }
 {
     match filing {
-        Filing::InFull => {
+        Filing::InFull(refutation) => {
             write_numbered(out, b"entry", i as u64)?;
-            write_listed(out, b"sequent", sequent)
+            write_listed(out, b"sequent", refutation.sequents.at(sequent))
         }
-        Filing::ByTables(tables) => {
-            write_word(out, b"entry")?;
-            write_next_number(out, i as u64)?;
-            write_next_number(out, place_of(&tables.sequents, sequent) as u64)?;
-            end_line(out)
-        }
+        Filing::ByTables(tables) => write_placed(out, i, tables.sequents.place_of(sequent)),
     }
 }
 
-fn write_items(out: &mut Vec<u8>, stacks: &Lists, items: &[Item], filing: &Filing) -> Result<(), NoMemory>
+// an entry by its number and the place of its sequent
+fn write_placed(out: &mut Vec<u8>, i: usize, place: usize) -> Result<(), NoMemory>
+    ensures text { OnOk result (out.new.items ≡ out.old.items ++ line_text (entry_line i place)) }
+    ensures front { take (vec_len out.old) out.new.items ≡ out.old.items }
+{
+    write_word(out, b"entry")?;
+    write_next_number(out, i as u64)?;
+    write_next_number(out, place as u64)?;
+    end_line(out)
+}
+
+fn write_items(out: &mut Vec<u8>, items: &[Item], filing: &Filing) -> Result<(), NoMemory>
     ensures text { OnOk result (out.new.items ≡ out.old.items
-        ++ text_of (map (λ a. item_line a.state ((writing_of filing.now).words a.stack)) (map (item_of stacks.now) items.now))) }
+        ++ text_of (map (λ a. item_line a.state ((writing_of filing.now).words a.stack)) (map (item_in filing.now) items.now))) }
     ensures front { take (vec_len out.old) out.new.items ≡ out.old.items }
 {
     for item in items {
-        write_item(out, stacks, item, filing)?;
+        write_item(out, item, filing)?;
     }
     Ok(())
 }
 
-fn write_item(out: &mut Vec<u8>, stacks: &Lists, item: &Item, filing: &Filing) -> Result<(), NoMemory>
+fn write_item(out: &mut Vec<u8>, item: &Item, filing: &Filing) -> Result<(), NoMemory>
     ensures text { OnOk result (out.new.items ≡ out.old.items
-        ++ line_text (item_line (item_of stacks.now item.now).state ((writing_of filing.now).words (item_of stacks.now item.now).stack))) }
+        ++ line_text (item_line (item_in filing.now item.now).state
+        ((writing_of filing.now).words (item_in filing.now item.now).stack))) }
     ensures front { take (vec_len out.old) out.new.items ≡ out.old.items }
 {
     write_word(out, b"item")?;
     write_next_number(out, u64::from(item.node))?;
     write_guess(out, item.odd)?;
-    write_stack(out, stacks.at(item.stack), filing)?;
+    write_stack(out, item.stack, filing)?;
     end_line(out)
 }
 
@@ -198,13 +222,14 @@ fn write_guess(out: &mut Vec<u8>, odd: Option<u32>) -> Result<(), NoMemory>
 }
 
 // the words for a stack, each behind a blank
-fn write_stack(out: &mut Vec<u8>, stack: &[u32], filing: &Filing) -> Result<(), NoMemory>
-    ensures text { OnOk result (out.new.items ≡ out.old.items ++ flat_map next ((writing_of filing.now).words stack.now)) }
+fn write_stack(out: &mut Vec<u8>, stack: usize, filing: &Filing) -> Result<(), NoMemory>
+    ensures text { OnOk result (out.new.items ≡ out.old.items
+        ++ flat_map next ((writing_of filing.now).words (slice_index_or (stacks_in filing.now) stack []))) }
     ensures front { take (vec_len out.old) out.new.items ≡ out.old.items }
 {
     match filing {
-        Filing::InFull => write_numbers(out, stack),
-        Filing::ByTables(tables) => write_next_number(out, place_of(&tables.stacks, stack) as u64),
+        Filing::InFull(refutation) => write_numbers(out, refutation.stacks.at(stack)),
+        Filing::ByTables(tables) => write_next_number(out, tables.stacks.place_of(stack) as u64),
     }
 }
 

@@ -7,8 +7,9 @@ use Rattle.ml_refutation_text.proofs.writing.write.Goals as goal
 
 pub returns-clause-is_text : goal.returns-clause-is_text
 returns-clause-is_text c =
-    let r = of_parts c.args.refutation.now.names c.args.refutation.now.entries in
+    let given = c.args.refutation.now in
+    let r = of_parts given.names given.sequents given.stacks given.entries in
     let v = c.args.version in
     let is = c.in_ok-append_refutation.ensures.text ∙ ap (λ out. out ++ written_text v r) c.new-out.ensures.items in
     subst (λ text. IsTextOf v text r) (sym is)
-    (written_is_text v r c.args.refutation.now.is_refutation)
+    (written_is_text v r given.is_refutation)
