@@ -5,19 +5,16 @@
 --   place_shown      == the place of a list in a table is that in what it shows
 --   place_found, place_missing == it is what a look-up gives, and otherwise the table's length
 use Rattle.std.proofs.Common.{◌≡◌, ℕ, ◌+◌, ◌<◌, ◌≤◌, Bool, true, false, cond, not, List, [], ◌∷◌, ◌++◌, None, Some, Bor}
-use Rattle.std.proofs.Common.{length, map, fold, take, get_or, refl, sym, ap, ◌∙◌, inl, inr, ◌⊎◌, arith, nat_lt}
+use Rattle.std.proofs.Common.{length, refl, sym, ap, ◌∙◌, inl, inr, ◌⊎◌, arith, nat_lt}
 use Rattle.std.proofs.lemmas.Bool.{cases_lt}
 use Rattle.std.proofs.lemmas.Bool.Decides.{nat_tests}
-use Rattle.std.proofs.lemmas.List.{map-append, take_more, append-nil}
+use Rattle.std.proofs.lemmas.List.{map-append}
 use Rattle.std.proofs.lemmas.List.Sums.{prefix_len-le-length}
 use Rattle.std.specs.Prelude.{position, ◌||◌}
-use Rattle.std.specs.List.{list_any, position_or_len, flat_map}
-use Rattle.std.proofs.lemmas.Grind.{flat_map-append, fold-append}
+use Rattle.std.specs.List.{list_any, position_or_len}
 use Rattle.std.specs.Str.{bytes_eq}
 use Rattle.indexmap.specs.IndexSet.{insert_key}
-use Rattle.ml_refutation_text.specs.WrittenText.{with_new, each_once, place_in, used_stacks}
-use Rattle.ml_refutation.specs.declared.refutation.Entry.{Entry}
-use Rattle.ml_refutation.specs.Views.{entry_of}
+use Rattle.ml_refutation_text.specs.WrittenText.{with_new, place_in}
 use Rattle.ml_refutation_text.specs.private.Collecting.{shown}
 
 abbrev pub same : Bor (List ℕ) → Bor (List ℕ) → Bool

@@ -5,7 +5,7 @@
 --   place_met        == the list that is met stands at the place that it had, or at the end
 --   known_kept, one_known == what is known stays known, also with one more place
 --   lists_put, place_put == a list that is lent is put into a table, at its place
-use Rattle.std.proofs.Common.{◌≡◌, ℕ, ◌+◌, ◌<◌, ◌≤◌, Bool, true, false, cond, not, ◌||◌, List, [], ◌∷◌, ◌++◌, Option, None, Some, length, get_or, set, refl, sym, ap, subst, ◌∙◌, inl, inr, ◌⊎◌, ◌≢◌, length-append, arith, Bor}
+use Rattle.std.proofs.Common.{◌≡◌, ℕ, ◌+◌, ◌<◌, Bool, true, false, cond, not, ◌||◌, List, [], ◌∷◌, ◌++◌, Option, None, Some, length, get_or, set, refl, sym, ap, subst, ◌∙◌, inl, inr, ◌⊎◌, ◌≢◌, length-append, arith, Bor}
 use Rattle.std.specs.List.{list_any, position_or_len}
 use Rattle.std.specs.Str.{bytes_eq}
 use Rattle.std.proofs.lemmas.Bool.{cases_eq}
@@ -30,7 +30,9 @@ pub met_again : (ks : List (List ℕ)) (x : List ℕ) (k : ℕ) → IsPlace ks x
 met_again ks x k at =
     ap (λ b. cond b ks (ks ++ x ∷ [])) (stands ks x (subst (λ n. n < length ks) at.is at.inside))
 
-place_before : (ks : List (List ℕ)) (x y : List ℕ) → place_in ks y < length ks → place_in (ks ++ x ∷ []) y ≡ place_in ks y
+place_before : (ks : List (List ℕ)) (x y : List ℕ)
+    → place_in ks y < length ks
+    → place_in (ks ++ x ∷ []) y ≡ place_in ks y
 place_before [] x y inside = absurd (omega arith)
 place_before (k ∷ ks) x y inside = go (bytes_eq y k) inside (place_before ks x y)
   where

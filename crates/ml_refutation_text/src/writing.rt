@@ -3,7 +3,7 @@ ghost use Rattle.std.specs.Prelude.{◌≡◌, ◌+◌, ◌<◌, ◌^◌, [], �
 ghost use Rattle.std.specs.List.{flat_map};
 ghost use Rattle.ml_lines.specs.Lines.{number, next, line_text, text_of};
 ghost use Rattle.ml_refutation.specs.Views.{decision_of, of_parts};
-ghost use Rattle.ml_refutation_text.specs.RefutationText.{numbers, guess_word, entry_line, item_line, clash_line, go_line, decision_lines};
+ghost use Rattle.ml_refutation_text.specs.RefutationText.{numbers, guess_word, entry_line, item_line, cause_words, clash_line, mark_words, go_line, decision_lines};
 ghost use Rattle.ml_refutation_text.specs.BodyRules.{IsTextOf};
 ghost use Rattle.ml_refutation_text.specs.WrittenText.{IsCounted, stacks_of as used, written_text, entry_lines, entries_lines, table_lines, last_lines, lines_by_tables};
 ghost use Rattle.ml_refutation_text.specs.private.Collecting.{shown};
@@ -188,7 +188,8 @@ fn write_placed(out: &mut Vec<u8>, i: usize, place: usize) -> Result<(), NoMemor
 
 fn write_items(out: &mut Vec<u8>, items: &[Item], filing: &Filing) -> Result<(), NoMemory>
     ensures text { OnOk result (out.new.items ≡ out.old.items
-        ++ text_of (map (λ a. item_line a.state ((writing_of filing.now).words a.stack)) (map (item_in filing.now) items.now))) }
+        ++ text_of (map (λ a. item_line a.state ((writing_of filing.now).words a.stack))
+        (map (item_in filing.now) items.now))) }
     ensures front { take (vec_len out.old) out.new.items ≡ out.old.items }
 {
     for item in items {
@@ -258,22 +259,23 @@ fn write_clash(out: &mut Vec<u8>, cause: ClashCause) -> Result<(), NoMemory>
     ensures front { take (vec_len out.old) out.new.items ≡ out.old.items }
 {
     write_word(out, b"clash")?;
-    match cause {
-        ClashCause::False(node) => {
-            write_next_word(out, b"false")?;
-            write_next_number(out, u64::from(node))?;
-        }
-        ClashCause::Pair(positive, negative) => {
-            write_next_word(out, b"pair")?;
-            write_next_number(out, u64::from(positive))?;
-            write_next_number(out, u64::from(negative))?;
-        }
-        ClashCause::Cycle(node) => {
-            write_next_word(out, b"cycle")?;
-            write_next_number(out, u64::from(node))?;
-        }
-    }
+    write_cause(out, cause)?;
     end_line(out)
+}
+
+// the words of a cause, each behind a blank
+fn write_cause(out: &mut Vec<u8>, cause: ClashCause) -> Result<(), NoMemory>
+    ensures text { OnOk result (out.new.items ≡ out.old.items ++ flat_map next (cause_words cause)) }
+    ensures front { take (vec_len out.old) out.new.items ≡ out.old.items }
+{
+    match cause {
+        ClashCause::False(node) => write_named(out, b"false", node),
+        ClashCause::Pair(positive, negative) => {
+            write_named(out, b"pair", positive)?;
+            write_next_number(out, u64::from(negative))
+        }
+        ClashCause::Cycle(node) => write_named(out, b"cycle", node),
+    }
 }
 
 fn write_go(out: &mut Vec<u8>, diamond: u32, entry: u32, mark: Mark) -> Result<(), NoMemory>
@@ -283,18 +285,29 @@ fn write_go(out: &mut Vec<u8>, diamond: u32, entry: u32, mark: Mark) -> Result<(
     write_word(out, b"go")?;
     write_next_number(out, u64::from(diamond))?;
     write_next_number(out, u64::from(entry))?;
-    match mark {
-        Mark::Red(name) => {
-            write_next_word(out, b"red")?;
-            write_next_number(out, u64::from(name))?;
-        }
-        Mark::Green(name) => {
-            write_next_word(out, b"green")?;
-            write_next_number(out, u64::from(name))?;
-        }
-        Mark::Neutral => write_next_word(out, b"neutral")?,
-    }
+    write_mark(out, mark)?;
     end_line(out)
+}
+
+// the words of a mark, each behind a blank
+fn write_mark(out: &mut Vec<u8>, mark: Mark) -> Result<(), NoMemory>
+    ensures text { OnOk result (out.new.items ≡ out.old.items ++ flat_map next (mark_words mark)) }
+    ensures front { take (vec_len out.old) out.new.items ≡ out.old.items }
+{
+    match mark {
+        Mark::Red(name) => write_named(out, b"red", name),
+        Mark::Green(name) => write_named(out, b"green", name),
+        Mark::Neutral => write_next_word(out, b"neutral"),
+    }
+}
+
+// a word and a number, each behind a blank
+fn write_named(out: &mut Vec<u8>, word: &[u8], n: u32) -> Result<(), NoMemory>
+    ensures text { OnOk result (out.new.items ≡ out.old.items ++ flat_map next (word.now ∷ number n ∷ [])) }
+    ensures front { take (vec_len out.old) out.new.items ≡ out.old.items }
+{
+    write_next_word(out, word)?;
+    write_next_number(out, u64::from(n))
 }
 
 // a word with one number behind it

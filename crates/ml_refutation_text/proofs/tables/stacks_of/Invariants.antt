@@ -5,8 +5,9 @@ use Rattle.ml_refutation_text.proofs.tables.stacks_of.Given as goal
 
 abbrev pub invariant-loop-entry : goal.invariant-loop-entry
 invariant-loop-entry l =
+    let r = l.refutation in
     l.table
     ≡ record {
-      all = l.refutation.stacks;
-      met = stacks_of (map (entry_of l.refutation.sequents l.refutation.stacks) (take l.entry-index l.refutation.entries.items));
+      all = r.stacks;
+      met = stacks_of (map (entry_of r.sequents r.stacks) (take l.entry-index r.entries.items));
     }

@@ -8,5 +8,7 @@ abbrev pub invariant-loop-item : goal.invariant-loop-item
 invariant-loop-item l =
     (l.out.items
     ≡ l.fn.out.items
-    ++ text_of (map (λ a. item_line a.state ((writing_of l.filing).words a.stack)) (map (item_in l.filing) (take l.item-index l.items))))
+    ++ text_of
+    (map (λ a. item_line a.state ((writing_of l.filing).words a.stack))
+    (map (item_in l.filing) (take l.item-index l.items))))
     × (take (vec_len l.fn.out) l.out.items ≡ l.fn.out.items)
