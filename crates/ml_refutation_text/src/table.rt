@@ -51,7 +51,7 @@ impl<'a> Table<'a> {
         self.met.as_slice()
     }
 
-    /// Meets the list at a place of the refutation.
+    /// Meets the list at a place of the refutation, which goes into the table where it isn't there.
     ///
     /// Cost: constant, and at the first time linear in the list.
     pub(crate) fn meet(&mut self, place: usize) -> Result<(), NoMemory>
