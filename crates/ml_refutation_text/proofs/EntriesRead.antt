@@ -5,13 +5,13 @@
 --   placed_goes, placed_wrong, placed_outside == the first line of an entry of version 2, with its number and that of its sequent
 --   live_goes, live_wrong        == the names in use
 --   some_entries                 == so many entries
---   EntriesTo k v at es ps i rest == from `at` up to `rest` the i entries es were read, whose parts begin at the lines ps
+--   EntriesTo n k v old at tables es ps i rest == from `at` up to `rest` the i entries es were read, whose parts begin at
+--                                   the lines ps, and the tables old grew meanwhile
 --   entries_begin, entries_room, entries_refused, entries_more == before any, room for more, a bad line, one more entry
 use Rattle.std.proofs.Common.{◌≡◌, ℕ, zero, suc, ◌+◌, ◌<◌, ◌≤◌, true, cond, nat_lt, List, [], ◌∷◌, ◌++◌, length, map, codes, slice_index_or, inl, inr, refl, sym, ap, subst, ◌∙◌, length-append, arith}
 use Rattle.std.proofs.lemmas.Bool.Decides.{nat_tests}
 use Rattle.std.proofs.lemmas.List.{map-append, length-map}
 use Rattle.std.proofs.lemmas.List.Elements.{All-nil}
-use Rattle.std.proofs.lemmas.Option.{slice_get_within, get_or_from_slice_get}
 use Rattle.ml_base.specs.declared.version.Version.{Version}
 use Rattle.ml_base.specs.declared.version.Version.TheVariants.{One}
 use Rattle.ml_base.specs.declared.doc_refusal.DocRefusal.{DocRefusal}
@@ -26,14 +26,17 @@ use Rattle.ml_refutation_text.specs.RefutationText.{Form, InFull, ByTables, numb
 use Rattle.ml_refutation_text.specs.LineKinds.{IsOfKinds, HaveNumbers}
 use Rattle.ml_refutation_text.specs.BodyRules.{Known, AtEntry, AtSequent, AtLive, AtItem, AtEnd, at_entry, entry_kind}
 use Rattle.ml_refutation_text.specs.PartLines.{entry_size, entries_size, parts_of, parts_from}
+use Rattle.ml_refutation_text.specs.private.ReadTables.{form_of, Grows}
 use Rattle.ml_refutation_text.specs.private.Reads.{HasRoom, IsNext, Goes, Breaks, TellsFault}
 use Rattle.ml_refutation_text.specs.private.ItemReads.{knows}
 use Rattle.ml_refutation_text.specs.private.EntryReads.{IsSequentRead, IsPlacedAt}
+use Rattle.ml_refutation_text.specs.declared.known.Tables.{Tables}
 use Rattle.ml_refutation_text.specs.declared.lines.EntryLines.{EntryLines}
 use Rattle.ml_refutation_text.specs.declared.rest.Rest.{Rest}
 use Rattle.ml_refutation_text.specs.declared.body_rule.BodyRule.TheVariants.{NextEntry, LiveWithin, InTables}
 use Rattle.ml_refutation_text.proofs.ReadWords.{is_number, value_back, values_back, words_first, words_number}
 use Rattle.ml_refutation_text.proofs.GoodLines.{numbered_of, numbered_fits, sequent_good, sequent_fits, live_run}
+use Rattle.ml_refutation_text.proofs.TablesGrow.{grows_none, grows_on, same_form}
 use Rattle.ml_refutation_text.proofs.Going.{goes_begin, goes_on, goes_run, fault_on, room_on}
 
 module _ (names wanted : ℕ) (es : List Entry) where
@@ -130,24 +133,24 @@ module _ (names wanted : ℕ) (es : List Entry) where
           ap (AtLive k es) back,
         ))
 
-    pub placed_goes : (qs ks : List (List ℕ)) (line : Line) (i : ℕ) (q : List ℕ)
+    pub placed_goes : (qs ks : List (List ℕ)) (line : Line) (size i s : ℕ)
         → IsNext at line rest
         → Fits i
+        → length qs ≡ size
         → length es ≡ i
-        → IsPlacedAt qs i line q
-        → Goes v (AtEntry (knows names (ByTables qs ks) wanted) es) at (AtLive (knows names (ByTables qs ks) wanted) es q) rest
-    placed_goes qs ks line i q next fits here read =
+        → IsPlacedAt size i line s
+        → Goes v (AtEntry (knows names (ByTables qs ks) wanted) es) at
+        (AtLive (knows names (ByTables qs ks) wanted) es (slice_index_or qs s [])) rest
+    placed_goes qs ks line size i s next fits many here read =
         let k = knows names (ByTables qs ks) wanted in
-        let s = read.place in
         let back = value_back s read.fits in
-        let below : s < length qs = slice_get_within qs s q read.there in
-        goes_run v (AtEntry k es) (AtLive k es q) at rest line (entry_line i s) next read.is_line
+        goes_run v (AtEntry k es) (AtLive k es (slice_index_or qs s [])) at rest line (entry_line i s) next read.is_line
         (λ left. (
           (
             placed_kind qs ks i s fits read.fits,
-            (placed_numbers qs ks i s fits read.fits, (value_back i fits ∙ sym here, (omega (arith, back, below), tt))),
+            (placed_numbers qs ks i s fits read.fits, (value_back i fits ∙ sym here, (omega (arith, back, read.there, many), tt))),
           ),
-          ap (λ n. AtLive k es (slice_index_or qs n [])) back ∙ ap (AtLive k es) (get_or_from_slice_get qs s q [] read.there),
+          ap (λ n. AtLive k es (slice_index_or qs n [])) back,
         ))
 
     pub live_goes : (F : Form) (q : List ℕ) (live : ℕ) → Fits live → IsNext at (live_line live) rest → live ≤ names
@@ -184,51 +187,91 @@ size_push : (v : Version) (es : List Entry) (e : Entry)
 size_push v [] e = omega arith
 size_push v (x ∷ es) e = omega (arith, size_push v es e)
 
-module _ (k : Known) (V : Version) (at : Rest) where
-  pub record EntriesTo (entries : List program.Entry) (parts : List EntryLines) (i : ℕ) (rest : Rest) : Type 0 where
-    pub goes : (v : Version) → Goes v (at_entry k []) at (at_entry k (map entry_of entries)) rest
+module _ (names wanted : ℕ) (V : Version) (old : Tables) (at : Rest) where
+  abbrev k : Known
+  k = knows names (form_of V old) wanted
+
+  abbrev shown : Tables → List program.Entry → List Entry
+  shown tables entries = map (entry_of tables.sequents tables.stacks) entries
+
+  pub record EntriesTo (tables : Tables) (entries : List program.Entry) (parts : List EntryLines) (i : ℕ) (rest : Rest) : Type 0 where
+    pub goes : (v : Version) (later : Tables)
+        → Grows V tables later
+        → Goes v (at_entry k []) at (at_entry k (shown later entries)) rest
+    pub grown : Grows V old tables
     pub many : length entries ≡ i
-    pub are_parts : parts ≡ parts_from V at.line (map entry_of entries)
-    pub counted : rest.line ≡ at.line + entries_size V (map entry_of entries)
+    pub are_parts : (qs ks : List (List ℕ)) → parts ≡ parts_from V at.line (map (entry_of qs ks) entries)
+    pub counted : (qs ks : List (List ℕ)) → rest.line ≡ at.line + entries_size V (map (entry_of qs ks) entries)
 
-  pub entries_begin : EntriesTo [] [] 0 at
-  entries_begin = record { goes = λ v. goes_begin v (at_entry k []) at; many = refl; are_parts = refl; counted = omega arith }
+  pub entries_begin : EntriesTo old [] [] 0 at
+  entries_begin = record {
+    goes = λ v later grows. goes_begin v (at_entry k []) at;
+    grown = grows_none V old;
+    many = refl;
+    are_parts = λ qs ks. refl;
+    counted = λ qs ks. omega arith;
+  }
 
-  module _ (entries : List program.Entry) (parts : List EntryLines) (i : ℕ) (rest : Rest) (so_far : EntriesTo entries parts i rest) where
+  module _ (tables : Tables) (entries : List program.Entry) (parts : List EntryLines) (i : ℕ) (rest : Rest)
+      (so_far : EntriesTo tables entries parts i rest) where
     pub entries_room : HasRoom at → HasRoom rest
-    entries_room room = room_on (so_far.goes One) room
+    entries_room room = room_on (so_far.goes One tables (grows_none V tables)) room
 
-    pub many_plain : length (map entry_of entries) ≡ i
-    many_plain = length-map entries entry_of ∙ so_far.many
+    many_shown : (later : Tables) → length (shown later entries) ≡ i
+    many_shown later = length-map entries (entry_of later.sequents later.stacks) ∙ so_far.many
 
-    module _ (below : i < k.wanted) where
-      here : (v : Version) → Goes v (at_entry k []) at (AtEntry k (map entry_of entries)) rest
-      here v =
-          let es = map entry_of entries in
-          let test : nat_lt (length es) k.wanted ≡ true = grind (arith, nat_tests, many_plain, below) in
-          subst (λ b. Goes v (at_entry k []) at (cond b (AtEntry k es) (AtEnd (record { names = k.names; entries = es }))) rest) test (so_far.goes v)
+    module _ (below : i < wanted) where
+      here : (v : Version) (later : Tables)
+          → Grows V tables later
+          → Goes v (at_entry k []) at (AtEntry k (shown later entries)) rest
+      here v later grows =
+          let es = shown later entries in
+          let test : nat_lt (length es) wanted ≡ true = grind (arith, nat_tests, many_shown later, below) in
+          subst (λ b. Goes v (at_entry k []) at (cond b (AtEntry k es) (AtEnd (record { names = names; entries = es }))) rest) test
+          (so_far.goes v later grows)
 
       pub entries_refused : (e : DocRefusal)
-          → ((v : Version) (es : List Entry) → length es ≡ i → TellsFault v (AtEntry k es) rest e)
+          → ((v : Version) (es : List Entry) → length es ≡ i → TellsFault v (AtEntry (knows names (form_of V tables) wanted) es) rest e)
           → (v : Version) → TellsFault v (at_entry k []) at e
       entries_refused e tells v =
-          fault_on e (here v) (tells v (map entry_of entries) many_plain)
+          let es = shown tables entries in
+          fault_on e (here v tables (grows_none V tables))
+          (subst (λ F. TellsFault v (AtEntry (knows names F wanted) es) rest e) (same_form V old tables so_far.grown)
+          (tells v es (many_shown tables)))
 
-      pub entries_more : (e : program.Entry) (lines : EntryLines) (behind : Rest) (more : List program.Entry)
-          (others : List EntryLines)
-          → ((v : Version) (es : List Entry) → length es ≡ i → Goes v (AtEntry k es) rest (at_entry k (es ++ entry_of e ∷ [])) behind)
-          → lines ≡ parts_of V rest.line (entry_of e) → behind.line ≡ rest.line + entry_size V (entry_of e)
-          → more ≡ entries ++ e ∷ [] → others ≡ parts ++ lines ∷ [] → EntriesTo more others (i + 1) behind
-      entries_more e lines behind more others goes lines_are counted pushed parts_pushed =
-          let es = map entry_of entries in
-          let all : map entry_of more ≡ es ++ entry_of e ∷ [] = ap (map entry_of) pushed ∙ map-append entry_of entries (e ∷ []) in record {
-            goes = λ v.
-                subst (λ xs. Goes v (at_entry k []) at (at_entry k xs) behind) (sym all)
-                (goes_on (here v) (goes v es many_plain));
+      pub entries_more : (new : Tables) (e : program.Entry) (lines : EntryLines) (behind : Rest)
+          (more : List program.Entry) (others : List EntryLines)
+          → ((v : Version) (es : List Entry) (later : Tables) → length es ≡ i → Grows V new later
+          → Goes v (AtEntry (knows names (form_of V tables) wanted) es) rest
+          (at_entry (knows names (form_of V tables) wanted) (es ++ entry_of later.sequents later.stacks e ∷ [])) behind)
+          → Grows V tables new
+          → ((qs ks : List (List ℕ)) → lines ≡ parts_of V rest.line (entry_of qs ks e))
+          → ((qs ks : List (List ℕ)) → behind.line ≡ rest.line + entry_size V (entry_of qs ks e))
+          → more ≡ entries ++ e ∷ [] → others ≡ parts ++ lines ∷ [] → EntriesTo new more others (i + 1) behind
+      entries_more new e lines behind more others goes grows lines_are counted pushed parts_pushed =
+          let all : (qs ks : List (List ℕ))
+              → map (entry_of qs ks) more ≡ map (entry_of qs ks) entries ++ entry_of qs ks e ∷ [] =
+          λ qs ks. ap (map (entry_of qs ks)) pushed ∙ map-append (entry_of qs ks) entries (e ∷ []) in record {
+            goes = λ v later onward.
+                let es = shown later entries in
+                let more_es = es ++ entry_of later.sequents later.stacks e ∷ [] in
+                subst (λ xs. Goes v (at_entry k []) at (at_entry k xs) behind) (sym (all later.sequents later.stacks))
+                (goes_on (here v later (grows_on V tables new later grows onward))
+                (subst (λ F. Goes v (AtEntry (knows names F wanted) es) rest (at_entry (knows names F wanted) more_es) behind)
+                (same_form V old tables so_far.grown) (goes v es later (many_shown later) onward)));
+            grown = grows_on V old tables new so_far.grown grows;
             many = omega (arith, so_far.many, ap length pushed, length-append entries (e ∷ []));
-            are_parts =
-                parts_pushed ∙ (λ j. so_far.are_parts j ++ lines_are j ∷ [])
-                ∙ ap (λ n. parts_from V at.line es ++ parts_of V n (entry_of e) ∷ []) so_far.counted
-                ∙ sym (parts_push V at.line es (entry_of e)) ∙ ap (parts_from V at.line) (sym all);
-            counted = omega (arith, counted, so_far.counted, ap (entries_size V) all, size_push V es (entry_of e));
+            are_parts = λ qs ks.
+                let es = map (entry_of qs ks) entries in
+                parts_pushed ∙ (λ j. so_far.are_parts qs ks j ++ lines_are qs ks j ∷ [])
+                ∙ ap (λ n. parts_from V at.line es ++ parts_of V n (entry_of qs ks e) ∷ []) (so_far.counted qs ks)
+                ∙ sym (parts_push V at.line es (entry_of qs ks e)) ∙ ap (parts_from V at.line) (sym (all qs ks));
+            counted = λ qs ks.
+                omega (
+                  arith,
+                  counted qs ks,
+                  so_far.counted qs ks,
+                  ap (entries_size V) (all qs ks),
+                  size_push V (map (entry_of qs ks) entries) (entry_of qs ks e),
+                );
           }

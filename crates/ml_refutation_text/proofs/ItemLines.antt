@@ -8,6 +8,7 @@ use Rattle.std.proofs.Common.{◌≡◌, ℕ, ◌+◌, ◌-◌, ◌^◌, ◌<◌
 use Rattle.std.proofs.Common.{map, All, codes, slice_get, slice_index_or, inl, inr, refl, sym, ap, subst, ◌∙◌, arith}
 use Rattle.std.proofs.lemmas.List.{length-map, get_or_past}
 use Rattle.std.proofs.lemmas.List.Elements.{All-nil, All-cons}
+use Rattle.std.proofs.lemmas.Option.{slice_get-get_or}
 use Rattle.ml_lines.specs.Lines.{Word, Line, number}
 use Rattle.ml_lines.specs.Reading.{AreWords, IsNumber, value, words_of}
 use Rattle.ml_lists.specs.Ascending.{IsAscending}
@@ -23,7 +24,7 @@ use Rattle.ml_refutation_text.specs.private.Reads.{Breaks, TellsRule}
 use Rattle.ml_refutation_text.specs.declared.rest.LineRefusal.{LineRefusal}
 use Rattle.ml_refutation_text.specs.declared.rest.LineRefusal.TheVariants as refusal
 use Rattle.ml_refutation_text.specs.private.WordReads.{FitsAGuess}
-use Rattle.ml_refutation_text.specs.private.ItemReads.{knows, AreNames, IsItemed, AtItems, IsItemOf, LacksStack}
+use Rattle.ml_refutation_text.specs.private.ItemReads.{knows, AreNames, IsItemed, AtItems, IsItemOf, HasStack, LacksStack}
 use Rattle.ml_refutation_text.specs.declared.body_rule.BodyRule.TheVariants.{OfKind, Numbers, ItemsAscend, HeightForEach, InTables}
 use Rattle.ml_refutation_text.proofs.ReadWords.{some_word, differ, are_numbers, words_numbers, values_back, words_first}
 use Rattle.ml_refutation_text.proofs.GoodEntries.{full_item, table_item, state_back, no_item}
@@ -273,14 +274,21 @@ full_is line live before s ns is some node guess above names = record {
 }
 
 pub table_is : (qs ks : List (List ℕ)) (line : Line) (live : ℕ) (before : Option AutomatonState) (s : AutomatonState)
-    (ns : List ℕ) (p : Word)
-    → line ≡ item_line s (p ∷ []) → Spells p (value p) → slice_get ks (value p) ≡ Some ns → Fits s.node
-    → FitsGuess s.odd
-    → IsAbove before s → AreNames live ns
-    → IsItemOf (ByTables qs ks) live before line (record { state = s; stack = ns })
-table_is qs ks line live before s ns p is spells there node guess above names = record {
-  is_line = record { words = p ∷ []; for_stack = (value p, p, spells, there, refl); is_line = is };
-  may_stand = record { node_fits = node; guess_fits = guess; ascends = names.0; below = names.1 };
-  some = tt;
-  is_above = above;
-}
+    (number place : ℕ) (p : Word)
+    → line ≡ item_line s (p ∷ []) → Spells p (value p) → number ≡ min (value p) (2 ^ 64 - 1)
+    → HasStack ks number live place
+    → Fits s.node → FitsGuess s.odd → IsAbove before s
+    → IsItemOf (ByTables qs ks) live before line (record { state = s; stack = slice_index_or ks place [] })
+table_is qs ks line live before s number place p is spells capped has node guess above =
+    let same : place ≡ value p = omega (arith, capped, has.is_place, has.small) in
+    let there = slice_get-get_or ks place [] has.inside in record {
+      is_line = record {
+        words = p ∷ [];
+        for_stack =
+            (value p, p, spells, subst (λ i. slice_get ks i ≡ Some (slice_index_or ks place [])) same there, refl);
+        is_line = is;
+      };
+      may_stand = record { node_fits = node; guess_fits = guess; ascends = has.names.0; below = has.names.1 };
+      some = tt;
+      is_above = above;
+    }

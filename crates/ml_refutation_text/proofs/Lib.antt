@@ -54,6 +54,8 @@ pub mod TracesRead
 pub mod RowLines
 -- the tables, read line by line
 pub mod TablesRead
+-- sequents and stacks that grow while entries are read
+pub mod TablesGrow
 -- entries, read line by line
 pub mod EntriesRead
 -- a whole body, read from its first line to its end

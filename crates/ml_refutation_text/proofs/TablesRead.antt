@@ -2,13 +2,10 @@
 --
 --   SequentsTo n at rows rest    == from `at` up to `rest` these rows of a table of n sequents were read
 --   StacksTo m n at rows rest    == so of a table of n stacks, with m names
---   row_there, row_ascends       == the row at a place
 --   rows_begin, row_more, rows_done, and so on == before any line, one more, and behind the last one
 use Rattle.std.proofs.Common.{◌≡◌, ℕ, ◌+◌, ◌-◌, ◌<◌, ◌≤◌, ◌^◌, true, false, cond, min, nat_lt, List, [], ◌∷◌, ◌++◌, Some, All, get_or, slice_get, length, refl, sym, ap, subst, ◌∙◌, length-append, arith}
 use Rattle.std.proofs.lemmas.Bool.Decides.{nat_tests}
-use Rattle.std.proofs.lemmas.List.{map-append, length-map, get_or-map}
 use Rattle.std.proofs.lemmas.List.Elements.{All-nil, All-cons, All-append}
-use Rattle.std.proofs.lemmas.Option.{slice_get-get_or}
 use Rattle.ml_base.specs.declared.version.Version.{Version}
 use Rattle.ml_base.specs.declared.version.Version.TheVariants.{One}
 use Rattle.ml_base.specs.declared.doc_refusal.DocRefusal.{DocRefusal}
@@ -18,7 +15,7 @@ use Rattle.ml_lines.specs.Reading.{value}
 use Rattle.ml_refutation.specs.Refutation.{Fits, IsStack}
 use Rattle.ml_refutation_text.specs.RefutationText.{Spells, ByTables, sequents_line, sequent_line, stacks_line, stack_line}
 use Rattle.ml_refutation_text.specs.BodyRules.{Place, AtSequents, AtTableSequent, AtStacks, AtTableStack, AtEntries, at_sequent_table, at_stack_table, body}
-use Rattle.ml_refutation_text.specs.private.Reads.{Shared, rows_in, HasRoom, IsNext, Goes, IsUsual, TellsRule, TellsFault, at_line}
+use Rattle.ml_refutation_text.specs.private.Reads.{HasRoom, IsNext, Goes, IsUsual, TellsRule, TellsFault, at_line}
 use Rattle.ml_refutation_text.specs.private.EntryReads.{IsSequentRead, TellsSequent}
 use Rattle.ml_refutation_text.specs.declared.rest.Rest.{Rest}
 use Rattle.ml_refutation_text.specs.declared.rest.LineRefusal.{LineRefusal}
@@ -26,57 +23,28 @@ use Rattle.ml_refutation_text.proofs.Runs.{Runs}
 use Rattle.ml_refutation_text.proofs.RowLines.{sequents_first, sequent_row, stacks_first, stack_row}
 use Rattle.ml_refutation_text.proofs.Going.{goes_begin, goes_on, goes_run, fault_on, refused_line, room_on}
 
-rows_push : (rows more : List Shared) (row : Shared)
-    → more ≡ rows ++ row ∷ []
-    → rows_in more ≡ rows_in rows ++ row.value.items ∷ []
-rows_push rows more row is = ap rows_in is ∙ map-append (λ r. r.value.items) rows (row ∷ [])
-
-pub length-rows : (rows : List Shared) → length (rows_in rows) ≡ length rows
-length-rows rows = length-map rows (λ r. r.value.items)
-
--- the row at a place
-pub row_there : (rows : List Shared) (i : ℕ) (row : Shared) (ns : List ℕ)
-    → i < length rows
-    → row ≡ get_or rows i row
-    → ns ≡ row.value.items
-    → slice_get (rows_in rows) i ≡ Some ns
-row_there rows i row ns inside is same =
-    let within : i < length (rows_in rows) = omega (arith, inside, length-rows rows) in
-    slice_get-get_or (rows_in rows) i row.value.items within
-    ∙ ap Some (get_or-map (λ r. r.value.items) rows i row row.value.items inside ∙ ap (λ r. r.value.items) (sym is) ∙ sym same)
-
--- where all rows ascend, so does that at a place
-pub row_ascends : (rows : List Shared) (i : ℕ) (row : Shared)
-    → i < length rows
-    → row ≡ get_or rows i row
-    → All IsAscending (rows_in rows)
-    → IsAscending row.value.items
-row_ascends rows i row inside is ascend =
-    subst IsAscending (get_or-map (λ r. r.value.items) rows i row row.value.items inside ∙ ap (λ r. r.value.items) (sym is))
-    (ascend i row.value.items (omega (arith, inside, length-rows rows)))
-
 module _ (size : ℕ) (at : Rest) where
-  pub record SequentsTo (rows : List Shared) (rest : Rest) : Type 0 where
+  pub record SequentsTo (rows : List (List ℕ)) (rest : Rest) : Type 0 where
     pub goes : (v : Version) (names : ℕ)
-        → Goes v (at_sequent_table names size []) at (at_sequent_table names size (rows_in rows)) rest
+        → Goes v (at_sequent_table names size []) at (at_sequent_table names size rows) rest
     pub counted : rest.line ≡ at.line + length rows
 
   pub rows_begin : SequentsTo [] at
   rows_begin = record { goes = λ v names. goes_begin v (at_sequent_table names size []) at; counted = omega arith }
 
-  module _ (rows : List Shared) (rest : Rest) (so_far : SequentsTo rows rest) where
+  module _ (rows : List (List ℕ)) (rest : Rest) (so_far : SequentsTo rows rest) where
     pub rows_room : HasRoom at → HasRoom rest
     rows_room room = room_on (so_far.goes One 0) room
 
     module _ (below : length rows < size) where
       -- the next line is one of the table
       at_row : (v : Version) (names : ℕ)
-          → Goes v (at_sequent_table names size []) at (AtTableSequent names size (rows_in rows)) rest
+          → Goes v (at_sequent_table names size []) at (AtTableSequent names size rows) rest
       at_row v names =
-          let test : nat_lt (length (rows_in rows)) size ≡ true = grind (arith, nat_tests, length-rows rows, below) in
+          let test : nat_lt (length rows) size ≡ true = grind (arith, nat_tests, below) in
           subst
           (λ b. Goes v (at_sequent_table names size []) at
-          (cond b (AtTableSequent names size (rows_in rows)) (AtStacks names (rows_in rows))) rest)
+          (cond b (AtTableSequent names size rows) (AtStacks names rows)) rest)
           test (so_far.goes v names)
 
       pub row_refused : (e : DocRefusal)
@@ -85,32 +53,32 @@ module _ (size : ℕ) (at : Rest) where
           → TellsFault v (at_sequent_table names size []) at e
       row_refused e tells v names =
           fault_on e (at_row v names)
-          (tells.in_table v names size (rows_in rows))
+          (tells.in_table v names size rows)
 
-      pub row_more : (row : Shared) (more : List Shared) (behind : Rest)
-          → IsSequentRead rest row.value.items behind
+      pub row_more : (row : List ℕ) (more : List (List ℕ)) (behind : Rest)
+          → IsSequentRead rest row behind
           → more ≡ rows ++ row ∷ []
           → SequentsTo more behind
       row_more row more behind read pushed = record {
         goes = λ v names.
-            let p = AtTableSequent names size (rows_in rows) in
+            let p = AtTableSequent names size rows in
             goes_on (at_row v names)
-            (goes_run v p (at_sequent_table names size (rows_in more)) rest behind (sequent_line row.value.items) (sequent_line row.value.items) read.next refl
+            (goes_run v p (at_sequent_table names size more) rest behind (sequent_line row) (sequent_line row) read.next refl
             (λ left.
-            subst (λ rs. Runs (body v left) p (sequent_line row.value.items ∷ []) (at_sequent_table names size rs)) (sym (rows_push rows more row pushed))
-            (sequent_row v left names size (rows_in rows) row.value.items read.fit read.ascends)));
+            subst (λ rs. Runs (body v left) p (sequent_line row ∷ []) (at_sequent_table names size rs)) (sym pushed)
+            (sequent_row v left names size rows row read.fit read.ascends)));
         counted = omega (arith, so_far.counted, read.next.counted, ap length pushed, length-append rows (row ∷ []));
       }
 
     -- behind the last line
     pub rows_done : size ≤ length rows
         → (v : Version) (names : ℕ)
-        → Goes v (at_sequent_table names size []) at (AtStacks names (rows_in rows)) rest
+        → Goes v (at_sequent_table names size []) at (AtStacks names rows) rest
     rows_done full v names =
-        let test : nat_lt (length (rows_in rows)) size ≡ false = grind (arith, nat_tests, length-rows rows, full) in
+        let test : nat_lt (length rows) size ≡ false = grind (arith, nat_tests, full) in
         subst
         (λ b. Goes v (at_sequent_table names size []) at
-        (cond b (AtTableSequent names size (rows_in rows)) (AtStacks names (rows_in rows))) rest)
+        (cond b (AtTableSequent names size rows) (AtStacks names rows)) rest)
         test (so_far.goes v names)
 
 -- behind the number of sequents
@@ -125,11 +93,11 @@ sequents_begin v names size at behind fits next =
 -- ---- stacks
 
 module _ (names size : ℕ) (at : Rest) where
-  pub record StacksTo (rows : List Shared) (rest : Rest) : Type 0 where
+  pub record StacksTo (rows : List (List ℕ)) (rest : Rest) : Type 0 where
     pub goes : (v : Version) (qs : List (List ℕ))
-        → Goes v (at_stack_table names qs size []) at (at_stack_table names qs size (rows_in rows)) rest
+        → Goes v (at_stack_table names qs size []) at (at_stack_table names qs size rows) rest
     pub counted : rest.line ≡ at.line + length rows
-    pub ascend : All IsAscending (rows_in rows)
+    pub ascend : All IsAscending rows
 
   pub stack_rows_begin : StacksTo [] at
   stack_rows_begin = record {
@@ -138,65 +106,65 @@ module _ (names size : ℕ) (at : Rest) where
     ascend = All-nil IsAscending;
   }
 
-  module _ (rows : List Shared) (rest : Rest) (so_far : StacksTo rows rest) where
+  module _ (rows : List (List ℕ)) (rest : Rest) (so_far : StacksTo rows rest) where
     pub stack_rows_room : HasRoom at → HasRoom rest
     stack_rows_room room =
         room_on (so_far.goes One []) room
 
     module _ (below : length rows < size) where
       at_stack : (v : Version) (qs : List (List ℕ))
-          → Goes v (at_stack_table names qs size []) at (AtTableStack names qs size (rows_in rows)) rest
+          → Goes v (at_stack_table names qs size []) at (AtTableStack names qs size rows) rest
       at_stack v qs =
-          let test : nat_lt (length (rows_in rows)) size ≡ true = grind (arith, nat_tests, length-rows rows, below) in
+          let test : nat_lt (length rows) size ≡ true = grind (arith, nat_tests, below) in
           subst
           (λ b. Goes v (at_stack_table names qs size []) at
-          (cond b (AtTableStack names qs size (rows_in rows)) (AtEntries names (ByTables qs (rows_in rows)))) rest)
+          (cond b (AtTableStack names qs size rows) (AtEntries names (ByTables qs rows))) rest)
           test (so_far.goes v qs)
 
       pub stack_missing : (e : DocRefusal) → ((v : Version) (p : Place) → IsUsual p → TellsFault v p rest e)
           → (v : Version) (qs : List (List ℕ)) → TellsFault v (at_stack_table names qs size []) at e
       stack_missing e missing v qs =
           fault_on e (at_stack v qs)
-          (missing v (AtTableStack names qs size (rows_in rows)) tt)
+          (missing v (AtTableStack names qs size rows) tt)
 
       module _ (line : Line) (behind : Rest) (next : IsNext rest line behind) where
         pub stack_refused : (e : LineRefusal) (told : DocRefusal) → told ≡ at_line rest.line e
             → ((qs rows : List (List ℕ)) (size : ℕ) → TellsRule (AtTableStack names qs size rows) line e)
             → (v : Version) (qs : List (List ℕ)) → TellsFault v (at_stack_table names qs size []) at told
         stack_refused e told is tells v qs =
-            let p = AtTableStack names qs size (rows_in rows) in
+            let p = AtTableStack names qs size rows in
             fault_on told (at_stack v qs)
-            (subst (TellsFault v p rest) (sym is) (refused_line v p rest behind line e next (tells qs (rows_in rows) size)))
+            (subst (TellsFault v p rest) (sym is) (refused_line v p rest behind line e next (tells qs rows size)))
 
-        pub stack_more : (row : Shared) (more : List Shared)
+        pub stack_more : (row : List ℕ) (more : List (List ℕ))
             → Fits names
-            → line ≡ stack_line row.value.items
-            → IsStack names row.value.items
+            → line ≡ stack_line row
+            → IsStack names row
             → more ≡ rows ++ row ∷ [] → StacksTo more behind
         stack_more row more small is stack pushed = record {
           goes = λ v qs.
-              let p = AtTableStack names qs size (rows_in rows) in
+              let p = AtTableStack names qs size rows in
               goes_on (at_stack v qs)
-              (goes_run v p (at_stack_table names qs size (rows_in more)) rest behind line (stack_line row.value.items) next is
+              (goes_run v p (at_stack_table names qs size more) rest behind line (stack_line row) next is
               (λ left.
-              subst (λ rs. Runs (body v left) p (stack_line row.value.items ∷ []) (at_stack_table names qs size rs)) (sym (rows_push rows more row pushed))
-              (stack_row v left names qs size (rows_in rows) row.value.items small stack)));
+              subst (λ rs. Runs (body v left) p (stack_line row ∷ []) (at_stack_table names qs size rs)) (sym pushed)
+              (stack_row v left names qs size rows row small stack)));
           counted = omega (arith, so_far.counted, next.counted, ap length pushed, length-append rows (row ∷ []));
           ascend =
-              subst (All IsAscending) (sym (rows_push rows more row pushed))
-              (All-append IsAscending (rows_in rows) (row.value.items ∷ []) so_far.ascend
-              (All-cons IsAscending row.value.items [] stack.ascends (All-nil IsAscending)));
+              subst (All IsAscending) (sym pushed)
+              (All-append IsAscending rows (row ∷ []) so_far.ascend
+              (All-cons IsAscending row [] stack.ascends (All-nil IsAscending)));
         }
 
     -- behind the last line: fewer were read than there are numbers of 64 bits
     pub stacks_done : (capped : ℕ) → capped ≡ min size (2 ^ 64 - 1) → capped ≤ length rows → 0 < at.line → HasRoom rest
-        → (v : Version) (qs : List (List ℕ)) → Goes v (at_stack_table names qs size []) at (AtEntries names (ByTables qs (rows_in rows))) rest
+        → (v : Version) (qs : List (List ℕ)) → Goes v (at_stack_table names qs size []) at (AtEntries names (ByTables qs rows)) rest
     stacks_done capped is full some room v qs =
         let all : size ≤ length rows = omega (arith, is, full, some, room, so_far.counted) in
-        let test : nat_lt (length (rows_in rows)) size ≡ false = grind (arith, nat_tests, length-rows rows, all) in
+        let test : nat_lt (length rows) size ≡ false = grind (arith, nat_tests, all) in
         subst
         (λ b. Goes v (at_stack_table names qs size []) at
-        (cond b (AtTableStack names qs size (rows_in rows)) (AtEntries names (ByTables qs (rows_in rows)))) rest)
+        (cond b (AtTableStack names qs size rows) (AtEntries names (ByTables qs rows))) rest)
         test (so_far.goes v qs)
 
 -- behind the number of stacks

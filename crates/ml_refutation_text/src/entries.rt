@@ -79,7 +79,7 @@ fn read_entry<'a>(
         Ok(read) => read,
         Err(refusal) => return Err(refusal),
     };
-    let (items, heights, at_decision) = match read_traces(alloc, at_items, known, tables, live) {
+    let (items, heights, at_decision) = match read_traces(alloc, at_items, known.version, known.names, tables, live) {
         Ok(read) => read,
         Err(refusal) => return Err(refusal),
     };

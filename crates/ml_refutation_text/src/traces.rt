@@ -11,14 +11,13 @@ ghost use Rattle.ml_refutation_text.specs.RefutationText.{guess_word};
 ghost use Rattle.ml_refutation_text.specs.RefutationText as text;
 ghost use Rattle.ml_refutation_text.specs.BodyRules.{AtItem, AtDecision};
 ghost use Rattle.ml_base.specs.declared.version.Version.{Version};
-ghost use Rattle.ml_base.specs.declared.version.Version.TheVariants.{One};
 ghost use Rattle.ml_refutation_text.specs.private.Reads.{HasRoom, Goes, TellsFault};
-ghost use Rattle.ml_refutation_text.specs.private.ReadTables.{form_of, known_of, Grows};
+ghost use Rattle.ml_refutation_text.specs.private.ReadTables.{form_of, Grows};
 ghost use Rattle.ml_refutation_text.specs.private.WordReads.{FitsAGuess};
-ghost use Rattle.ml_refutation_text.specs.private.ItemReads.{knows, AreNames, IsItemed, before_of, IsItemOf, TellsItem, IsTraceLine, TellsTrace, IsHeights, LacksStack};
+ghost use Rattle.ml_refutation_text.specs.private.ItemReads.{knows, AreNames, IsItemed, before_of, IsItemOf, TellsItem, IsTraceLine, TellsTrace, IsHeights, HasStack, LacksStack};
 
 use crate::body_rule::BodyRule;
-use crate::known::{Known, Tables};
+use crate::known::Tables;
 use crate::lists::{are_names, ascend_below};
 use crate::rest::{LineRefusal, Rest, at_line, next_line};
 use crate::words::{listed_words, read_any, read_guess, read_numbers};
@@ -38,19 +37,20 @@ pub(crate) enum TraceLine {
 pub(crate) fn read_traces<'a>(
     alloc: Global,
     at: Rest<'a>,
-    known: Known,
+    version: Version,
+    names: u32,
     tables: &mut Tables,
     live: u32,
 ) -> Result<(Vec<Item>, Vec<u32>, Rest<'a>), DocRefusal>
     requires room { HasRoom at }
-    requires within { live ≤ known.names }
-    ensures read { IfOk result (λ r. (v : Version) (es : List Entry) (q : List ℕ) (later : Tables) → Grows known.version tables.new later
-        → Goes v (AtItem (known_of known tables.old) es q (record { live = live; items = [] })) at.entry
-        (AtDecision (known_of known tables.old) es (record { sequent = q; traces = record { live = live; items = map (item_of later.stacks) r.0.items }; heights = r.1.items }) []) r.2) }
-    ensures grows { Grows known.version tables.old tables.new }
+    requires within { live ≤ names }
+    ensures read { IfOk result (λ r. (v : Version) (wanted : ℕ) (es : List Entry) (q : List ℕ) (later : Tables) → Grows version tables.new later
+        → Goes v (AtItem (knows names (form_of version tables.old) wanted) es q (record { live = live; items = [] })) at.entry
+        (AtDecision (knows names (form_of version tables.old) wanted) es (record { sequent = q; traces = record { live = live; items = map (item_of later.stacks) r.0.items }; heights = r.1.items }) []) r.2) }
+    ensures grows { Grows version tables.old tables.new }
     ensures counted { IfOk result (λ r. r.2.line ≡ at.entry.line + length r.0.items + 1) }
-    ensures refused { IfErr result (λ e. (v : Version) (es : List Entry) (q : List ℕ)
-        → TellsFault v (AtItem (known_of known tables.old) es q (record { live = live; items = [] })) at.entry e) }
+    ensures refused { IfErr result (λ e. (v : Version) (wanted : ℕ) (es : List Entry) (q : List ℕ)
+        → TellsFault v (AtItem (knows names (form_of version tables.old) wanted) es q (record { live = live; items = [] })) at.entry e) }
 {
     let mut items: Vec<Item> = Vec::new(alloc);
     let mut rest = at;
@@ -59,7 +59,7 @@ pub(crate) fn read_traces<'a>(
             Ok(next) => next,
             Err(refusal) => return Err(refusal),
         };
-        let told = match trace_line(alloc, line, known, tables, live, items.last()) {
+        let told = match trace_line(alloc, line, version, names, tables, live, items.last()) {
             Ok(told) => told,
             Err(refusal) => return Err(at_line(rest.line, refusal)),
         };
@@ -75,22 +75,23 @@ pub(crate) fn read_traces<'a>(
 fn trace_line(
     alloc: Global,
     line: &[u8],
-    known: Known,
+    version: Version,
+    names: u32,
     tables: &mut Tables,
     live: u32,
     before: Option<&Item>,
 ) -> Result<TraceLine, LineRefusal>
-    ensures read { IfOk result (λ told. (later : Tables) → Grows known.version tables.new later
-        → IsTraceLine (form_of known.version tables.old) known.names live (before_of (option_copied before.entry)) (words_of line.now) later.stacks told) }
-    ensures grows { Grows known.version tables.old tables.new }
-    ensures refused { IfErr result (TellsTrace (form_of known.version tables.old) known.names live (before_of (option_copied before.entry)) (words_of line.now)) }
+    ensures read { IfOk result (λ told. (later : Tables) → Grows version tables.new later
+        → IsTraceLine (form_of version tables.old) names live (before_of (option_copied before.entry)) (words_of line.now) later.stacks told) }
+    ensures grows { Grows version tables.old tables.new }
+    ensures refused { IfErr result (TellsTrace (form_of version tables.old) names live (before_of (option_copied before.entry)) (words_of line.now)) }
 {
     match listed_words(line, b"heights") {
-        Some(behind) => match heights_of(alloc, line, known.names, behind) {
+        Some(behind) => match heights_of(alloc, line, names, behind) {
             Ok(heights) => Ok(TraceLine::Heights(heights)),
             Err(refusal) => Err(refusal),
         },
-        None => match item_at(alloc, line, known.version, tables, live, before) {
+        None => match item_at(alloc, line, version, tables, live, before) {
             Ok(item) => Ok(TraceLine::Item(item)),
             Err(refusal) => Err(refusal),
         },
@@ -112,7 +113,14 @@ fn item_at(
     ensures refused { IfErr result (λ e. (names : ℕ) → TellsItem (form_of version tables.old) names live (before_of (option_copied before.entry)) (words_of line.now) e) }
 {
     match version {
-        Version::One => item_in_full(alloc, line, tables, live, before),
+        Version::One => match item_in_full(alloc, line, live, before) {
+            Ok((node, odd, stack)) => Ok(Item {
+                node,
+                odd,
+                stack: tables.stacks.push(&stack)?,
+            }),
+            Err(refusal) => Err(refusal),
+        },
         Version::Two => item_by_table(line, tables, live, before),
     }
 }
@@ -141,17 +149,15 @@ fn heights_of(
     }
 }
 
-// the item that a line of version 1 tells, behind another one or none
+// the node, the odd priority and the stack of the item that a line of version 1 tells, behind another one or none
 fn item_in_full(
     alloc: Global,
     line: &[u8],
-    tables: &mut Tables,
     live: u32,
     before: Option<&Item>,
-) -> Result<Item, LineRefusal>
-    ensures read { IfOk result (λ a. (later : Tables) → Grows One tables.new later
-        → IsItemOf text.InFull live (before_of (option_copied before.entry)) (words_of line.now) (item_of later.stacks a)) }
-    ensures grows { Grows One tables.old tables.new }
+) -> Result<(u32, Option<u32>, Vec<u32>), LineRefusal>
+    ensures read { IfOk result (λ a. IsItemOf text.InFull live (before_of (option_copied before.entry)) (words_of line.now)
+        (record { state = record { node = a.0; odd = a.1 }; stack = a.2.items })) }
     ensures refused { IfErr result (λ e. (names : ℕ) → TellsItem text.InFull names live (before_of (option_copied before.entry)) (words_of line.now) e) }
 {
     match item_words(line) {
@@ -159,8 +165,7 @@ fn item_in_full(
             Some((node, odd)) => match read_numbers(alloc, Some(rest))? {
                 Some(stack) => {
                     if comes_behind(before, node, odd) && are_names(&stack, live) {
-                        let stack = tables.stacks.push(&stack)?;
-                        Ok(Item { node, odd, stack })
+                        Ok((node, odd, stack))
                     } else {
                         Err(LineRefusal::Breaks(BodyRule::ItemsAscend))
                     }
@@ -209,7 +214,7 @@ fn item_by_table(
 
 // the place of the stack of this number, whose names have to be in use
 fn stack_at(tables: &Tables, number: u64, live: u32) -> Result<usize, LineRefusal>
-    ensures read { IfOk result (λ place. (place ≡ number) × (place < length tables.now.stacks) × AreNames live (slice_index_or tables.now.stacks place [])) }
+    ensures read { IfOk result (HasStack tables.now.stacks number live) }
     ensures refused { IfErr result (LacksStack tables.now.stacks number live) }
 {
     if number >= tables.stacks.len() as u64 {

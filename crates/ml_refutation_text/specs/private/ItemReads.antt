@@ -10,6 +10,7 @@
 --   SomeIn F ns              == in full, there is a name
 --   IsItemOf F m b line a    == the line is that of the item a, which may stand there
 --   TellsItem F n m b line e == the refusal e of a line that isn't that of the heights tells the rule that it breaks there
+--   HasStack ks t m i        == t is the number of one of the stacks ks, with the place i and names below m
 --   LacksStack ks t m e      == the refusal e tells why t isn't the number of one of the stacks ks with names below m
 --   IsHeights n line hs      == the line is that of the heights hs, for n names
 --   IsTraceLine F n m b line ks t == the line is that of an item, by the stacks ks, or that of the heights
@@ -78,6 +79,13 @@ abbrev pub TellsItem : Form → ℕ → ℕ → Option AutomatonState → Line �
 TellsItem F names live before line e =
     (wanted : ℕ) (es : List Entry) (q : List ℕ) (traces : traced.Entry AutomatonState)
     → ¬ (IsOfKind heights_kind line) → AtItems live before traces → TellsRule (AtItem (knows names F wanted) es q traces) line e
+
+-- the stack of this number, whose names are as they must be
+pub record HasStack (stacks : List (List ℕ)) (number live place : ℕ) : Type 0 where
+  pub is_place : place ≡ number
+  pub small : number < 2 ^ 64 - 1
+  pub inside : place < length stacks
+  pub names : AreNames live (slice_index_or stacks place [])
 
 -- no stack of this number, or one whose names aren't as they must be
 abbrev pub LacksStack : List (List ℕ) → ℕ → ℕ → LineRefusal → Type 0

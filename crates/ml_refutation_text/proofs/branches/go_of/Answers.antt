@@ -1,7 +1,6 @@
 use Rattle.std.proofs.Common.{◌<◌, arith}
 use Rattle.ml_lines.specs.Reading.{words_of}
 use Rattle.ml_refutation.specs.Refutation.{IsMarkOf}
-use Rattle.ml_refutation.specs.Views.{mark_of}
 use Rattle.ml_refutation_text.proofs.BranchLines.{go_broken, out_of_range}
 use Rattle.ml_refutation_text.proofs.branches.go_of.Goals as goal
 use Rattle.ml_refutation_text.proofs.branches.go_of.Goals.{else-entry-wanted-via-then-entry-wanted+else-is_mark, else-entry-wanted-via-else-entry-wanted}
@@ -9,7 +8,7 @@ use Rattle.ml_refutation_text.proofs.branches.go_of.Goals.{else-entry-wanted-via
 pub returns-else-entry-wanted-clause-refused : goal.returns-else-entry-wanted-clause-refused
 returns-else-entry-wanted-clause-refused c =
     let e = c.in-Ok.entry in
-    let m = mark_of c.in-Ok.mark in
+    let m = c.in-Ok.mark in
     let read = c.in-Ok.ensures.read in
     let none : ¬ ((e < c.args.wanted) × IsMarkOf c.args.names m) =
     elim c.else-entry-wanted.branch [

@@ -2,7 +2,7 @@ use Rattle.std.proofs.Common.{ℕ, [], refl}
 use Rattle.std.proofs.lemmas.Result.{IfErr-weaker, IfOk-weaker}
 use Rattle.ml_base.specs.declared.version.Version.{Version}
 use Rattle.ml_refutation_text.specs.BodyRules.{AtSequents, AtStacks, at_sequent_table}
-use Rattle.ml_refutation_text.specs.private.Reads.{rows_of, Goes, TellsFault}
+use Rattle.ml_refutation_text.specs.private.Reads.{Goes, TellsFault}
 use Rattle.ml_refutation_text.proofs.Going.{goes_on, fault_on}
 use Rattle.ml_refutation_text.proofs.TablesRead.{sequents_begin}
 use Rattle.ml_refutation_text.proofs.rows.read_sequents.Goals as goal
@@ -15,8 +15,8 @@ returns-clause-read c =
     let size = c.in-Ok.read.0 in
     let behind = c.in-Ok.read.1 in
     IfOk-weaker c.read_sequent_rows.result
-    (λ r. (v : Version) (names : ℕ) → Goes v (at_sequent_table names size []) behind (AtStacks names (rows_of r.0)) r.1)
-    (λ r. (v : Version) (names : ℕ) → Goes v (AtSequents names) c.args.at (AtStacks names (rows_of r.0)) r.1)
+    (λ r. (v : Version) (names : ℕ) → Goes v (at_sequent_table names size []) behind (AtStacks names r.0) r.1)
+    (λ r. (v : Version) (names : ℕ) → Goes v (AtSequents names) c.args.at (AtStacks names r.0) r.1)
     (λ r goes v names.
     goes_on (sequents_begin v names size c.args.at behind c.in-Ok.ensures.read.2 c.in-Ok.ensures.read.0) (goes v names))
     c.read_sequent_rows.ensures.read

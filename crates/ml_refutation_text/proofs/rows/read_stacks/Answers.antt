@@ -4,7 +4,7 @@ use Rattle.ml_base.specs.declared.version.Version.{Version}
 use Rattle.ml_lines.specs.Reading.{words_of, value}
 use Rattle.ml_refutation_text.specs.RefutationText.{ByTables}
 use Rattle.ml_refutation_text.specs.BodyRules.{AtStacks, AtEntries, at_stack_table}
-use Rattle.ml_refutation_text.specs.private.Reads.{rows_of, Goes, TellsFault}
+use Rattle.ml_refutation_text.specs.private.Reads.{Goes, TellsFault}
 use Rattle.ml_refutation_text.proofs.Going.{goes_on, fault_on, fault_line}
 use Rattle.ml_refutation_text.proofs.TablesRead.{stacks_begin}
 use Rattle.ml_refutation_text.proofs.rows.read_stacks.Goals as goal
@@ -27,8 +27,8 @@ returns-in-Ok-stacks_of-clause-read c =
     let behind = c.in-Ok.next.1 in
     IfOk-weaker c.read_stack_rows.result
     (λ r. (v : Version) (count : ℕ) (qs : List (List ℕ)) → c.in-Ok-stacks_of.size ≡ min count (2 ^ 64 - 1)
-    → Goes v (at_stack_table names qs count []) behind (AtEntries names (ByTables qs (rows_of r.0))) r.1)
-    (λ r. (v : Version) (qs : List (List ℕ)) → Goes v (AtStacks names qs) c.args.at (AtEntries names (ByTables qs (rows_of r.0))) r.1)
+    → Goes v (at_stack_table names qs count []) behind (AtEntries names (ByTables qs r.0)) r.1)
+    (λ r. (v : Version) (qs : List (List ℕ)) → Goes v (AtStacks names qs) c.args.at (AtEntries names (ByTables qs r.0)) r.1)
     (λ r goes v qs.
     goes_on (stacks_begin v names qs is.count c.args.at behind (words_of c.in-Ok.next.0.now) is.spells c.in-Ok.ensures.read is.is_line)
     (goes v count qs is.capped))

@@ -1,7 +1,4 @@
-use Rattle.std.specs.Global.{Vec}
-use Rattle.ml_refutation.specs.Refutation.{IsStack}
-use Rattle.ml_refutation_text.specs.RefutationText.{stack_line}
-use Rattle.std.proofs.Common.{ℕ, ◌≡◌, ◌∷◌, ◌<◌, codes, length, ap, sym, subst, ◌∙◌, arith}
+use Rattle.std.proofs.Common.{◌∷◌, ◌<◌, codes, length, ap, sym, subst, ◌∙◌, arith}
 use Rattle.std.proofs.lemmas.List.{length-map}
 use Rattle.ml_lines.specs.Lines.{number}
 use Rattle.ml_lines.specs.Reading.{words_of}
@@ -10,18 +7,17 @@ use Rattle.ml_refutation_text.proofs.ReadWords.{some_word}
 use Rattle.ml_refutation_text.proofs.RowLines.{stack_no_numbers, stack_no_names}
 use Rattle.ml_refutation_text.proofs.rows.stack_of.Goals as goal
 
-pub returns-in_ok-new-in-Some-2-clause-read : goal.returns-in_ok-new-in-Some-2-clause-read
-returns-in_ok-new-in-Some-2-clause-read c =
+pub returns-then-are_names-clause-read : goal.returns-then-are_names-clause-read
+returns-then-are_names-clause-read c =
     let read = rw c.in-Some-2.is at c.in_ok-stack-in-Some.ensures in
-    let ns = c.in-Some-2.stack.items in
-    let names = subst (AreNames c.args.names) c.deref.ensures.value (c.are_names.ensures.yes c.if-are_names.true) in
-    let is : IsStack c.args.names ns = record {
-      some = omega (arith, some_word c.in-Some.behind.now, ap length read.0, length-map ns number);
-      ascends = names.0;
-      below = names.1;
-    } in
-    subst (λ (v : Vec ℕ). (words_of c.args.line.now ≡ stack_line v.items) × IsStack c.args.names v.items)
-    (sym c.in_ok-new-in-Some-2.ensures.ok) (c.in-Some.ensures.1 ∙ ap (λ ws. codes "stack" ∷ ws) read.0, is)
+    let names = subst (AreNames c.args.names) c.deref.ensures.value (c.are_names.ensures.yes c.if-are_names.true) in (
+      c.in-Some.ensures.1 ∙ ap (λ ws. codes "stack" ∷ ws) read.0,
+      record {
+        some = omega (arith, some_word c.in-Some.behind.now, ap length read.0, length-map c.in-Some-2.stack.items number);
+        ascends = names.0;
+        below = names.1;
+      },
+    )
 
 pub returns-else-are_names-clause-refused : goal.returns-else-are_names-clause-refused
 returns-else-are_names-clause-refused c =

@@ -1,8 +1,7 @@
-use Rattle.std.proofs.Common.{◌≡◌, [], ◌∷◌, codes, ap, subst, arith, ◌∙◌, Some, slice_get}
+use Rattle.std.proofs.Common.{[], ◌∷◌, codes, ap, ◌∙◌}
 use Rattle.std.specs.Option.{option_copied}
-use Rattle.ml_lines.specs.Reading.{words_of, value}
+use Rattle.ml_lines.specs.Reading.{words_of}
 use Rattle.ml_refutation_text.specs.private.ItemReads.{before_of}
-use Rattle.ml_refutation_text.specs.private.Reads.{rows_of}
 use Rattle.ml_refutation_text.proofs.ItemLines.{table_no_names, table_lacks, table_is}
 use Rattle.ml_refutation_text.proofs.traces.item_by_table.Goals as goal
 
@@ -11,7 +10,7 @@ returns-then-not-comes_behind-clause-refused c =
     let line = words_of c.args.line.now in
     let state = c.in-Some-read_state.ensures in
     λ names qs wanted es q traces no_heights stand.
-    table_no_names names wanted es q traces qs (rows_of c.args.tables.now.stacks) line c.in-Some.node.now c.in-Some.guess.now
+    table_no_names names wanted es q traces qs c.args.tables.now.stacks line c.in-Some.node.now c.in-Some.guess.now
     c.in-Some-one_word.place.now
     (c.in-Some.ensures.1 ∙ ap (λ ws. codes "item" ∷ c.in-Some.node.now ∷ c.in-Some.guess.now ∷ ws) c.in-Some-one_word.ensures)
     c.args.live (before_of (option_copied c.args.before))
@@ -23,7 +22,7 @@ returns-in-Err-clause-refused c =
     let line = words_of c.args.line.now in
     let state = c.in-Some-read_state.ensures in
     λ names qs wanted es q traces no_heights stand.
-    table_lacks names wanted es q traces qs (rows_of c.args.tables.now.stacks) line c.in-Some.node.now c.in-Some.guess.now
+    table_lacks names wanted es q traces qs c.args.tables.now.stacks line c.in-Some.node.now c.in-Some.guess.now
     c.in-Some-one_word.place.now
     (c.in-Some.ensures.1 ∙ ap (λ ws. codes "item" ∷ c.in-Some.node.now ∷ c.in-Some.guess.now ∷ ws) c.in-Some-one_word.ensures)
     c.args.live (before_of (option_copied c.args.before))
@@ -33,16 +32,11 @@ returns-in-Err-clause-refused c =
 
 pub returns-in-Ok-clause-read : goal.returns-in-Ok-clause-read
 returns-in-Ok-clause-read c =
-    let line = words_of c.args.line.now in
     let state = c.in-Some-read_state.ensures in
-    let p = c.in-Some-one_word.place.now in
-    let read = c.in-Ok.ensures.read in
-    let ks = rows_of c.args.tables.now.stacks in
-    let same : c.in-Some-read_any.place ≡ value p = omega (arith, c.in-Some-read_any.ensures.1, read.1) in
-    λ qs.
-    table_is qs ks line c.args.live (before_of (option_copied c.args.before))
-    (record { node = c.in-Some-read_state.node; odd = c.in-Some-read_state.odd }) c.in-Ok.stack.value.items p
+    let p = c.in-Some-one_word.place.now in λ qs.
+    table_is qs c.args.tables.now.stacks (words_of c.args.line.now) c.args.live (before_of (option_copied c.args.before))
+    (record { node = c.in-Some-read_state.node; odd = c.in-Some-read_state.odd }) c.in-Some-read_any.place c.in-Ok.stack p
     (c.in-Some.ensures.1 ∙ ap (λ ws. codes "item" ∷ c.in-Some.node.now ∷ c.in-Some.guess.now ∷ ws) c.in-Some-one_word.ensures
     ∙ (λ i. codes "item" ∷ state.0 i ∷ state.2 i ∷ p ∷ []))
-    c.in-Some-read_any.ensures.0 (subst (λ t. slice_get ks t ≡ Some c.in-Ok.stack.value.items) same read.0) state.1 state.3
-    (c.comes_behind.ensures.yes c.if-not-comes_behind.false) read.2
+    c.in-Some-read_any.ensures.0 c.in-Some-read_any.ensures.1 c.in-Ok.ensures.read state.1 state.3
+    (c.comes_behind.ensures.yes c.if-not-comes_behind.false)

@@ -1,33 +1,26 @@
-use Rattle.std.specs.Global.{Vec}
-use Rattle.ml_trace.specs.declared.letters.AutomatonState.{AutomatonState}
-use Rattle.ml_refutation_text.specs.RefutationText.{InFull}
-use Rattle.std.proofs.Common.{ℕ, sym, subst}
+use Rattle.std.proofs.Common.{sym, subst}
 use Rattle.std.specs.Option.{option_copied}
 use Rattle.ml_lines.specs.Reading.{words_of}
 use Rattle.ml_refutation.specs.Refutation.{IsAbove}
-use Rattle.ml_refutation_text.specs.private.ItemReads.{AreNames, IsItemOf, before_of}
+use Rattle.ml_refutation_text.specs.private.ItemReads.{AreNames, before_of}
 use Rattle.ml_refutation_text.proofs.ReadWords.{some_word}
 use Rattle.ml_refutation_text.proofs.ItemLines.{full_no_numbers, full_no_names, full_is, full_spelt, full_some}
 use Rattle.ml_refutation_text.proofs.traces.item_in_full.Goals as goal
 use Rattle.ml_refutation_text.proofs.traces.item_in_full.Goals.{else-comes_behind-via-then-comes_behind+else-are_names, else-comes_behind-via-else-comes_behind}
 
-pub returns-in_ok-stack-in-Some-2-clause-read : goal.returns-in_ok-stack-in-Some-2-clause-read
-returns-in_ok-stack-in-Some-2-clause-read c =
+pub returns-then-are_names-clause-read : goal.returns-then-are_names-clause-read
+returns-then-are_names-clause-read c =
     let line = words_of c.args.line.now in
     let node = c.in-Some-read_state.node in
     let odd = c.in-Some-read_state.odd in
     let state = c.in-Some-read_state.ensures in
     let stack = rw c.in-Some-2.is at c.in_ok-stack-in-Some-read_state.ensures in
     let ns = c.in-Some-2.stack.items in
-    let before = before_of (option_copied c.args.before) in
-    let s : AutomatonState = record { node = node; odd = odd } in
-    subst (λ (v : Vec ℕ). IsItemOf InFull c.args.live before line (record { state = s; stack = v.items }))
-    (sym c.in_ok-stack-in-Some-2.ensures.ok)
-    (full_is line c.args.live before s ns
+    full_is line c.args.live (before_of (option_copied c.args.before)) (record { node = node; odd = odd }) ns
     (full_spelt line c.in-Some.node.now c.in-Some.guess.now c.in-Some.rest.now node odd ns c.in-Some.ensures.1 state.0 state.2 stack.0)
     (full_some line c.in-Some.node.now c.in-Some.guess.now c.in-Some.rest.now node odd ns c.in-Some.ensures.1 state.0 state.2 stack.0)
     state.1 state.3 (c.comes_behind.ensures.yes c.if-comes_behind.true)
-    (subst (AreNames c.args.live) c.deref.ensures.value (c.are_names.ensures.yes c.if-are_names.true)))
+    (subst (AreNames c.args.live) c.deref.ensures.value (c.are_names.ensures.yes c.if-are_names.true))
 
 pub returns-else-comes_behind-clause-refused : goal.returns-else-comes_behind-clause-refused
 returns-else-comes_behind-clause-refused c =
