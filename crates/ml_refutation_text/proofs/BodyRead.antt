@@ -20,8 +20,6 @@ use Rattle.ml_lines.proofs.Cuts.{some_part}
 use Rattle.ml_lines.proofs.WrittenLines.{text_read}
 use Rattle.ml_lists.specs.Documents.{IsReadTo, nothing_read, line_read}
 use Rattle.ml_refutation.specs.Refutation.{Refutation, Fits, IsRefutation}
-use Rattle.ml_refutation.specs.Views.{entry_of}
-use Rattle.ml_refutation.specs.declared.refutation.Entry as program
 use Rattle.ml_refutation_text.specs.RefutationText.{Form, names_line, entries_line}
 use Rattle.ml_refutation_text.specs.RefutationText.{end_line}
 use Rattle.ml_refutation_text.specs.BodyRules.{IsTextOf}
@@ -136,13 +134,12 @@ runs_of v left k p lines j q rest (line_read i at line more before good) =
 -- ---- the parts of a body
 
 -- behind the last entry
-pub at_end : {v : Version} {p : Place} {at rest : Rest} (names wanted : ℕ) (F : Form) (items : List program.Entry)
-    → length items ≡ wanted
-    → Goes v p at (at_entry (knows names F wanted) (map entry_of items)) rest
-    → Goes v p at (AtEnd (record { names = names; entries = map entry_of items })) rest
-at_end {v = v} {p = p} {at = at} {rest = rest} names wanted F items whole goes =
-    let es = map entry_of items in
-    let test : nat_lt (length es) wanted ≡ false = grind (arith, nat_tests, length-map items entry_of, whole) in
+pub at_end : {v : Version} {p : Place} {at rest : Rest} (names wanted : ℕ) (F : Form) (es : List Entry)
+    → length es ≡ wanted
+    → Goes v p at (at_entry (knows names F wanted) es) rest
+    → Goes v p at (AtEnd (record { names = names; entries = es })) rest
+at_end {v = v} {p = p} {at = at} {rest = rest} names wanted F es whole goes =
+    let test : nat_lt (length es) wanted ≡ false = grind (arith, nat_tests, whole) in
     subst (λ b. Goes v p at (cond b (AtEntry (knows names F wanted) es)
     (AtEnd (record { names = names; entries = es }))) rest) test goes
 

@@ -4,6 +4,7 @@
 --   sequent_goes                 == the sequent of an entry of version 1
 --   placed_goes, placed_wrong, placed_outside == the first line of an entry of version 2, with its number and that of its sequent
 --   live_goes, live_wrong        == the names in use
+--   begun_goes                   == the lines of an entry up to its decision
 --   some_entries                 == so many entries
 --   EntriesTo n k v old at tables es ps i rest == from `at` up to `rest` the i entries es were read, whose parts begin at
 --                                   the lines ps, and the tables old grew meanwhile
@@ -24,7 +25,7 @@ use Rattle.ml_refutation.specs.declared.refutation.Entry as program
 use Rattle.ml_sequent.specs.declared.clashes.ClashCause.TheVariants.{False}
 use Rattle.ml_refutation_text.specs.RefutationText.{Form, InFull, ByTables, numbered_line, entry_line, sequent_line, live_line}
 use Rattle.ml_refutation_text.specs.LineKinds.{IsOfKinds, HaveNumbers}
-use Rattle.ml_refutation_text.specs.BodyRules.{Known, AtEntry, AtSequent, AtLive, AtItem, AtEnd, at_entry, entry_kind}
+use Rattle.ml_refutation_text.specs.BodyRules.{Known, Begun, Place, AtEntry, AtSequent, AtLive, AtItem, AtDecision, AtEnd, at_entry, entry_kind}
 use Rattle.ml_refutation_text.specs.PartLines.{entry_size, entries_size, parts_of, parts_from}
 use Rattle.ml_refutation_text.specs.private.ReadTables.{form_of, Grows}
 use Rattle.ml_refutation_text.specs.private.Reads.{HasRoom, IsNext, Goes, Breaks, TellsFault}
@@ -159,6 +160,22 @@ module _ (names wanted : ℕ) (es : List Entry) where
         let k = knows names F wanted in
         goes_run v (AtLive k es q) (AtItem k es q (record { live = live; items = [] })) at rest (live_line live) (live_line live) next refl
         (λ left. live_run v left k es q live fits within)
+
+-- the traces of an entry, behind its sequent, which may have been added to those before
+pub begun_goes : (V v : Version) (old mid : Tables) {p : Place} {at behind rest : Rest} (names wanted : ℕ) (es : List Entry)
+    (b : Begun)
+    → Grows V old mid
+    → Goes v p at (AtItem (knows names (form_of V old) wanted) es b.sequent (record { live = b.traces.live; items = [] })) behind
+    → Goes v (AtItem (knows names (form_of V mid) wanted) es b.sequent (record { live = b.traces.live; items = [] })) behind
+    (AtDecision (knows names (form_of V mid) wanted) es b []) rest
+    → Goes v p at (AtDecision (knows names (form_of V old) wanted) es b []) rest
+begun_goes V v old mid {behind = behind} {rest = rest} names wanted es b grows first second =
+    goes_on first
+    (subst
+    (λ F.
+    Goes v (AtItem (knows names F wanted) es b.sequent (record { live = b.traces.live; items = [] })) behind
+    (AtDecision (knows names F wanted) es b []) rest)
+    (same_form V old mid grows) second)
 
 -- ---- so many entries
 

@@ -37,7 +37,8 @@ use std::alloc::Global;
 /// use; 28 where there isn't a height for each even priority; 29 where `go` leads to no entry or names no name; 30 where
 /// splits are nested too deep; 31 where a number isn't one of a line of its table. `NoMemory`.
 ///
-/// Cost: linear in the bytes and in the refutation. It takes memory for what it has read, not for what a number announces.
+/// Cost: linear in the bytes, and so is its memory, in both versions: each list is kept once for the line that has it, and
+/// named by its place. It takes memory for what it has read, not for what a number announces.
 pub fn read(
     alloc: Global,
     bytes: &[u8],
@@ -113,14 +114,15 @@ fn read_form<'a>(
     ensures refused { IfErr result (TellsFault version (after_names version names) at.entry) }
 {
     match version {
-        Version::One => Ok((
-            Tables {
-                sequents: Lists::new(alloc),
-                stacks: Lists::new(alloc),
-            },
-            at,
-        )),
+        Version::One => Ok((no_lists(alloc), at)),
         Version::Two => read_tables(alloc, at, names),
+    }
+}
+
+fn no_lists(alloc: Global) -> Tables {
+    Tables {
+        sequents: Lists::new(alloc),
+        stacks: Lists::new(alloc),
     }
 }
 

@@ -1,9 +1,9 @@
-use Rattle.std.proofs.Common.{[], slice_index_or, refl, ap, sym, subst, ◌∙◌}
+use Rattle.std.proofs.Common.{◌≡◌, ◌++◌, [], ◌∷◌, slice_index_or, ap, sym, subst, ◌∙◌}
 use Rattle.ml_base.specs.declared.version.Version.TheVariants.{One}
-use Rattle.ml_refutation_text.specs.RefutationText.{InFull}
+use Rattle.ml_refutation_text.specs.RefutationText.{InFull, ByTables}
 use Rattle.ml_refutation_text.specs.BodyRules.{AtEntry, AtSequent, AtLive}
 use Rattle.ml_refutation_text.specs.private.Reads.{Goes, TellsFault}
-use Rattle.ml_refutation_text.specs.private.ReadTables.{form_of}
+use Rattle.ml_refutation_text.specs.private.ReadTables.{form_of, Grows}
 use Rattle.ml_refutation_text.specs.private.ItemReads.{knows}
 use Rattle.ml_refutation_text.proofs.Going.{goes_on, fault_on, room_on}
 use Rattle.ml_refutation_text.proofs.EntriesRead.{some_entries, length-some_entries, sequent_goes}
@@ -25,10 +25,15 @@ returns-in_ok-push-in-Ok-read_sequent-clause-read c = λ v names wanted es later
     let k = knows names InFull wanted in
     let q = c.in-Ok-read_sequent.sequent.items in
     let rest = c.in-Ok-read_sequent.rest in
-    let sequents = c.args.tables.now.sequents in
-    let named = ?
+    let old = c.args.tables.now.sequents in
+    let place = c.in_ok-push-in-Ok-read_sequent.field-0 in
+    let pushed = c.in_ok-push-in-Ok-read_sequent.ensures.lists ∙ ap (λ list. old ++ list ∷ []) c.deref.ensures.value in
+    let named : slice_index_or later.sequents place [] ≡ q =
+    ap (λ i. slice_index_or later.sequents i []) c.in_ok-push-in-Ok-read_sequent.ensures.place
+    ∙ named_there old c.push.new.self later.sequents q pushed (keeps_sequents c.args.version _ later grows)
     in
-    subst (λ F. Goes v (AtEntry (knows names F wanted) es) c.args.at (AtLive (knows names F wanted) es _) rest) (ap (λ w. form_of w c.args.tables.now) (sym c.in-One.is))
+    subst (λ F. Goes v (AtEntry (knows names F wanted) es) c.args.at (AtLive (knows names F wanted) es (slice_index_or later.sequents place [])) rest)
+    (ap (λ w. form_of w c.args.tables.now) (sym c.in-One.is))
     (goes_on (c.in-Ok.ensures.read v names wanted es here)
     (subst (λ q. Goes v (AtSequent k es) c.in-Ok.behind (AtLive k es q) rest) (sym named)
     (sequent_goes names wanted es v c.in-Ok.behind rest k q c.in-Ok-read_sequent.ensures.read)))
@@ -41,7 +46,19 @@ returns-in-Err-read_sequent-clause-refused c = λ v names wanted es here.
     (fault_on e (c.in-Ok.ensures.read v names wanted es here) (c.in-Err-read_sequent.ensures.refused.in_entry v k es))
 
 pub returns-in-Ok-read_placed-clause-read : goal.returns-in-Ok-read_placed-clause-read
-returns-in-Ok-read_placed-clause-read c = ?
+returns-in-Ok-read_placed-clause-read c = λ v names wanted es later here.
+    let old = c.args.tables.now in
+    let place = c.in-Ok-read_placed.place in
+    let rest = c.in-Ok-read_placed.rest in
+    let k = knows names (ByTables old.sequents old.stacks) wanted in
+    subst
+    (λ w. Grows w old later
+    → Goes v (AtEntry (knows names (form_of w old) wanted) es) c.args.at
+    (AtLive (knows names (form_of w old) wanted) es (slice_index_or later.sequents place [])) rest)
+    (sym c.in-Two.is)
+    (λ grows.
+    subst (λ qs. Goes v (AtEntry k es) c.args.at (AtLive k es (slice_index_or qs place [])) rest) (sym grows.0)
+    (c.in-Ok-read_placed.ensures.read v names wanted old.sequents old.stacks es (sym c.len.ensures) here))
 
 pub returns-in-Err-read_placed-clause-refused : goal.returns-in-Err-read_placed-clause-refused
 returns-in-Err-read_placed-clause-refused c = λ v names wanted es here.
