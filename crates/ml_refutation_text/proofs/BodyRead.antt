@@ -2,6 +2,7 @@
 --
 --   names_goes, count_goes, no_entries, end_goes, not_end, behind_end == the lines that are no part of an entry or a table
 --   runs_of             == what was read to a place runs there
+--   goes_up             == the numbers of lines rise
 --   at_end              == behind the last entry
 --   body_read           == a text that was read to its end is one of what was read
 --   one_parts           == the parts of the entries of a text begin at one list of lines
@@ -19,9 +20,8 @@ use Rattle.ml_lines.specs.Reading.{lines_of, left_of, words_of, fronts, is_line_
 use Rattle.ml_lines.proofs.Cuts.{some_part}
 use Rattle.ml_lines.proofs.WrittenLines.{text_read}
 use Rattle.ml_lists.specs.Documents.{IsReadTo, nothing_read, line_read}
-use Rattle.ml_refutation.specs.Refutation.{Refutation, Fits, IsRefutation}
-use Rattle.ml_refutation_text.specs.RefutationText.{Form, names_line, entries_line}
-use Rattle.ml_refutation_text.specs.RefutationText.{end_line}
+use Rattle.ml_refutation.specs.Refutation.{Refutation, Entry, Fits, IsRefutation}
+use Rattle.ml_refutation_text.specs.RefutationText.{Form, names_line, entries_line, end_line}
 use Rattle.ml_refutation_text.specs.BodyRules.{IsTextOf}
 use Rattle.ml_refutation_text.specs.BodyRules.{Place, AtNames, AtEntries, AtEntry, AtEnd, AtNothing, after_names, after, at_entry, rule_number, body}
 use Rattle.ml_refutation_text.specs.LineKinds.{kind, Fixed, IsOfKinds}
@@ -131,6 +131,12 @@ runs_of v left k p lines j q rest (line_read i at line more before good) =
       counted = omega (arith, so_far.counted, length-append so_far.front (line ∷ []));
     }
 
+-- lines are counted up
+pub goes_up : {v : Version} {p q : Place} {at rest : Rest} → Goes v p at q rest → at.line ≤ rest.line
+goes_up {v = v} {p = p} {q = q} {at = at} {rest = rest} goes =
+    let read = runs_of v (left_of at.text.now) at.line p (lines_of at.text.now) rest.line q (lines_of rest.text.now) goes.read in
+    omega (arith, read.counted)
+
 -- ---- the parts of a body
 
 -- behind the last entry
@@ -168,14 +174,14 @@ module _ (v : Version) (at rest : Rest) (r : Refutation) (goes : Goes v AtNames 
         counted = omega (arith, read.counted, ap length full);
       }
 
-  pub body_read : (start before : ℕ) (parts : List EntryLines)
-      → start ≡ at.line + before
+  pub body_read : (start : ℕ) (parts : List EntryLines)
+      → at.line ≤ start
       → parts ≡ parts_from v start r.entries
       → rest.line ≡ start + entries_size v r.entries + 1 → IsBodyRead v at.text.now at.line r parts
-  body_read start before parts begins are counted =
+  body_read start parts behind are counted =
       let whole = whole_read in
       let first : start ≡ at.line + (length (lines_of at.text.now) - (entries_size v r.entries + 1)) =
-      omega (arith, begins, counted, whole.counted) in record {
+      omega (arith, behind, counted, whole.counted) in record {
         is_refutation = whole.is;
         are_lines = record { written = whole.written; are_parts = are ∙ ap (λ n. parts_from v n r.entries) first };
       }

@@ -27,10 +27,9 @@ module _ (size : ℕ) (at : Rest) where
   pub record SequentsTo (rows : List (List ℕ)) (rest : Rest) : Type 0 where
     pub goes : (v : Version) (names : ℕ)
         → Goes v (at_sequent_table names size []) at (at_sequent_table names size rows) rest
-    pub counted : rest.line ≡ at.line + length rows
 
   pub rows_begin : SequentsTo [] at
-  rows_begin = record { goes = λ v names. goes_begin v (at_sequent_table names size []) at; counted = omega arith }
+  rows_begin = record { goes = λ v names. goes_begin v (at_sequent_table names size []) at }
 
   module _ (rows : List (List ℕ)) (rest : Rest) (so_far : SequentsTo rows rest) where
     pub rows_room : HasRoom at → HasRoom rest
@@ -67,7 +66,6 @@ module _ (size : ℕ) (at : Rest) where
             (λ left.
             subst (λ rs. Runs (body v left) p (sequent_line row ∷ []) (at_sequent_table names size rs)) (sym pushed)
             (sequent_row v left names size rows row read.fit read.ascends)));
-        counted = omega (arith, so_far.counted, read.next.counted, ap length pushed, length-append rows (row ∷ []));
       }
 
     -- behind the last line

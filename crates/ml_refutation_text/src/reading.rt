@@ -7,7 +7,6 @@ ghost use Rattle.ml_refutation_text.specs.BodyRules.{IsTextOf};
 ghost use Rattle.ml_refutation.specs.Refutation as plain;
 ghost use Rattle.ml_refutation_text.specs.RefutationText as text;
 ghost use Rattle.ml_refutation_text.specs.PartLines.{AreLinesOf};
-ghost use Rattle.ml_refutation_text.specs.private.TextLines.{lines_before};
 ghost use Rattle.ml_refutation_text.specs.BodyRules.{IsFaultOf, AtNames, AtEntries, AtEnd, AtNothing, after_names, at_entry};
 ghost use Rattle.ml_refutation_text.specs.private.Reads.{HasRoom, Goes, TellsFault};
 ghost use Rattle.ml_refutation_text.specs.private.ReadTables.{form_of};
@@ -110,7 +109,6 @@ fn read_form<'a>(
 ) -> Result<(Tables, Rest<'a>), DocRefusal>
     requires { HasRoom at }
     ensures read { IfOk result (λ r. Goes version (after_names version names) at.entry (AtEntries names (form_of version r.0)) r.1) }
-    ensures counted { IfOk result (λ r. r.1.line + 2 ≡ at.entry.line + lines_before (form_of version r.0)) }
     ensures refused { IfErr result (TellsFault version (after_names version names) at.entry) }
 {
     match version {
@@ -130,7 +128,6 @@ fn no_lists(alloc: Global) -> Tables {
 fn read_count<'a>(at: Rest<'a>) -> Result<(u32, Rest<'a>), DocRefusal>
     requires { HasRoom at }
     ensures read { IfOk result (λ r. (v : Version) (names : ℕ) (F : text.Form) → Goes v (AtEntries names F) at.entry (at_entry (knows names F r.0) []) r.1) }
-    ensures counted { IfOk result (λ r. r.1.line ≡ at.entry.line + 1) }
     ensures refused { IfErr result (λ e. (v : Version) (names : ℕ) (F : text.Form) → TellsFault v (AtEntries names F) at.entry e) }
 {
     match read_numbered(at, b"entries") {

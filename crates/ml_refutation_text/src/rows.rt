@@ -69,7 +69,6 @@ pub(crate) fn read_tables<'a>(
 ) -> Result<(Tables, Rest<'a>), DocRefusal>
     requires { HasRoom at }
     ensures read { IfOk result (λ r. (v : Version) → Goes v (AtSequents names) at.entry (AtEntries names (text.ByTables r.0.sequents r.0.stacks)) r.1) }
-    ensures counted { IfOk result (λ r. r.1.line ≡ at.entry.line + 2 + length r.0.sequents + length r.0.stacks) }
     ensures refused { IfErr result (λ e. (v : Version) → TellsFault v (AtSequents names) at.entry e) }
 {
     let (sequents, behind) = match read_sequents(alloc, at) {
@@ -89,7 +88,6 @@ fn read_sequents<'a>(
 ) -> Result<(Lists, Rest<'a>), DocRefusal>
     requires { HasRoom at }
     ensures read { IfOk result (λ r. (v : Version) (names : ℕ) → Goes v (AtSequents names) at.entry (AtStacks names r.0) r.1) }
-    ensures counted { IfOk result (λ r. r.1.line ≡ at.entry.line + 1 + length r.0) }
     ensures refused { IfErr result (λ e. (v : Version) (names : ℕ) → TellsFault v (AtSequents names) at.entry e) }
 {
     let (size, behind) = match read_numbered(at, b"sequents") {
@@ -107,7 +105,6 @@ fn read_sequent_rows<'a>(
 ) -> Result<(Lists, Rest<'a>), DocRefusal>
     requires { HasRoom at }
     ensures read { IfOk result (λ r. (v : Version) (names : ℕ) → Goes v (at_sequent_table names size []) at.entry (AtStacks names r.0) r.1) }
-    ensures counted { IfOk result (λ r. r.1.line ≡ at.entry.line + length r.0) }
     ensures refused { IfErr result (λ e. (v : Version) (names : ℕ) → TellsFault v (at_sequent_table names size []) at.entry e) }
 {
     let mut rows = Lists::new(alloc);
@@ -131,7 +128,6 @@ fn read_stacks<'a>(
 ) -> Result<(Lists, Rest<'a>), DocRefusal>
     requires { HasRoom at }
     ensures read { IfOk result (λ r. (v : Version) (qs : List (List ℕ)) → Goes v (AtStacks names qs) at.entry (AtEntries names (text.ByTables qs r.0)) r.1) }
-    ensures counted { IfOk result (λ r. r.1.line ≡ at.entry.line + 1 + length r.0) }
     ensures ascend { IfOk result (λ r. All IsAscending r.0) }
     ensures refused { IfErr result (λ e. (v : Version) (qs : List (List ℕ)) → TellsFault v (AtStacks names qs) at.entry e) }
 {
@@ -156,7 +152,6 @@ fn read_stack_rows<'a>(
     requires some { 0 < at.line }
     ensures read { IfOk result (λ r. (v : Version) (count : ℕ) (qs : List (List ℕ)) → size ≡ min count (2 ^ 64 - 1)
         → Goes v (at_stack_table names qs count []) at.entry (AtEntries names (text.ByTables qs r.0)) r.1) }
-    ensures counted { IfOk result (λ r. r.1.line ≡ at.entry.line + length r.0) }
     ensures ascend { IfOk result (λ r. All IsAscending r.0) }
     ensures refused { IfErr result (λ e. (v : Version) (count : ℕ) (qs : List (List ℕ)) → size ≡ min count (2 ^ 64 - 1)
         → TellsFault v (at_stack_table names qs count []) at.entry e) }

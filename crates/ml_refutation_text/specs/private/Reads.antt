@@ -3,7 +3,6 @@
 -- A reader goes through a text from place to place; what it keeps is what the place keeps. Each of its functions goes from
 -- one place to another, or tells the first bad line between them.
 --
---   version_of F           == the version of a form
 --   around_of, arounds_of  == the splits around a line; the program has the innermost last
 --   HasRoom at             == the numbers of the lines that are left fit 64 bits
 --   IsNext at line rest    == the next line, and what stands behind it
@@ -18,13 +17,11 @@ use Rattle.std.specs.Prelude.{ℕ, ◌+◌, ◌≤◌, ◌<◌, ◌≡◌, ◌^�
 use Rattle.ml_base.specs.declared.doc_refusal.DocRefusal.{DocRefusal}
 use Rattle.ml_base.specs.declared.doc_refusal.DocRefusal.TheVariants as refused
 use Rattle.ml_base.specs.declared.version.Version.{Version}
-use Rattle.ml_base.specs.declared.version.Version.TheVariants.{One, Two}
 use Rattle.ml_lines.specs.Faults.{IsFault}
 use Rattle.ml_lines.specs.Lines.{Word, Line}
 use Rattle.ml_lines.specs.Reading.{AreWords, lines_of, left_of, word}
 use Rattle.ml_lists.specs.Documents.{IsFirstBroken, IsReadTo}
 use Rattle.ml_refutation.specs.Views.{decision_of}
-use Rattle.ml_refutation_text.specs.RefutationText as text
 use Rattle.ml_refutation_text.specs.BodyRules as body
 use Rattle.ml_refutation_text.specs.BodyRules.{Place, AtNothing, rules, rule_number}
 use Rattle.ml_refutation_text.specs.declared.body_rule.BodyRule.{BodyRule}
@@ -35,10 +32,6 @@ use Rattle.ml_refutation_text.specs.declared.branches.Around.{Around}
 use Rattle.ml_refutation_text.specs.declared.branches.Around.TheVariants as around
 
 -- ---- what the program keeps
-
-abbrev pub version_of : text.Form → Version
-version_of text.InFull = One
-version_of (text.ByTables sequents stacks) = Two
 
 abbrev pub around_of : Around → body.Around
 around_of (around.InLeft n) = body.InLeft n

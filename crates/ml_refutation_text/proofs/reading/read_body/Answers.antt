@@ -4,10 +4,9 @@ use Rattle.ml_refutation.specs.Refutation.{Refutation}
 use Rattle.ml_refutation.specs.Views.{entry_of}
 use Rattle.ml_refutation_text.specs.BodyRules.{AtNames}
 use Rattle.ml_refutation_text.specs.PartLines.{entries_size}
-use Rattle.ml_refutation_text.specs.private.TextLines.{lines_before}
 use Rattle.ml_refutation_text.specs.private.ReadTables.{form_of}
 use Rattle.ml_refutation_text.proofs.Going.{goes_on, fault_on, room_on}
-use Rattle.ml_refutation_text.proofs.BodyRead.{names_goes, at_end, body_read}
+use Rattle.ml_refutation_text.proofs.BodyRead.{names_goes, goes_up, at_end, body_read}
 use Rattle.ml_refutation_text.proofs.reading.read_body.Goals as goal
 
 pub returns-in-Err-clause-refused : goal.returns-in-Err-clause-refused
@@ -75,11 +74,9 @@ returns-in-Ok-read_end-clause-read c =
     let many = length-map items (entry_of tables.sequents tables.stacks) ∙ c.in-Ok-read_entries.ensures.whole in
     let ended = at_end names wanted F es many fourth in
     let nothing = c.in-Ok-read_end.ensures.nothing in
-    let begins : d.line ≡ at.line + lines_before F =
-    omega (arith, c.in-Ok.ensures.read.0.counted, c.in-Ok-read_form.ensures.counted, c.in-Ok-read_count.ensures.counted) in
     let counted : end.line ≡ d.line + entries_size v es + 1 = omega (arith, nothing.1, c.in-Ok-read_entries.ensures.counted) in
-    body_read v at end r (goes_on ended (c.in-Ok-read_end.ensures.read v r)) nothing.0 d.line (lines_before F)
-    c.in-Ok-read_entries.read.1.items begins c.in-Ok-read_entries.ensures.parts counted
+    body_read v at end r (goes_on ended (c.in-Ok-read_end.ensures.read v r)) nothing.0 d.line
+    c.in-Ok-read_entries.read.1.items (goes_up third) c.in-Ok-read_entries.ensures.parts counted
 
 pub returns-in-Err-read_end-clause-refused : goal.returns-in-Err-read_end-clause-refused
 returns-in-Err-read_end-clause-refused c =

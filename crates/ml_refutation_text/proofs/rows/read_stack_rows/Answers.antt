@@ -40,11 +40,6 @@ returns-clause-read c = λ v count qs is.
     stacks_done c.args.names count c.args.at c.rows.rows c.rows.rest so_far c.args.size is full c.requires.some
     (stack_rows_room c.args.names count c.args.at c.rows.rows c.rows.rest so_far c.requires.room) v qs
 
-pub returns-clause-counted : goal.returns-clause-counted
-returns-clause-counted c =
-    let own : c.args.size ≡ min c.args.size (2 ^ 64 - 1) = omega (arith, c.ranges.size.fits) in
-    (c.rows.invariant c.args.size own).counted
-
 pub returns-clause-ascend : goal.returns-clause-ascend
 returns-clause-ascend c =
     let own : c.args.size ≡ min c.args.size (2 ^ 64 - 1) = omega (arith, c.ranges.size.fits) in
