@@ -267,7 +267,7 @@ module _ (names wanted : ℕ) (V : Version) (old : Tables) (at : Rest) where
           → more ≡ entries ++ e ∷ [] → others ≡ parts ++ lines ∷ [] → EntriesTo new more others (i + 1) behind
       entries_more new e lines behind more others goes grows lines_are counted pushed parts_pushed =
           let all : (qs ks : List (List ℕ))
-              → map (entry_of qs ks) more ≡ map (entry_of qs ks) entries ++ entry_of qs ks e ∷ [] =
+          → map (entry_of qs ks) more ≡ map (entry_of qs ks) entries ++ entry_of qs ks e ∷ [] =
           λ qs ks. ap (map (entry_of qs ks)) pushed ∙ map-append (entry_of qs ks) entries (e ∷ []) in record {
             goes = λ v later onward.
                 let es = shown later entries in

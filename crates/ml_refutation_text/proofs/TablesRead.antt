@@ -3,7 +3,7 @@
 --   SequentsTo n at rows rest    == from `at` up to `rest` these rows of a table of n sequents were read
 --   StacksTo m n at rows rest    == so of a table of n stacks, with m names
 --   rows_begin, row_more, rows_done, and so on == before any line, one more, and behind the last one
-use Rattle.std.proofs.Common.{◌≡◌, ℕ, ◌+◌, ◌-◌, ◌<◌, ◌≤◌, ◌^◌, true, false, cond, min, nat_lt, List, [], ◌∷◌, ◌++◌, Some, All, get_or, slice_get, length, refl, sym, ap, subst, ◌∙◌, length-append, arith}
+use Rattle.std.proofs.Common.{◌≡◌, ℕ, ◌+◌, ◌-◌, ◌<◌, ◌≤◌, ◌^◌, true, false, cond, min, nat_lt, List, [], ◌∷◌, ◌++◌, All, length, refl, sym, ap, subst, length-append, arith}
 use Rattle.std.proofs.lemmas.Bool.Decides.{nat_tests}
 use Rattle.std.proofs.lemmas.List.Elements.{All-nil, All-cons, All-append}
 use Rattle.ml_base.specs.declared.version.Version.{Version}

@@ -71,7 +71,13 @@ fn read_entry<'a>(
     ensures counted { IfOk result (λ r. (qs ks : List (List ℕ)) → r.2.line ≡ at.entry.line + entry_size known.version (entry_of qs ks r.0)) }
     ensures refused { IfErr result (λ e. (v : Version) (es : List plain.Entry) → length es ≡ number → TellsFault v (AtEntry (known_of known tables.old) es) at.entry e) }
 {
-    let (sequent, sequent_line, at_live) = match read_head(alloc, at, known.version, tables, number) {
+    let (sequent, sequent_line, at_live) = match read_head(
+        alloc,
+        at,
+        known.version,
+        tables,
+        number,
+    ) {
         Ok(read) => read,
         Err(refusal) => return Err(refusal),
     };
@@ -79,7 +85,14 @@ fn read_entry<'a>(
         Ok(read) => read,
         Err(refusal) => return Err(refusal),
     };
-    let (items, heights, at_decision) = match read_traces(alloc, at_items, known.version, known.names, tables, live) {
+    let (items, heights, at_decision) = match read_traces(
+        alloc,
+        at_items,
+        known.version,
+        known.names,
+        tables,
+        live,
+    ) {
         Ok(read) => read,
         Err(refusal) => return Err(refusal),
     };

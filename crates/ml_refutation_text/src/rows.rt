@@ -82,10 +82,7 @@ pub(crate) fn read_tables<'a>(
 }
 
 // the table of sequents, with the number of its lines
-fn read_sequents<'a>(
-    alloc: Global,
-    at: Rest<'a>,
-) -> Result<(Lists, Rest<'a>), DocRefusal>
+fn read_sequents<'a>(alloc: Global, at: Rest<'a>) -> Result<(Lists, Rest<'a>), DocRefusal>
     requires { HasRoom at }
     ensures read { IfOk result (λ r. (v : Version) (names : ℕ) → Goes v (AtSequents names) at.entry (AtStacks names r.0) r.1) }
     ensures refused { IfErr result (λ e. (v : Version) (names : ℕ) → TellsFault v (AtSequents names) at.entry e) }
@@ -121,11 +118,7 @@ fn read_sequent_rows<'a>(
 }
 
 // the table of stacks, with the number of its lines
-fn read_stacks<'a>(
-    alloc: Global,
-    at: Rest<'a>,
-    names: u32,
-) -> Result<(Lists, Rest<'a>), DocRefusal>
+fn read_stacks<'a>(alloc: Global, at: Rest<'a>, names: u32) -> Result<(Lists, Rest<'a>), DocRefusal>
     requires { HasRoom at }
     ensures read { IfOk result (λ r. (v : Version) (qs : List (List ℕ)) → Goes v (AtStacks names qs) at.entry (AtEntries names (text.ByTables qs r.0)) r.1) }
     ensures ascend { IfOk result (λ r. All IsAscending r.0) }

@@ -9,7 +9,6 @@
 --   BodyLines F r ls        == those of the body of r
 --   IsForm v n F            == F is a form of the version v, for n names: its tables are as what they stand for
 --   HasLines v text r       == the text has the lines of the refutation r in the version v
---   lines_before F          == how many lines stand before the entries
 use Rattle.std.specs.Prelude.{ℕ, ◌+◌, ◌≡◌, ⊤, List, [], ◌∷◌, ◌++◌, Some, map, length, slice_get, All}
 use Rattle.ml_base.specs.declared.version.Version.{Version}
 use Rattle.ml_base.specs.declared.version.Version.TheVariants.{One, Two}
@@ -92,8 +91,3 @@ pub record HasLines (v : Version) (text : List ℕ) (r : Refutation) : Type 0 wh
   pub lines : List Line
   pub are_lines : BodyLines form r lines
   pub is_text : text ≡ text_of lines
-
--- `names` and `entries`, and the tables with their numbers of lines, if there are any
-abbrev pub lines_before : Form → ℕ
-lines_before InFull = 2
-lines_before (ByTables sequents stacks) = 4 + length sequents + length stacks

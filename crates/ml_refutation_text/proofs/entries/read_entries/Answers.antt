@@ -1,5 +1,4 @@
-use Rattle.std.proofs.Common.{[], map, sym, subst}
-use Rattle.ml_refutation.specs.Views.{entry_of}
+use Rattle.std.proofs.Common.{[], sym, subst}
 use Rattle.ml_refutation_text.proofs.EntriesRead.{EntriesTo, entries_begin, entries_room, entries_refused, entries_more}
 use Rattle.ml_refutation_text.proofs.TablesGrow.{grows_none}
 use Rattle.ml_refutation_text.proofs.entries.read_entries.Goals as goal

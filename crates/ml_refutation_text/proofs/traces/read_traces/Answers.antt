@@ -2,9 +2,8 @@ use Rattle.std.proofs.Common.{◌∙◌, length, ap, sym, subst, slice_get, ◌-
 use Rattle.std.specs.Option.{option_copied}
 use Rattle.ml_lists.proofs.Chains.{last_is}
 use Rattle.ml_lines.specs.Reading.{words_of}
-use Rattle.ml_refutation_text.specs.private.ReadTables.{form_of, Grows}
+use Rattle.ml_refutation_text.specs.private.ReadTables.{form_of}
 use Rattle.ml_refutation_text.specs.private.ItemReads.{before_of, IsTraceLine}
-use Rattle.ml_refutation_text.specs.declared.known.Tables.{Tables}
 use Rattle.ml_refutation_text.proofs.TablesGrow.{grows_none, grows_on}
 use Rattle.ml_refutation_text.proofs.TracesRead.{ItemsTo, items_begin, items_room, items_missing, items_broken, items_more, items_heights}
 use Rattle.ml_refutation_text.proofs.traces.read_traces.Goals as goal
