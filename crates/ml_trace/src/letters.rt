@@ -47,6 +47,13 @@ impl LocalTraces {
     {
         self.triples.as_slice()
     }
+
+    // The triples, to be put in another order.
+    pub(crate) fn into_triples(self) -> Vec<Triple>
+        ensures { result.items ≡ self }
+    {
+        self.triples
+    }
 }
 
 /// A state of the trace automaton: a node, with no odd priority or with one that was guessed.
@@ -91,7 +98,7 @@ impl Model for Letter {
 impl Letter {
     /// The letter of the given transitions, whose ends are below `STATE_LIMIT`.
     ///
-    /// Cost: a sort of the transitions by their targets, in place.
+    /// Cost: a sort of the transitions by their targets, in place; linear where they stand so already.
     pub fn of(mut transitions: Vec<Transition>) -> Letter
         requires { HasSmallEnds transitions.items }
         ensures { IsPermutation transitions.items result }

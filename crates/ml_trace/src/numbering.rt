@@ -1,9 +1,10 @@
 // The numbers of the states of the trace automaton, and the letter that local traces make.
-ghost use Rattle.std.specs.Prelude.{◌≡◌, ◌≤◌, ◌==◌, ◌++◌, length, IfOk, OnOk};
-ghost use Rattle.std.specs.List.{position_or_len};
+ghost use Rattle.std.specs.Prelude.{◌≡◌, ◌<◌, ◌≤◌, ◌==◌, ◌++◌, length, IfOk, OnOk};
+ghost use Rattle.std.specs.List.{position_or_len, flat_map};
+ghost use Rattle.std.specs.List.Sorted.{IsPermutation, IsNonDecreasingBy};
 ghost use Rattle.ml_lists.specs.Ascending.{IsAscending};
 ghost use Rattle.ml_trace.specs.Automaton.{number, state_of, IsState, HasRoom, AllHaveRoom, IsLetterOf};
-ghost use Rattle.ml_trace.specs.private.LetterMoves.{moves};
+ghost use Rattle.ml_trace.specs.private.LetterMoves.{move_at, rows};
 
 use crate::letters::{AutomatonState, Letter, LocalTraces, Transition, Triple};
 use ml_base::NoMemory;
@@ -67,49 +68,96 @@ pub fn state_of(number: u32, odds: &[u32]) -> AutomatonState
 /// # Errors
 /// `NoMemory` alone.
 ///
-/// Cost: a sort of t * (1 + 2 * o) transitions at most, for t triples and o odd priorities.
-pub fn letter_of(alloc: Global, traces: &LocalTraces, odds: &[u32]) -> Result<Letter, NoMemory>
+/// Cost: a sort of the triples by their targets, and then linear in the transitions: t * (1 + 2 * o) at most, for t
+/// triples and o odd priorities.
+pub fn letter_of(alloc: Global, traces: LocalTraces, odds: &[u32]) -> Result<Letter, NoMemory>
     requires ascending { IsAscending odds.now }
-    requires room { AllHaveRoom odds.now traces.now }
-    ensures { IfOk result (λ letter. IsLetterOf odds.now traces.now letter) }
+    requires room { AllHaveRoom odds.now traces }
+    ensures { IfOk result (λ letter. IsLetterOf odds.now traces letter) }
 {
+    let triples = by_target(traces);
     let mut transitions = Vec::new(alloc);
-    for triple in traces.triples() {
-        push_moves(&mut transitions, *triple, odds)?;
+    let mut done = 0;
+    while done < triples.len() {
+        let end = end_of_target(&triples, done);
+        push_rows(&mut transitions, &triples[done..end], odds)?;
+        done = end;
     }
     Ok(Letter::of(transitions))
 }
 
-// Appends the transitions that the triple gives.
-fn push_moves(
+// The triples, by their targets.
+fn by_target(traces: LocalTraces) -> Vec<Triple>
+    ensures moved { IsPermutation traces result.items }
+    ensures by_target { IsNonDecreasingBy (λ t. t.to) result.items }
+{
+    let mut triples = traces.into_triples();
+    triples.sort_unstable_by_key(|t| t.to);
+    triples
+}
+
+// Where the triples with the target of the i-th one end.
+fn end_of_target(triples: &[Triple], i: usize) -> usize
+    requires { i < length triples.now }
+    ensures behind { i < result }
+    ensures within { result ≤ length triples.now }
+{
+    let mut end = i + 1;
+    while end < triples.len() && triples[end].to == triples[i].to {
+        end += 1;
+    }
+    end
+}
+
+// Appends the transitions that the triples give: those without a guess, and then those to each guess.
+fn push_rows(
     transitions: &mut Vec<Transition>,
-    triple: Triple,
+    triples: &[Triple],
     odds: &[u32],
 ) -> Result<(), NoMemory>
-    requires from { HasRoom odds.now triple.from }
-    requires to { HasRoom odds.now triple.to }
-    ensures { OnOk result (transitions.new.items ≡ transitions.old.items ++ moves odds.now triple) }
+    requires { AllHaveRoom odds.now triples.now }
+    ensures { OnOk result (transitions.new.items ≡ transitions.old.items ++ rows odds.now triples.now) }
 {
     let states_per_node = odds.len() + 1;
-    let from = (triple.from as usize * states_per_node) as u32;
-    let to = (triple.to as usize * states_per_node) as u32;
-    transitions.push(Transition {
-        from,
-        to,
-        accepting: false,
-    })?;
-    for (j, d) in odds.iter().enumerate() {
-        let place = j as u32 + 1;
+    for triple in triples {
         transitions.push(Transition {
-            from,
-            to: to + place,
+            from: (triple.from as usize * states_per_node) as u32,
+            to: (triple.to as usize * states_per_node) as u32,
             accepting: false,
         })?;
-        if *d <= triple.lowest {
+    }
+    for j in 0..odds.len() {
+        push_row(transitions, triples, odds, j)?;
+    }
+    Ok(())
+}
+
+// Appends those to the guess of the odd priority with the index j.
+fn push_row(
+    transitions: &mut Vec<Transition>,
+    triples: &[Triple],
+    odds: &[u32],
+    j: usize,
+) -> Result<(), NoMemory>
+    requires room { AllHaveRoom odds.now triples.now }
+    requires index { j < length odds.now }
+    ensures { OnOk result (transitions.new.items ≡ transitions.old.items ++ flat_map (move_at odds.now j) triples.now) }
+{
+    let states_per_node = odds.len() + 1;
+    let odd = odds[j];
+    for triple in triples {
+        let from = (triple.from as usize * states_per_node) as u32;
+        let to = (triple.to as usize * states_per_node + j + 1) as u32;
+        transitions.push(Transition {
+            from,
+            to,
+            accepting: false,
+        })?;
+        if odd <= triple.lowest {
             transitions.push(Transition {
-                from: from + place,
-                to: to + place,
-                accepting: *d == triple.lowest,
+                from: from + j as u32 + 1,
+                to,
+                accepting: odd == triple.lowest,
             })?;
         }
     }
