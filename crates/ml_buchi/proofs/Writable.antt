@@ -1,6 +1,5 @@
 -- What is made deterministic can be written.
 --
---   priority_low         == a mark that fits below a number has no greater priority
 --   determinised_writable == the deterministic automaton of a Büchi automaton can be written
 use Rattle.std.proofs.Common.{ℕ, ◌≡◌, ◌^◌, ◌<◌, ◌≤◌, List, length, sym, subst, ap, ◌∙◌, arith}
 use Rattle.std.proofs.lemmas.List.{length-map}
@@ -10,10 +9,9 @@ use Rattle.ml_lists.specs.Member.{IsMember}
 use Rattle.ml_lists.proofs.FirstEntries.{number, number_is}
 use Rattle.ml_lists.proofs.Member.{Image, member-All, member-map_from}
 use Rattle.ml_trace.specs.declared.letters.Transition.{Transition}
-use Rattle.ml_trace.specs.declared.marks.Mark.{Mark}
-use Rattle.ml_trace.specs.declared.marks.Mark.TheVariants.{Red, Green, Neutral}
-use Rattle.ml_trace.specs.Marks.{FitsBelow, priority}
+use Rattle.ml_trace.specs.Marks.{priority}
 use Rattle.ml_trace.specs.Stack.{Item}
+use Rattle.ml_trace.proofs.Priorities.{priority-most}
 use Rattle.ml_history.specs.History.{start}
 use Rattle.ml_history.specs.HistoryOrder.{history_eq, history_eq-decides}
 use Rattle.ml_history.specs.HistoryStep.{stepped, step_mark}
@@ -27,11 +25,6 @@ use Rattle.ml_buchi.specs.Deterministic.{Deterministic, IsDeterminised}
 use Rattle.ml_buchi.specs.Valuations.{letter_of, letters_of, valuations}
 use Rattle.ml_buchi.specs.WrittenText.{IsRow, IsWritable}
 use Rattle.ml_buchi.proofs.EdgesTaken.{letters_stay}
-
-priority_low : (top : ℕ) (m : Mark) → FitsBelow top m → priority top m ≤ top
-priority_low top (Red x) fits = omega (arith, fits)
-priority_low top (Green x) fits = omega (arith, fits)
-priority_low top Neutral fits = omega arith
 
 module _ (a : Automaton) (d : Deterministic) (automaton : IsAutomaton a) (of : IsDeterminised a d) where
   abbrev row : List (List Transition)
@@ -54,7 +47,7 @@ module _ (a : Automaton) (d : Deterministic) (automaton : IsAutomaton a) (of : I
   move_fits h letter m i =
       let fits = reached_fits a.states row a.start (letters_stay a automaton) automaton.start_below h letter
       (of.numbered.is_numbering.are_reached h m) i in
-      let low = priority_low (neutral a.states) (step_mark h letter) fits in
+      let low = priority-most (neutral a.states) (step_mark h letter) fits in
       let numbered = inside row a.start hs of.numbered.is_numbering h letter m i in
       let below = slice_get_within hs (number history_eq hs (stepped h letter)) (stepped h letter)
       (number_is history_eq history_eq-decides hs (stepped h letter) numbered) in

@@ -6,12 +6,11 @@
 --   begun          == the spread of a sequent
 --   chosen_more    == the spread with a side more
 --   low_in         == nodes on the trail are nodes
-use Rattle.std.proofs.Common.{ℕ, ◌≡◌, ◌<◌, ◌↔◌, Bool, true, false, IsTrue, List, [], ◌∷◌, length, All, Result, Ok, Err, IfOk, OnOk, refl, sym, ap, ◌∙◌, subst}
+use Rattle.std.proofs.Common.{ℕ, ◌≡◌, ◌<◌, ◌↔◌, Bool, false, IsTrue, List, [], ◌∷◌, length, All, Result, Ok, Err, IfOk, OnOk, sym, ap, ◌∙◌, subst}
 use Rattle.ml_lists.specs.Member.{IsMember}
 use Rattle.ml_lists.proofs.Ascending.{ascending-member, member-ascending}
 use Rattle.ml_lists.proofs.Member.{member-All}
 use Rattle.ml_graph.specs.declared.node.Node.{Node}
-use Rattle.ml_graph.specs.declared.node.Node.TheVariants as node
 use Rattle.ml_graph.specs.Graph.{Graph, IsGraph, size, node_at}
 use Rattle.ml_sequent.specs.declared.choice.Side.{Side}
 use Rattle.ml_sequent.specs.declared.clashes.ClashCause.TheVariants as cause
@@ -20,6 +19,7 @@ use Rattle.ml_sequent.specs.Spread.{SpreadList, IsSpread, IsSpreadOf, IsCause, I
 use Rattle.ml_sequent.specs.Step.{IsDiamondOf}
 use Rattle.ml_sequent.specs.private.Tests.{is_false}
 use Rattle.ml_sequent.specs.private.Trails.{IsJoined, IsUnderway, HasSpread, spread_at}
+use Rattle.ml_sequent.proofs.Causes.{is_false-is}
 use Rattle.ml_sequent.proofs.OwnSpreads.{own_spread}
 use Rattle.ml_sequent.proofs.RankedWalks.{spread_low}
 use Rattle.ml_sequent.proofs.Traces.{sequent_low}
@@ -43,21 +43,12 @@ module _ (g g2 : Graph) (nodes : List ℕ) (c : List (ℕ × Side)) (same : g2 �
   pub false_told : (n : ℕ) (x : Node) (b : Bool) → IsMember n nodes → x ≡ node_at g2 n → b ≡ is_false x
       → IsTrue b ↔ IsCause g (spread_at nodes c) (cause.False n)
   false_told n x b h at is = (
-    (λ t. (member-ascending n nodes h, told (node_at g n) (sym whole ∙ t))),
+    (λ t. (member-ascending n nodes h, is_false-is (node_at g n) (sym whole ∙ t))),
     (λ d. whole ∙ ap is_false d.1),
   )
     where
       whole : b ≡ is_false (node_at g n)
       whole = is ∙ ap is_false (at ∙ ap (λ k. node_at k n) same)
-
-      told : (y : Node) → is_false y ≡ true → y ≡ node.False
-      told node.True e = absurd (cc)
-      told node.False e = refl
-      told (node.Lit p positive) e = absurd (cc)
-      told (node.And l r) e = absurd (cc)
-      told (node.Or l r) e = absurd (cc)
-      told (node.Diamond a to) e = absurd (cc)
-      told (node.Square a to) e = absurd (cc)
 
   pub open_told : (n : ℕ) (b : Bool) → IsMember n nodes → (IsTrue b ↔ IsOpenNode g2 c n)
       → IsTrue b ↔ IsOpenOr g (spread_at nodes c) n

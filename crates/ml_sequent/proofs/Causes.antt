@@ -1,5 +1,6 @@
 -- Clashes: what the searches for each kind of cause say of causes.
 --
+--   is_false-is     == False passes the test for False, and nothing else
 --   false_cause, pair_cause, cycle_cause == the first of each kind is the first cause, where none of an earlier kind is
 --   negatives_same, negatives_noted == the first negative literals of one node more
 --   no_partner      == where there is no negative literal, no node has a partner
@@ -26,7 +27,7 @@ use Rattle.ml_sequent.proofs.Firsts.{FoundFirst, found_first, found_none, all_fa
 -- ---- nodes by tests
 
 -- False passes the test, and nothing else
-is_false-is : (x : Node) → is_false x ≡ true → x ≡ node.False
+pub is_false-is : (x : Node) → is_false x ≡ true → x ≡ node.False
 is_false-is node.True e = cc
 is_false-is node.False e = refl
 is_false-is (node.Lit p positive) e = cc
