@@ -57,7 +57,7 @@ pub(crate) fn follow(
         Follows branch.old.graph (viewed view.entry) branch.old.spread diamond (position_of fresh)) }
 {
     let (sequent, traces) = branch.step(diamond)?;
-    let letter = letter_of(alloc, &traces, &terms.odds)?;
+    let letter = letter_of(alloc, traces, &terms.odds)?;
     let (history, mark) = view.history.step(&letter)?;
     Ok(Fresh {
         sequent,

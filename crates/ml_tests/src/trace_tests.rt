@@ -24,7 +24,7 @@ fn letter_of_one_triple(rt: HostRuntime) -> Result<(), Fail> {
     };
     let traces = LocalTraces::new([triple].to_vec(rt.alloc())?);
     assert_eq!(rt; traces.triples().len(), 1);
-    let letter = letter_of(rt.alloc(), &traces, &[1])?;
+    let letter = letter_of(rt.alloc(), traces, &[1])?;
     let rows = [
         (transition(0, 8, false), true),
         (transition(0, 9, false), true),
