@@ -24,5 +24,9 @@ pub mod SomeGraph
 pub mod OneSize
 -- where the nodes of a closure hold
 pub mod ClosureNodes
+-- a draft of nodes, one node more
+pub mod NumberedDrafts
+-- the graph of a draft
+pub mod NumberedClosures
 -- names and priorities of the graphs of closures
 pub mod HeldClosures

@@ -2,6 +2,8 @@
 pub mod Nodes
 -- graphs whose nodes stand for values
 pub mod ClosureGraph
+-- values that are numbered as they are met
+pub mod NumberedValues
 -- graphs that are alike
 pub mod AlikeNodes
 -- what private contracts cite

@@ -2,17 +2,19 @@
 //
 // Begin with `Names`, the names of a graph with their places, with `Draft`, the nodes and priorities that are made one
 // occurrence after the other, and with `Lists`, of which a graph is made. `specs/Nodes.antt` says which two nodes an
-// occurrence has.
+// occurrence has. A graph whose nodes stand for values is made by a `Numbering`, value after value.
 //
-// Below stands `ml_graph`, for graphs. Above stand `ml_mu_graph`, `ml_pdl_graph` and `ml_blocks`.
+// Below stands `ml_graph`, for graphs. Above stand `ml_mu_graph`, `ml_pdl_graph`, `ml_word_graph` and `ml_blocks`.
 #![tactic(auto)]
 
 mod draft;
 mod lists;
 mod names;
 mod nodes;
+mod numbering;
 
 pub use draft::Draft;
 pub use lists::{Lists, root_of};
 pub use names::{Names, add_action, add_proposition};
 pub use nodes::{and, constant, lead_to, negative, or, positive, weight};
+pub use numbering::{Form, Numbering};

@@ -1,10 +1,11 @@
 // The names of a graph: its propositions and its actions, each once, in the order in which they come.
-ghost use Rattle.std.specs.Prelude.{◌≡◌, ◌<◌, ◌^◌, ◌++◌, ◌∷◌, [], if◌then◌else◌, length, position, unwrap_or, OnOk, OnErr};
+ghost use Rattle.std.specs.Prelude.{◌≡◌, ◌<◌, ◌^◌, ◌++◌, ◌∷◌, [], if◌then◌else◌, codes, length, position, unwrap_or, IfOk, OnOk, OnErr};
 ghost use Rattle.std.specs.List.{list_any};
 ghost use Rattle.ml_text.specs.NameLists.{with_name, place_of};
 
 use indexmap::IndexSet;
 use ml_base::{Action, Name, NoMemory};
+use std::alloc::Global;
 use std::hash::Hash;
 
 /// The names of a graph.
@@ -66,6 +67,22 @@ pub fn add_action(actions: &mut IndexSet<Action>, name: &Action) -> Result<(), N
 }
 
 impl Names {
+    /// The names of a graph with these propositions, whose only action is `_`.
+    ///
+    /// # Errors
+    /// `NoMemory` alone.
+    ///
+    /// Cost: constant on average.
+    pub fn with_blank(alloc: Global, props: IndexSet<Name>) -> Result<Names, NoMemory>
+        ensures props { IfOk result (λ names. names.props.keys ≡ props.keys) }
+        ensures actions { IfOk result (λ names. names.actions.keys ≡ codes "_" ∷ []) }
+    {
+        let blank = Action::blank(alloc)?;
+        let mut actions = IndexSet::new(alloc);
+        add_action(&mut actions, &blank)?;
+        Ok(Names { props, actions })
+    }
+
     /// The place of a proposition.
     ///
     /// Cost: the name's length, on average.
