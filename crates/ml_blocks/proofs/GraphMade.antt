@@ -3,7 +3,7 @@
 --   kept_whole    == all that is kept of a formula stands
 --   starts        == the problem starts with the node that is meant
 --   root_is       == the graph begins with the node that is meant
---   graph_made    == a draft of all nodes is the graph
+--   graph_listed  == a draft of all nodes is the graph
 --   closure_large == a draft that overflows tells of a large closure
 use Rattle.std.proofs.Common.{ℕ, ◌≡◌, Bool, List, [], ◌∷◌, ◌++◌, length, Option, None, Some, codes, bytes_eq, refl, sym, ap, ◌∙◌, subst, append-nil}
 use Rattle.std.specs.List.{IsDistinct}
@@ -16,23 +16,24 @@ use Rattle.ml_graph.specs.Graph.{Graph}
 use Rattle.ml_graph.specs.declared.node.Node.{Node}
 use Rattle.ml_nodes.proofs.InRange.{none_twice}
 use Rattle.ml_nodes.specs.ClosureGraph.{IsGraphFrom}
+use Rattle.ml_nodes.specs.NumberedValues.{IsClosed, IsTooLarge}
+use Rattle.ml_nodes.proofs.NumberedClosures.{IsViewed, closed_draft, too_large}
 use Rattle.ml_blocks.specs.Closures.{HasMoreThan}
 use Rattle.ml_blocks.specs.Items.{now}
 use Rattle.ml_blocks.specs.Places as places
 use Rattle.ml_blocks.specs.Places.{Place, forms}
-use Rattle.ml_blocks.specs.private.Forms.{begin_in, start_in}
+use Rattle.ml_blocks.specs.private.Forms.{begin_in, form_in, priority_in, start_in}
 use Rattle.ml_blocks.specs.private.Names.{props_onto}
-use Rattle.ml_blocks.specs.private.Numbering.{IsDraft, IsTooLarge}
 use Rattle.ml_blocks.specs.private.Occurrences.{spread, formula_here, occurrence_here, eventualities_here}
 use Rattle.ml_blocks.specs.private.Views.{Kept, Stands, Fits, begin_place, place_of, start_place}
 use Rattle.ml_blocks.specs.declared.table.Occurrence.{Occurrence}
 use Rattle.ml_blocks.specs.declared.spots.Beginning.{Beginning}
 use Rattle.ml_blocks.specs.declared.spots.Beginning.TheVariants as beginning
 use Rattle.ml_blocks.specs.declared.spots.Spot.{Spot}
-use Rattle.ml_blocks.proofs.ClosedDrafts.{numbered, made_graph, too_large}
 use Rattle.ml_blocks.proofs.KeptFormulas.{formula_is, kept_at}
 use Rattle.ml_blocks.proofs.NumberedForms.{begun_fits}
 use Rattle.ml_blocks.proofs.SpreadLists.{stands_in}
+use Rattle.ml_blocks.proofs.ViewedSpots.{viewed}
 
 pub names_differ : (names : List (List ℕ)) (f : Formula) → names ≡ props_onto f [] → IsDistinct bytes_eq names
 names_differ names f is =
@@ -106,34 +107,29 @@ module _ (f : Formula) (first : Option Bool) (sign : Bool) (from : Beginning) (m
   root_fits : Fits K root
   root_fits = root_fits_by from
 
-  pub closure_large : IsTooLarge os lists begin root max → HasMoreThan (begin_place from start) max
+  viewed_spots : IsViewed forms names (form_in os lists begin) (priority_in os lists) root (place_of K.formulas start)
+  viewed_spots = viewed K start begin root starts begin_fits root_fits
+
+  pub closure_large : IsTooLarge (form_in os lists begin) root max → HasMoreThan (begin_place from start) max
   closure_large large =
-      subst (λ p. HasMoreThan p max) root_is (too_large K start begin root starts begin_fits root_fits max large)
+      subst (λ p. HasMoreThan p max) root_is
+      (too_large forms names (form_in os lists begin) (priority_in os lists) root (place_of K.formulas start) viewed_spots max large)
 
-  module _ (xs : List Spot) (vs : List Node) (ps : List ℕ)
-      (D : IsDraft os lists begin root max xs vs ps)
-      (all : length vs ≡ length xs) where
-    abbrev graph : Graph
-    graph = record { nodes = vs; priorities = ps; root = 0; props = names; actions = codes "_" ∷ [] }
-
-    is_made : IsGraphFrom forms graph (begin_place from start)
-    is_made =
-        subst (IsGraphFrom forms graph) root_is (record {
-          is_graph =
-              made_graph K start begin root starts begin_fits root_fits max xs vs ps D all
-              (names_differ names f names_are);
-          is_numbered = (_, numbered K start begin root starts begin_fits root_fits max xs vs ps D all);
-        })
-
-    -- the same of the lists that a program holds
-    pub graph_made : (g : Graph)
-        → g.nodes ≡ vs
-        → g.priorities ≡ ps
-        → g.root ≡ 0
-        → g.props ≡ names
-        → g.actions ≡ codes "_" ∷ []
-        → IsGraphFrom forms g (begin_place from start)
-    graph_made g nodes priorities root props actions =
-        let same : graph ≡ g =
-        sym (λ i. record { nodes = nodes i; priorities = priorities i; root = root i; props = props i; actions = actions i }) in
-        subst (λ h. IsGraphFrom forms h (begin_place from start)) same is_made
+  -- the graph of a draft, as the lists that a program holds
+  pub graph_listed : (vs : List Node) (ps : List ℕ)
+      → IsClosed (form_in os lists begin) (priority_in os lists) root max vs ps
+      → (nodes : List Node) (priorities : List ℕ) (props actions : List (List ℕ))
+      → nodes ≡ vs
+      → priorities ≡ ps
+      → props ≡ names
+      → actions ≡ codes "_" ∷ []
+      → IsGraphFrom forms (record { nodes = nodes; priorities = priorities; root = 0; props = props; actions = actions })
+          (begin_place from start)
+  graph_listed vs ps D nodes priorities props actions same ranks named blank =
+      let is =
+      closed_draft forms names (form_in os lists begin) (priority_in os lists) root (place_of K.formulas start) viewed_spots max
+      D.values vs ps D.draft D.whole (names_differ names f names_are) in
+      subst (λ p. IsGraphFrom forms (record { nodes = nodes; priorities = priorities; root = 0; props = props; actions = actions }) p)
+      root_is
+      (subst (λ g. IsGraphFrom forms g (place_of K.formulas start root))
+      (sym (λ i. record { nodes = same i; priorities = ranks i; root = 0; props = named i; actions = blank i })) is)

@@ -66,10 +66,8 @@ pub mod FocusTurns
 pub mod NumberedForms
 -- when nodes by numbers are equal
 pub mod SpotEquality
--- drafts of a graph
-pub mod DraftSteps
--- a draft of all nodes
-pub mod ClosedDrafts
+-- what nodes by numbers stand for
+pub mod ViewedSpots
 -- what is made of a formula
 pub mod GraphMade
 -- what is told of results

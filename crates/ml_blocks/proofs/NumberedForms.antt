@@ -19,21 +19,21 @@ use Rattle.ml_blocks.specs.Places as node
 use Rattle.ml_blocks.specs.Places.{Place, path_of, all_of, one_of, focus_behind, edge_priority, form_of, priority_of, form_of_item}
 use Rattle.ml_blocks.specs.Places.{form_of_edge, form_of_block, priority_of_block, form_of_formula, form_of_connective}
 use Rattle.ml_blocks.specs.private.Asked.{now_at, put_few, others}
-use Rattle.ml_blocks.specs.private.Forms.{row_in, is_open_in, next_all, is_pending, focus_in, edge_priority_in, path_at, with_items, item_form, edge_form}
+use Rattle.ml_blocks.specs.private.Forms.{Form, row_in, is_open_in, next_all, is_pending, focus_in, edge_priority_in, path_at, with_items, item_form, edge_form}
 use Rattle.ml_blocks.specs.private.Forms.{block_form, block_priority, whole, block_at, connective_form, symbol_form, state_form, form_in, priority_in}
 use Rattle.ml_blocks.specs.private.Occurrences.{occurrence_here, entry_at, eventualities_at}
 use Rattle.ml_blocks.specs.private.Views.{Kept, Stands, IsKept, AreKept, IsIff, BlockFits, Fits, FormFits, formula_at, item_of}
-use Rattle.ml_blocks.specs.private.Views.{items_of, few_of, row_of, left_part, right_part, block_view, place_of, form_view}
+use Rattle.ml_blocks.specs.private.Views.{items_of, few_of, row_of, left_part, right_part, block_view, place_of}
 use Rattle.ml_blocks.specs.declared.items.Asked.{Asked}
 use Rattle.ml_blocks.specs.declared.rows.Row.{Row}
 use Rattle.ml_blocks.specs.declared.rows.Row.TheVariants as row
 use Rattle.ml_blocks.specs.declared.spots.Block.{Block}
 use Rattle.ml_blocks.specs.declared.spots.Fixed.TheVariants as fixed
-use Rattle.ml_blocks.specs.declared.spots.Form.{Form}
-use Rattle.ml_blocks.specs.declared.spots.Form.TheVariants as form
+use Rattle.ml_nodes.specs.declared.numbering.Form.TheVariants as form
 use Rattle.ml_blocks.specs.declared.spots.Part.TheVariants as part
 use Rattle.ml_blocks.specs.declared.spots.Spot.{Spot}
 use Rattle.ml_blocks.specs.declared.spots.Spot.TheVariants as spot
+use Rattle.ml_nodes.proofs.NumberedClosures.{form_view}
 use Rattle.ml_blocks.proofs.KeptFormulas.{formula_is, occurrence_is, eventualities_are, kept_at, of_not, of_left, of_right, of_quantifier}
 use Rattle.ml_blocks.proofs.NumberedRows.{RowKept, row_is, row_kept}
 use Rattle.ml_blocks.proofs.NumberedSets.{put_few_is, others_is, next_all_is, put_few_kept, others_kept, next_all_kept, OneKept, found_is, found_kept, pending_is}
@@ -46,7 +46,7 @@ module _ (names : List (List ℕ)) (fs : List Formula) (start : Place) where
   here = place_of fs start
 
   abbrev seen : Form → node.Form
-  seen = form_view names fs start
+  seen = form_view names here
 
   pub path_is : (b : node.Block) (first : Asked) (sign : Bool) (xs : List Asked) (k : ℕ)
       → b.first ≡ item_of fs first
@@ -157,7 +157,7 @@ module _ (K : Kept) (start : Place) where
   place = place_of K.formulas start
 
   abbrev view : Form → node.Form
-  view = form_view K.names K.formulas start
+  view = form_view K.names (place_of K.formulas start)
 
   state_same : (n : ℕ) (f : Formula) (o : Option Bool) (sign : Bool)
       → Stands K n f o

@@ -3,12 +3,14 @@
 --   spot_eq        == the test that a table makes
 --   spot_eq-same   == it holds of no two
 --   spot_eq-refl   == and of each with itself
+--   spots_told     == so it tells equal nodes
 use denote.Enum.Bare.{same_true}
 use Rattle.std.proofs.Common.{rules, ◌≡◌, ◌&&◌, Bool, true, nat_eq, refl, ap}
 use Rattle.std.specs.Bool.{beq}
 use Rattle.std.specs.Cmp.{bool_eq_equiv}
 use Rattle.std.proofs.lemmas.Bool.{and_parts, and_from, eqb-true}
 use Rattle.std.proofs.lemmas.Cmp.{nat_eq_equiv}
+use Rattle.ml_nodes.specs.NumberedValues.{Tells}
 use Rattle.ml_blocks.specs.contracts.spots.SpotPartialEq.TheImpl as test
 use Rattle.ml_blocks.specs.contracts.spots.Fixed as fixed_contract
 use Rattle.ml_blocks.specs.declared.spots.Block.{Block}
@@ -97,3 +99,6 @@ spot_eq-refl (spot.Path b) =
     and_from (asked_eq b.first b.first) (rest_eq b b) (asked_eq_equiv.refl b.first)
     (and_from (beq b.positive b.positive) (behind_eq b b) (bool_eq_equiv.refl b.positive)
     (and_from (items_eq b.items b.items) (nat_eq b.focus b.focus) (items_eq_equiv.refl b.items) (nat_eq_equiv.refl b.focus)))
+
+pub spots_told : Tells spot_eq
+spots_told = record { same = spot_eq-same; own = spot_eq-refl }

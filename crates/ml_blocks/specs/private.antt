@@ -12,5 +12,3 @@ pub mod Occurrences
 pub mod Forms
 -- which nodes they stand for
 pub mod Views
--- how nodes get their numbers
-pub mod Numbering

@@ -1,5 +1,5 @@
 // The graphs of formulas of CTL* and LTL.
-ghost use Rattle.std.specs.Prelude.{◌≡◌, ◌≤◌, [], ◌∷◌, codes, IfOk, IsErrOf};
+ghost use Rattle.std.specs.Prelude.{◌≤◌, IfOk, IsErrOf};
 ghost use Rattle.ml_graph.specs.Graph.{size};
 ghost use Rattle.ml_ctl.specs.Formula.{occurrences};
 ghost use Rattle.ml_ctl.specs.Problem.{HoldsAt};
@@ -12,30 +12,14 @@ ghost use Rattle.ml_blocks.specs.Closures.{HasMoreThan};
 ghost use Rattle.ml_blocks.specs.Places.{Root, forms};
 ghost use Rattle.ml_blocks.specs.private.Views.{begin_place, start_place};
 
-use crate::names::Names;
-use crate::numbering::{Draft, numbered};
+use crate::names::names_of;
+use crate::numbering::numbered;
 use crate::spots::Beginning;
 use crate::table::Table;
-use ml_base::{Action, Name, NoMemory};
 use ml_ctl::Term;
 use ml_graph::{BlockRefusal, ModalGraph};
+use ml_nodes::Lists;
 use std::alloc::Global;
-
-// the propositions as a list
-fn props_of(alloc: Global, names: Names) -> Result<Vec<Name>, NoMemory>
-    ensures { IfOk result (λ props. props.items ≡ names.props.keys) }
-{
-    Ok(names.into_list(alloc)?)
-}
-
-// the only action
-fn actions_of(alloc: Global) -> Result<Vec<Action>, NoMemory>
-    ensures { IfOk result (λ actions. actions.items ≡ codes "_" ∷ []) }
-{
-    let mut actions = Vec::new(alloc);
-    actions.push(Action::blank(alloc)?)?;
-    Ok(actions)
-}
 
 // the graph of a problem that starts with a block of this sign, or else with a state
 fn made(
@@ -53,20 +37,11 @@ fn made(
     ensures too_large { IsErrOf result BlockRefusal.ClosureTooLarge
         → HasMoreThan (begin_place beginning (start_place first (formula_of term.now) positive)) max }
 {
-    let names = Names::of(alloc, term)?;
+    let names = names_of(alloc, term)?;
     let table = Table::of(alloc, &names, first, term)?;
     let draft = numbered(alloc, &table, first, positive, beginning, max)?;
-    let props = props_of(alloc, names)?;
-    let actions = actions_of(alloc)?;
-    let Draft {
-        nodes,
-        priorities,
-        ..
-    } = draft;
-    match ModalGraph::build(nodes, priorities, 0, props, actions) {
-        Ok(graph) => Ok(graph),
-        Err(_) => unreachable!(),
-    }
+    let lists = Lists::of(alloc, draft, names)?;
+    Ok(lists.into_graph(0))
 }
 
 /// The modal graph of a formula of CTL*, or of its negation, if its closure has at most so many nodes: on every structure in

@@ -9,6 +9,7 @@ use crate::rows::{Row, is_next, row_of};
 use crate::table::{Symbol, Table};
 use ml_base::NoMemory;
 use ml_ctl::Quantifier;
+use ml_nodes::Form;
 use ml_text::Operator;
 use std::alloc::{AllocError, Global};
 
@@ -55,17 +56,6 @@ pub(crate) enum Spot {
     Path(Block),
 }
 
-// what a node is: a constant, a proposition by its place or its negation, an and, or else an or, of two nodes or of one
-// twice, a diamond, or else a square
-#[derive(Debug, Drop)]
-pub(crate) enum Form {
-    Constant(bool),
-    Literal(u32, bool),
-    Two(bool, Spot, Spot),
-    Twice(bool, Spot),
-    Edge(bool, Spot),
-}
-
 fn whole(number: u32, positive: bool) -> Spot
     ensures { result ≡ forms.whole number positive }
 {
@@ -98,7 +88,7 @@ fn begin(alloc: Global, first: Asked, positive: bool) -> Result<Spot, AllocError
 
 // ---- states
 
-fn connective_form(operator: Operator, positive: bool, at: u32, left: u32, right: u32) -> Form
+fn connective_form(operator: Operator, positive: bool, at: u32, left: u32, right: u32) -> Form<Spot>
     ensures { result ≡ forms.connective_form operator positive at left right }
 {
     match (operator, positive) {
@@ -116,7 +106,7 @@ fn connective_form(operator: Operator, positive: bool, at: u32, left: u32, right
 }
 
 // the formula at an occurrence, or its negation
-fn whole_form(alloc: Global, table: &Table, at: u32, positive: bool) -> Result<Form, AllocError>
+fn whole_form(alloc: Global, table: &Table, at: u32, positive: bool) -> Result<Form<Spot>, AllocError>
     ensures { IfOk result (λ form. form ≡ forms.symbol_form (listed.entry_at table.now.occurrences.items at).symbol positive at
         (listed.entry_at table.now.occurrences.items at).left (listed.entry_at table.now.occurrences.items at).right) }
 {
@@ -144,7 +134,7 @@ fn state_form(
     part: Part,
     at: u32,
     positive: bool,
-) -> Result<Form, AllocError>
+) -> Result<Form<Spot>, AllocError>
     ensures { IfOk result (λ form. form ≡ forms.state_form table.now.occurrences.items part at positive) }
 {
     let occurrence = table.at(at);
@@ -243,7 +233,7 @@ fn with_items(block: &Block, items: Vec<Asked>) -> Spot
     path(block.first, block.positive, items, block.focus)
 }
 
-fn item_form(alloc: Global, block: &Block, x: Asked, row: Row) -> Result<Form, AllocError>
+fn item_form(alloc: Global, block: &Block, x: Asked, row: Row) -> Result<Form<Spot>, AllocError>
     ensures { IfOk result (λ form. form ≡ forms.item_form block.now x row) }
 {
     let items = block.items.values();
@@ -279,7 +269,7 @@ fn item_form(alloc: Global, block: &Block, x: Asked, row: Row) -> Result<Form, A
 }
 
 // what the node of a block is, and its priority
-fn block_form(alloc: Global, table: &Table, block: &Block) -> Result<(Form, u32), AllocError>
+fn block_form(alloc: Global, table: &Table, block: &Block) -> Result<(Form<Spot>, u32), AllocError>
     ensures form { IfOk result (λ r. r.0 ≡ forms.form_in table.now.occurrences.items
         (listed.lists_of table.now.eventualities.items) (spot.Path block.now) (spot.Path block.now)) }
     ensures priority { IfOk result (λ r. r.1 ≡ forms.priority_in table.now.occurrences.items
@@ -338,7 +328,7 @@ fn fixed_form(
     first: Option<bool>,
     positive: bool,
     fixed: Fixed,
-) -> Result<Form, AllocError>
+) -> Result<Form<Spot>, AllocError>
     ensures { IfOk result (λ form. form ≡ forms.fixed_form (forms.start_in first positive) fixed) }
 {
     match fixed {
@@ -374,7 +364,7 @@ pub(crate) fn form_of(
     first: Option<bool>,
     positive: bool,
     spot: &Spot,
-) -> Result<(Form, u32), NoMemory>
+) -> Result<(Form<Spot>, u32), NoMemory>
     ensures form { IfOk result (λ r. r.0 ≡ forms.form_in table.now.occurrences.items
         (listed.lists_of table.now.eventualities.items) (forms.start_in first positive) spot.now) }
     ensures priority { IfOk result (λ r. r.1 ≡ forms.priority_in table.now.occurrences.items

@@ -1,13 +1,12 @@
 // The occurrences of a formula, by their numbers.
 ghost use Rattle.std.specs.Prelude.{◌≡◌, ◌+◌, ◌*◌, ◌<◌, ◌≤◌, ◌^◌, ◌++◌, [], ◌∷◌, None, Some, length, get_or, IfOk, OnOk};
-ghost use Rattle.ml_text.specs.Operators.{weight};
 ghost use Rattle.ml_ctl.specs.Formula.{occurrences};
 ghost use Rattle.ml_ctl.specs.Term.{formula_of};
 ghost use Rattle.ml_blocks.specs.private.Occurrences as listed;
 
-use crate::names::Names;
 use ml_base::NoMemory;
 use ml_ctl::{Pairing, Quantifier, Tense, Term, count_term};
+use ml_nodes::{Names, weight};
 use ml_text::Operator;
 use std::alloc::{AllocError, Global};
 
@@ -177,15 +176,6 @@ fn put(
     })?;
     table.eventualities.push(keys)?;
     Ok(())
-}
-
-fn weight(operator: Operator) -> u32
-    ensures { result ≡ weight operator }
-{
-    match operator {
-        Operator::Iff => 3,
-        Operator::Implies | Operator::Or | Operator::And => 1,
-    }
 }
 
 // behind an iff two constants

@@ -3,7 +3,7 @@
 --   once_more      == nothing stands twice in a list with one thing more that isn't in it
 --   Grows          == how the values by their numbers grow when those of a form get theirs
 --   grown          == they do
---   one_value      == the root alone is a draft
+--   begun          == the root alone is a draft
 --   stepped        == one node more
 --   longer         == fewer than `max` are left then
 --   root_too_many  == where there is no room for the root, more values are met
@@ -159,7 +159,7 @@ module _ {X : Type 0} (F : X → Form X) (K : X → ℕ) (root : X) (max : ℕ) 
       by_place (inl none) = absurd (cc)
       by_place (inr end) = subst Met (sym end.1) at_root
 
-  pub one_value : 1 ≤ max → IsDraft F K root max (root ∷ []) [] []
+  one_value : 1 ≤ max → IsDraft F K root max (root ∷ []) [] []
   one_value few = record {
     once = root_once;
     begins = refl;
@@ -171,6 +171,17 @@ module _ {X : Type 0} (F : X → Form X) (K : X → ℕ) (root : X) (max : ℕ) 
     runs_on = inr (refl, refl);
     from_earlier = λ k some low. absurd (omega (arith, some, low));
   }
+
+  pub begun : (xs : List X) (vs : List Node) (ps : List ℕ)
+      → xs ≡ root ∷ []
+      → vs ≡ []
+      → ps ≡ []
+      → 1 ≤ max
+      → IsDraft F K root max xs vs ps
+  begun xs vs ps alone none unranked few =
+      subst (λ zs. IsDraft F K root max zs vs ps) (sym alone)
+      (subst (λ us. IsDraft F K root max (root ∷ []) us ps) (sym none)
+      (subst (IsDraft F K root max (root ∷ []) []) (sym unranked) (one_value few)))
 
   module _ (xs ys : List X) (vs ws : List Node) (ps qs : List ℕ)
       (D : IsDraft F K root max xs vs ps)

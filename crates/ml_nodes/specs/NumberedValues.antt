@@ -16,6 +16,7 @@
 --   IsMet F root p        == the value p is reached from the root, by the forms F
 --   IsDraft F K root max xs vs ps == xs are values by their numbers, `root` the first, and vs and ps the first nodes, by the
 --                            forms F, and priorities, by K, so far
+--   IsClosed F K root max vs ps == these are the nodes and priorities of all values that are met, at most `max`
 --   IsStep F K xs ys vs ws ps qs == one node more was made
 --   HasNoRoom F max xs n  == the value with the number n leads to one too many
 --   IsTooLarge F root max == more values are met
@@ -127,6 +128,11 @@ module _ {X : Type 0} (F : X → Form X) where
     pub made : (n : ℕ) → n < length vs → IsMade K xs vs ps n
     pub runs_on : RunsOn 0 (0 ∷ flat_map (λ r. r) (map row_of vs)) (length xs)
     pub from_earlier : (k : ℕ) → 0 < k → k < length xs → (j : ℕ) × (j < k) × IsMember k (get_or (map row_of vs) j [])
+
+  pub record IsClosed (K : X → ℕ) (root : X) (max : ℕ) (vs : List Node) (ps : List ℕ) : Type 0 where
+    pub values : List X
+    pub draft : IsDraft K root max values vs ps
+    pub whole : length vs ≡ length values
 
   pub record IsStep (K : X → ℕ) (xs ys : List X) (vs ws : List Node) (ps qs : List ℕ) : Type 0 where
     pub value : X

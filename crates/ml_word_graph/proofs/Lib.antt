@@ -21,8 +21,8 @@ pub mod Agreement
 pub mod Sizes
 -- what is satisfiable on words, and on paths
 pub mod Satisfiable
--- drafts of nodes by new numbers
-pub mod ReachedDrafts
+-- how many nodes are reached
+pub mod FewReached
 -- where the nodes of all occurrences stand
 pub mod Laid
 -- the propositions of nodes

@@ -4,9 +4,9 @@ ghost use Rattle.ml_ctl.specs.Term.{formula_of};
 ghost use Rattle.ml_word_graph.specs.private.Layout as layout;
 
 use indexmap::IndexSet;
-use ml_base::{Action, Name, NoMemory};
+use ml_base::{Name, NoMemory};
 use ml_ctl::Term;
-use ml_nodes::{Names, add_action, add_proposition};
+use ml_nodes::{Names, add_proposition};
 use std::alloc::Global;
 
 // the propositions of a term, in the order of the text
@@ -27,16 +27,6 @@ fn collect(term: &Term, props: &mut IndexSet<Name>) -> Result<(), NoMemory>
     }
 }
 
-// the only action
-fn actions_of(alloc: Global) -> Result<IndexSet<Action>, NoMemory>
-    ensures { IfOk result (λ actions. actions.keys ≡ codes "_" ∷ []) }
-{
-    let blank = Action::blank(alloc)?;
-    let mut actions = IndexSet::new(alloc);
-    add_action(&mut actions, &blank)?;
-    Ok(actions)
-}
-
 // the names of a term's graph
 pub(crate) fn names_of(alloc: Global, term: &Term) -> Result<Names, NoMemory>
     ensures props { IfOk result (λ names. names.props.keys ≡ layout.props_onto (formula_of term.now) []) }
@@ -44,6 +34,5 @@ pub(crate) fn names_of(alloc: Global, term: &Term) -> Result<Names, NoMemory>
 {
     let mut props = IndexSet::new(alloc);
     collect(term, &mut props)?;
-    let actions = actions_of(alloc)?;
-    Ok(Names { props, actions })
+    Names::with_blank(alloc, props)
 }

@@ -5,6 +5,7 @@
 --   is_open_in os x      == x is to be decomposed
 --   next_in os x, next_all os xs == what x, and all of xs, ask of the next place
 --   is_pending ms k xs   == the eventuality in focus is put off
+--   Form                 == what a node is, and to which nodes it leads
 --   path_at first b xs k == the node of such a block
 --   begin_in from first b == the node that a graph begins with
 --   form_in os lists s   == what the node s is
@@ -34,8 +35,8 @@ use Rattle.ml_blocks.specs.declared.spots.Beginning.TheVariants as beginning
 use Rattle.ml_blocks.specs.declared.spots.Block.{Block}
 use Rattle.ml_blocks.specs.declared.spots.Fixed.{Fixed}
 use Rattle.ml_blocks.specs.declared.spots.Fixed.TheVariants as fixed
-use Rattle.ml_blocks.specs.declared.spots.Form.{Form}
-use Rattle.ml_blocks.specs.declared.spots.Form.TheVariants as form
+use Rattle.ml_nodes.specs.declared.numbering.Form as numbering
+use Rattle.ml_nodes.specs.declared.numbering.Form.TheVariants as form
 use Rattle.ml_blocks.specs.declared.spots.Part.{Part}
 use Rattle.ml_blocks.specs.declared.spots.Part.TheVariants as part
 use Rattle.ml_blocks.specs.declared.spots.Spot.{Spot}
@@ -110,6 +111,9 @@ next_all os [] = []
 next_all os (x ∷ xs) = put_in (next_in os x) (next_all os xs)
 
 -- ---- blocks
+
+abbrev pub Form : Type 0
+Form = numbering.Form Spot
 
 abbrev pub is_pending : List ℕ → ℕ → List Asked → Bool
 is_pending ms k xs = list_any (λ x. x.later && (key_of (due_of x) == get_or ms k 0)) xs

@@ -4,7 +4,6 @@
 --   item_of fs x         == the item that is meant by x
 --   row_of fs r          == the row that is meant by r
 --   place_of fs start s  == the node that is meant by s, where the problem starts with the node `start`
---   form_view names fs start f == the form that is meant by f, with these names of propositions
 --   StandsIn here xs i f o == at each occurrence of f, the first of which is i, xs has what `here` says of it
 --   Kept                 == what a program keeps of a formula
 --   Stands K i f o       == f stands at i, and what is kept says so
@@ -23,6 +22,7 @@ use Rattle.ml_blocks.specs.Items as plain
 use Rattle.ml_blocks.specs.Items.{Item}
 use Rattle.ml_blocks.specs.Places as node
 use Rattle.ml_blocks.specs.Places.{Place}
+use Rattle.ml_blocks.specs.private.Forms.{Form}
 use Rattle.ml_blocks.specs.private.Occurrences.{formula_here, occurrence_here, eventualities_here, sign_of}
 use Rattle.ml_blocks.specs.declared.items.Asked.{Asked}
 use Rattle.ml_blocks.specs.declared.items.Few.{Few}
@@ -34,8 +34,7 @@ use Rattle.ml_blocks.specs.declared.spots.Beginning.{Beginning}
 use Rattle.ml_blocks.specs.declared.spots.Beginning.TheVariants as beginning
 use Rattle.ml_blocks.specs.declared.spots.Block.{Block}
 use Rattle.ml_blocks.specs.declared.spots.Fixed.TheVariants as fixed
-use Rattle.ml_blocks.specs.declared.spots.Form.{Form}
-use Rattle.ml_blocks.specs.declared.spots.Form.TheVariants as form
+use Rattle.ml_nodes.specs.declared.numbering.Form.TheVariants as form
 use Rattle.ml_blocks.specs.declared.spots.Part.TheVariants as part
 use Rattle.ml_blocks.specs.declared.spots.Spot.{Spot}
 use Rattle.ml_blocks.specs.declared.spots.Spot.TheVariants as spot
@@ -89,16 +88,6 @@ place_of fs start (spot.State part.Both n b) =
 place_of fs start (spot.State part.Neither n b) =
     node.Neither (n + 2) (left_part (formula_at fs n)) (right_part (formula_at fs n)) b
 place_of fs start (spot.Path b) = node.Path (block_view fs b)
-
-abbrev pub form_view : List (List ℕ) → List Formula → (start : Place) → Form → node.Form
-form_view names fs start (form.Constant b) = node.Constant b
-form_view names fs start (form.Literal p b) = node.Literal (get_or names p []) b
-form_view names fs start (form.Two true l r) = node.And (place_of fs start l) (place_of fs start r)
-form_view names fs start (form.Two false l r) = node.Or (place_of fs start l) (place_of fs start r)
-form_view names fs start (form.Twice true s) = node.And (place_of fs start s) (place_of fs start s)
-form_view names fs start (form.Twice false s) = node.Or (place_of fs start s) (place_of fs start s)
-form_view names fs start (form.Edge true s) = node.Diamond (place_of fs start s)
-form_view names fs start (form.Edge false s) = node.Square (place_of fs start s)
 
 -- ---- what is kept
 
