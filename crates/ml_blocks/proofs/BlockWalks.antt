@@ -30,7 +30,7 @@ use Rattle.ml_blocks.specs.Laws.{signed}
 use Rattle.ml_blocks.specs.Places.{Place, Path, Holding, first_open, is_open, is_wait, focus_behind, edge_priority}
 use Rattle.ml_blocks.proofs.BlockSteps as block
 use Rattle.ml_blocks.proofs.BlockSteps.{path, other, off, edge_form_of, edge_priority_of, of_state, becomes, either, Stepped, Settled, Steps, settle}
-use Rattle.ml_blocks.proofs.ItemSetMembers.{load, next_items-all_of}
+use Rattle.ml_blocks.proofs.ItemSetMembers.{AreNow, load, next_items-all_of}
 use Rattle.ml_blocks.proofs.ItemsWithin.{IsOf, same_key}
 use Rattle.ml_blocks.proofs.LocalRuns.{Takes, LocalRun, Of, left_of, left_settled, some_open, open_now, none_open, next_of_of}
 use Rattle.ml_blocks.proofs.PathsWin.{focus_low, best_low}
@@ -156,7 +156,7 @@ module _ (B : Board) (first : Item) (b : Bool) (choice : ℕ → ℕ)
     pub k : ℕ
     pub a : Known B (path first b xs k)
     pub of : Of first xs
-    pub all_now : (y : Item) → IsMember y xs → y.later ≡ false
+    pub all_now : AreNow xs
     pub from : (y : Item) → IsMember y xs → From (at B s a.number)
     pub focus : 0 < length (eventualities first) → k < length (eventualities first)
 

@@ -43,6 +43,7 @@ use Rattle.ml_blocks.proofs.PathsWin.{NoneLost, ConstantLost, never_lost}
 use Rattle.ml_blocks.proofs.PlaceVertices as vertices
 use Rattle.ml_blocks.proofs.PlaceVertices.{Board, Known, at, player_of, number_low, form_as}
 use Rattle.ml_blocks.proofs.ReachedItems.{Reached, within_reached, state_known}
+use Rattle.ml_blocks.proofs.ItemSetMembers.{AreNow, alone}
 use Rattle.ml_blocks.proofs.RowsOfItems.{item, due_now}
 use Rattle.ml_blocks.proofs.SaidItems.{path_states}
 use Rattle.ml_blocks.proofs.WinsGivePath.{path_from_win}
@@ -195,15 +196,11 @@ module _ (B : Board) (i : ℕ) (f : Formula) (c b : Bool) (told : ItemsTold B (n
       no_foe B s h.number low (number_low B h) x.positive b (HoldsAt B.m x.formula s) (told s low x of e h) holds win
 
   module _ (s : ℕ) (low : s < (B.m).states) (a : Known B (path first b (first ∷ []) 0)) where
-    alone : (x : Item) → IsMember x (first ∷ []) → x ≡ first
-    alone x (inl e) = e
-    alone x (inr none) = absurd none
-
     of_first : (x : Item) → IsMember x (first ∷ []) → IsOf first x
-    of_first x m = subst (IsOf first) (sym (alone x m)) (itself_within i f c)
+    of_first x m = subst (IsOf first) (sym (alone x first m)) (itself_within i f c)
 
-    now_first : (x : Item) → IsMember x (first ∷ []) → x.later ≡ false
-    now_first x m = ap (λ y. y.later) (alone x m)
+    now_first : AreNow (first ∷ [])
+    now_first x m = ap (λ y. y.later) (alone x first m)
 
     reached : Reached B first b first
     reached = record { xs = first ∷ []; k = 0; a = a; of = of_first; member = inl refl }
@@ -257,7 +254,7 @@ module _ (B : Board) (i : ℕ) (f : Formula) (c b : Bool) (told : ItemsTold B (n
               a = a;
               of = of_first;
               all_now = now_first;
-              asks = λ y m. subst (λ z. Asks B.m l z 0) (sym (alone y m)) asks;
+              asks = λ y m. subst (λ z. Asks B.m l z 0) (sym (alone y first m)) asks;
               from =
                   subst (λ t. WinsFrom (vertices.game B) (opponent (player_of b)) win.strategy (at B t a.number))
                   (sym is_from.starts_at) win.wins;

@@ -19,6 +19,7 @@ use Rattle.ml_ctl.proofs.PlaceWalks.{walk-shift}
 use Rattle.ml_ctl.proofs.StepByStep.{closed}
 use Rattle.ml_blocks.specs.Items.{Item, Either, now, put_off, row, is_eventual}
 use Rattle.ml_blocks.specs.Laws.{Asks, AllSay, SaysBy, RowSays, QuantifiersAreDecided, EventualitiesComeTrue}
+use Rattle.ml_blocks.proofs.ItemSetMembers.{AreNow}
 use Rattle.ml_blocks.proofs.RowsOfItems.{item, rows_say_the_same, eventualities_are_least}
 
 pub record TwoWays (m : Structure) (l : Lasso) (x : Item) : Type 1 where
@@ -26,7 +27,7 @@ pub record TwoWays (m : Structure) (l : Lasso) (x : Item) : Type 1 where
   pub second : List Item
   pub is_row : row x ≡ Either first second
   pub put : IsMember (put_off x) second
-  pub all_now : (y : Item) → IsMember y first → y.later ≡ false
+  pub all_now : AreNow first
   pub here_alone : (P Q : Property) (y : ℕ) → AllSay m l P first y → AllSay m l Q first y
   pub puts_off : (P : Property) (y : ℕ) → AllSay m l P second y → P (next_place l y)
   pub exchanged : (P Q : Property) (y : ℕ) → AllSay m l P second y → Q (next_place l y) → AllSay m l Q second y

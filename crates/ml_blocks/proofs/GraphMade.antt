@@ -5,14 +5,13 @@
 --   root_is       == the graph begins with the node that is meant
 --   graph_listed  == a draft of all nodes is the graph
 --   closure_large == a draft that overflows tells of a large closure
-use Rattle.std.proofs.Common.{ℕ, ◌≡◌, Bool, List, [], ◌∷◌, ◌++◌, length, Option, None, Some, codes, bytes_eq, refl, sym, ap, ◌∙◌, subst, append-nil}
+use Rattle.std.proofs.Common.{ℕ, ◌≡◌, Bool, List, [], ◌∷◌, ◌++◌, Option, None, Some, codes, bytes_eq, refl, sym, ap, ◌∙◌, subst, append-nil}
 use Rattle.std.specs.List.{IsDistinct}
 use Rattle.ml_text.specs.Names.{Proposition, of_kind}
 use Rattle.ml_text.proofs.NameLists.{distinct_names}
 use Rattle.ml_text.proofs.Names.{kind_among}
 use Rattle.ml_ctl.specs.Formula as plain
 use Rattle.ml_ctl.specs.Formula.{Formula}
-use Rattle.ml_graph.specs.Graph.{Graph}
 use Rattle.ml_graph.specs.declared.node.Node.{Node}
 use Rattle.ml_nodes.proofs.InRange.{none_twice}
 use Rattle.ml_nodes.specs.ClosureGraph.{IsGraphFrom}

@@ -1,5 +1,7 @@
 -- Members of sets of items.
 --
+--   AreNow xs                                   == none of these items is put off
+--   alone                                       == what is in a set of one item is that item
 --   put-member, member-put, put-keeps           == what a set with x has
 --   put_all-member, put_all-keeps, put_all-has  == what a set with all of ys has
 --   without-member, without-keeps               == what a set without x has
@@ -14,6 +16,13 @@ use Rattle.ml_ctl.specs.Formula.{occurrences}
 use Rattle.ml_blocks.specs.Items.{Item}
 use Rattle.ml_blocks.specs.ItemSets.{key, put, put_all, without, next_items, next_of}
 use Rattle.ml_blocks.specs.Places.{is_open}
+
+abbrev pub AreNow : List Item → Type 0
+AreNow xs = (x : Item) → IsMember x xs → x.later ≡ false
+
+pub alone : (x y : Item) → IsMember x (y ∷ []) → x ≡ y
+alone x y (inl e) = e
+alone x y (inr none) = absurd none
 
 -- the three forms of the set with x
 module _ (x y : Item) (ys : List Item) where

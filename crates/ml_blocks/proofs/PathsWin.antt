@@ -36,7 +36,7 @@ use Rattle.ml_blocks.proofs.BlockSteps.{path, constant, other, off, edge_form_of
 use Rattle.ml_blocks.proofs.BlockSteps as block
 use Rattle.ml_blocks.proofs.ComingTrue.{TwoWays, two_ways, eventualities_come_true}
 use Rattle.ml_nodes.proofs.EndlessWalks.{Onward, never_for_ever}
-use Rattle.ml_blocks.proofs.ItemSetMembers.{load, next_items-member, next_items-all_of, next_items-has, put_all-member, without-member}
+use Rattle.ml_blocks.proofs.ItemSetMembers.{AreNow, load, next_items-member, next_items-all_of, next_items-has, put_all-member, without-member}
 use Rattle.ml_blocks.proofs.ItemsWithin.{IsOf, within_stands, same_key}
 use Rattle.ml_blocks.proofs.LocalRuns.{Takes, LocalRun, Of, left_of, left_settled, some_open, open_now, none_open, waiting, next_of_of, taken_of}
 use Rattle.ml_blocks.proofs.PlaceVertices.{Board, Known, Branches, Edges, at, game, player_of, Goes, vertex_is, edges, own_branch}
@@ -315,7 +315,7 @@ module _ (B : Board) (first : Item) (b : Bool) (l : Lasso) (is_path : IsPath B.m
     pub k : ℕ
     pub a : Known B (path first b xs k)
     pub of : Of first xs
-    pub all_now : (y : Item) → IsMember y xs → y.later ≡ false
+    pub all_now : AreNow xs
     pub asks : (y : Item) → IsMember y xs → Asks B.m l y p
     pub from : From (at B (entry l p) a.number)
     pub low : 0 < length (eventualities first) → k < length (eventualities first)

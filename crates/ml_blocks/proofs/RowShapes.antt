@@ -18,7 +18,7 @@ use Rattle.ml_blocks.specs.ItemSets.{due, next_of, next_items}
 use Rattle.ml_blocks.proofs.LocalRuns.{Takes, waiting}
 use Rattle.ml_blocks.specs.Places.{is_open}
 use Rattle.ml_blocks.proofs.RowsOfItems.{item}
-use Rattle.ml_blocks.proofs.ItemSetMembers.{next_items-member}
+use Rattle.ml_blocks.proofs.ItemSetMembers.{AreNow, next_items-member}
 
 -- y is a now-item of a smaller formula than f, or x put off
 abbrev pub Part : Formula → Item → Item → Type 0
@@ -196,6 +196,6 @@ next_now x shut = from (waiting x shut)
 -- what is asked of the next place, where no item is open, is asked there as it stands
 pub next_items_now : (xs : List Item)
     → ((x : Item) → IsMember x xs → is_open x ≡ false)
-    → (v : Item) → IsMember v (next_items xs) → v.later ≡ false
+    → AreNow (next_items xs)
 next_items_now xs shut v m =
     let found = next_items-member v xs m in ap (λ z. z.later) found.2 ∙ next_now found.0 (shut found.0 found.1)

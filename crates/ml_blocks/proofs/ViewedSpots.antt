@@ -2,7 +2,7 @@
 --
 --   place_once  == a node has one form by numbers
 --   viewed      == what is met by numbers stands for a node of its form and priority
-use Rattle.std.proofs.Common.{◌≡◌, ◌+◌, ◌-◌, inl, inr, arith, true, false, List, [], ◌∷◌, map, refl, sym, ap, ◌∙◌, subst}
+use Rattle.std.proofs.Common.{◌≡◌, ◌+◌, ◌-◌, inl, inr, arith, List, [], ◌∷◌, map, refl, sym, ap, ◌∙◌, subst}
 use Rattle.ml_lists.specs.Member.{IsMember}
 use Rattle.ml_nodes.specs.NumberedValues.{IsMet, at_root, behind, children_of}
 use Rattle.ml_nodes.specs.declared.numbering.Form.TheVariants as form

@@ -7,11 +7,10 @@
 --   is_its_graph         == the graph is that of the problem
 --   turning              == a structure: 0 leads to itself and to 1, and 1, where p is true, to itself
 --   holds_at_turn        == so by the law the graph holds at 0
-use Rattle.std.proofs.Common.{ℕ, zero, suc, ◌≡◌, ◌+◌, ◌<◌, ◌==◌, inl, inr, true, false, if◌then◌else◌, List, [], ◌∷◌, codes, refl, ap, ⊎_elim, arith, get_or}
+use Rattle.std.proofs.Common.{ℕ, zero, suc, ◌≡◌, ◌+◌, ◌<◌, ◌==◌, inl, inr, true, false, if◌then◌else◌, List, [], ◌∷◌, codes, refl, ⊎_elim, arith, get_or}
 use Rattle.std.specs.List.{IsDistinct}
 use Rattle.ml_lists.specs.Lasso.{Lasso}
-use Rattle.ml_lists.specs.Member.{IsMember}
-use Rattle.ml_lists.proofs.Member.{member-All}
+use Rattle.std.proofs.lemmas.List.Elements.{All-cons, All-nil}
 use Rattle.ml_base.specs.declared.structure.Edge.{Edge}
 use Rattle.ml_base.specs.Structure.{Structure, IsStructure}
 use Rattle.ml_parity.specs.declared.players.Player.TheVariants.{Odd}
@@ -150,27 +149,28 @@ is_its_graph =
 
 -- ---- the law at work
 
+abbrev edge : (source target : ℕ) → Edge
+edge s t = record { source = s; action = codes "_"; target = t }
+
 abbrev turning : Structure
 turning = record {
   states = 2;
   labels = [] ∷ (codes "p" ∷ []) ∷ [];
-  edges =
-      record { source = 0; action = codes "_"; target = 0 } ∷ record { source = 0; action = codes "_"; target = 1 }
-      ∷ record { source = 1; action = codes "_"; target = 1 } ∷ [];
+  edges = edge 0 0 ∷ edge 0 1 ∷ edge 1 1 ∷ [];
 }
+
+abbrev JoinsTwo : Edge → Type 0
+JoinsTwo e = (e.source < 2) × (e.target < 2)
 
 turning_is : IsStructure turning
 turning_is = record {
   has_state = omega arith;
   labels_states = refl;
-  joins_states = member-All (λ e. (e.source < 2) × (e.target < 2)) turning.edges low;
+  joins_states =
+      All-cons JoinsTwo (edge 0 0) (edge 0 1 ∷ edge 1 1 ∷ []) (omega arith, omega arith)
+      (All-cons JoinsTwo (edge 0 1) (edge 1 1 ∷ []) (omega arith, omega arith)
+      (All-cons JoinsTwo (edge 1 1) [] (omega arith, omega arith) (All-nil JoinsTwo)));
 }
-  where
-    low : (e : Edge) → IsMember e turning.edges → (e.source < 2) × (e.target < 2)
-    low e (inl is) = (omega (arith, ap (λ d. d.source) is), omega (arith, ap (λ d. d.target) is))
-    low e (inr (inl is)) = (omega (arith, ap (λ d. d.source) is), omega (arith, ap (λ d. d.target) is))
-    low e (inr (inr (inl is))) = (omega (arith, ap (λ d. d.source) is), omega (arith, ap (λ d. d.target) is))
-    low e (inr (inr (inr none))) = absurd none
 
 turning_admitted : IsAdmitted turning
 turning_admitted = record { is_structure = turning_is; is_total = steps }

@@ -4,6 +4,7 @@
 -- lowest priority of each closed walk of these is bad for its player: there are finitely many vertices, so one comes
 -- again.
 --
+--   Join Q           == what is known of two walks, the second one from where the first one ends, is known of both together
 --   Onward           == a walk from the vertex of a situation to that of a next one; Q is what is known of it
 --   never_for_ever   == the strategy doesn't win from such a situation
 use Rattle.std.proofs.Common.{ℕ, zero, suc, ◌≡◌, ◌<◌, min, ⊎_elim, sym, subst, arith}
@@ -18,6 +19,9 @@ use Rattle.ml_parity.specs.Winner.{WinsFrom}
 use Rattle.ml_parity.proofs.FollowedWalks.{FollowedWalk, walks_joined, won_at_end, closed_walk_good}
 use Rattle.ml_parity.proofs.Opponents.{not_both}
 
+abbrev pub Join : (ℕ → ℕ → ℕ → Type 0) → Type 0
+Join Q = (v j w k x : ℕ) → Q v j w → Q w k x → Q v (min j k) x
+
 -- a walk from v to w, of which Q is known
 pub record Stretch (g : ParityGame) (p : Player) (s : ℕ → ℕ) (Q : ℕ → ℕ → ℕ → Type 0) (v w : ℕ) : Type 0 where
   pub lowest : ℕ
@@ -31,7 +35,7 @@ pub record Onward (g : ParityGame) (p : Player) (s : ℕ → ℕ) (Q : ℕ → �
 
 module _ (g : ParityGame) (p : Player) (s : ℕ → ℕ) (Q : ℕ → ℕ → ℕ → Type 0) (S : Type 0) (vertex : S → ℕ)
     (below : (x : S) → vertex x < size g)
-    (joined : (v j w k x : ℕ) → Q v j w → Q w k x → Q v (min j k) x)
+    (joined : Join Q)
     (bad : (v k : ℕ) → Q v k v → side k ≡ opponent p)
     (next : (x : S) → Onward g p s Q S vertex x) where
   abbrev at : S → ℕ → S

@@ -54,11 +54,15 @@ once_more xs x once new j k y at_j at_k = by_places (last_or xs x y j at_j) (las
     by_places (inr p) (inl q) = absurd (new (subst (λ z. IsMember z xs) p.1 (member_of_get xs k y q)))
     by_places (inr p) (inr q) = p.0 ∙ sym q.0
 
--- how the nodes by their numbers grow when those of a form get theirs
+-- what has a number keeps it
+abbrev Keeps : {X : Type 0} → (xs ys : List X) → Type 0
+Keeps {X} xs ys = (k : ℕ) (x : X) → slice_get xs k ≡ Some x → slice_get ys k ≡ Some x
+
+-- how the values by their numbers grow when those of a form get theirs
 pub record Grows {X : Type 0} (P : X → Type 0) (xs ys : List X) (v : Node) (f : Form X) : Type 0 where
   pub once : HasOnePlace xs → HasOnePlace ys
   pub all : ((k : ℕ) (s : X) → slice_get xs k ≡ Some s → P s) → (k : ℕ) (s : X) → slice_get ys k ≡ Some s → P s
-  pub keeps : (k : ℕ) (s : X) → slice_get xs k ≡ Some s → slice_get ys k ≡ Some s
+  pub keeps : Keeps xs ys
   pub runs : RunsOn (length xs) (row_of v) (length ys)
   pub has_form : HasFormIn ys v f
 
@@ -134,7 +138,7 @@ module _ {X : Type 0} (P : X → Type 0) (xs ys : List X) where
 
 -- a form stays where it is
 still : {X : Type 0} (xs ys : List X)
-    → ((k : ℕ) (s : X) → slice_get xs k ≡ Some s → slice_get ys k ≡ Some s)
+    → Keeps xs ys
     → (v : Node) (f : Form X)
     → HasFormIn xs v f
     → HasFormIn ys v f

@@ -25,7 +25,7 @@ use Rattle.ml_graph.proofs.OneStep.{vertex_low, move_to, move_from}
 use Rattle.ml_pdl.specs.Formula.{Program, Act, Seq, Alt, Star, Test, occurrences, program_occurrences}
 use Rattle.ml_pdl.specs.Meaning.{meaning, relation}
 use Rattle.ml_pdl.proofs.RunsInto.{into, no_run}
-use Rattle.ml_nodes.proofs.EndlessWalks.{Onward, never_for_ever}
+use Rattle.ml_nodes.proofs.EndlessWalks.{Join, Onward, never_for_ever}
 use Rattle.ml_pdl_graph.proofs.Players.{player_of, node_of, node_range, at, WinsAt, Tells, never_both, tells_other}
 use Rattle.ml_pdl_graph.proofs.ProgramNodes.{star_priority, NodesAt, Tests, tested_low}
 use Rattle.ml_pdl_graph.proofs.Unmet.{Unmet, start_unmet, seq_unmet, left_unmet, right_unmet, here_unmet, round_unmet, test_unmet, target_edge}
@@ -198,7 +198,7 @@ module _ (g : Graph) (m : Structure) (g_ok : IsGraph g) (m_ok : IsStructure m) (
     pub first : k ≤ priority_of (checking_game g m) v
     pub onward : (node_in v < node_in w) ⊎ ((priority_of (checking_game g m) w ≡ bad) ⊎ (k ≡ bad))
 
-  known_joined : (v j w k x : ℕ) → Known v j w → Known w k x → Known v (min j k) x
+  known_joined : Join Known
   known_joined v j w k x a b = record {
     high = omega (arith, a.high, b.high);
     first = omega (arith, a.first);

@@ -21,7 +21,7 @@ use Rattle.ml_pdl.specs.Formula.{Program, Repeat, program_occurrences}
 use Rattle.ml_pdl.specs.Meaning.{meaning, relation}
 use Rattle.ml_pdl.proofs.RunsInto.{into, run_of}
 use Rattle.ml_pdl.proofs.StarRelations.{repeat_goes_on, repeat_has}
-use Rattle.ml_nodes.proofs.EndlessWalks.{Onward, never_for_ever}
+use Rattle.ml_nodes.proofs.EndlessWalks.{Join, Onward, never_for_ever}
 use Rattle.ml_pdl_graph.proofs.NoRuns.{unmet_lost}
 use Rattle.ml_pdl_graph.proofs.Players.{player_of, node_of, node_range, at, WinsAt, Tells, never_both, one_of_both, tells_leads}
 use Rattle.ml_pdl.proofs.SomeOccurrence.{some_program_occurrence}
@@ -130,7 +130,7 @@ module _ (g : Graph) (m : Structure) (g_ok : IsGraph g) (m_ok : IsStructure m) (
       abbrev Known : ℕ → ℕ → ℕ → Type 0
       Known v k x = k ≡ repeat_priority e
 
-      joined : (v j x k y : ℕ) → Known v j x → Known x k y → Known v (min j k) y
+      joined : Join Known
       joined v j x k y a b = omega (arith, a, b)
 
       good_side : (d : Bool) → side (repeat_priority d) ≡ opponent (opponent (player_of d))

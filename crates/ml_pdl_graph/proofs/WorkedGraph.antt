@@ -8,10 +8,9 @@
 --   is_its_graph         == the graph is the formula's, and with the other root that of its negation
 --   turning              == a structure: a leads from 0, where p is true, to 0, and b from 1 to 0
 --   holds_at_turn, negation_holds == so by the law the graph holds at 0, and that of the negation at 1
-use Rattle.std.proofs.Common.{◌<◌, Bool, true, false, [], ◌∷◌, if◌then◌else◌, codes, inl, inr, refl, ap, arith}
+use Rattle.std.proofs.Common.{◌<◌, Bool, true, false, [], ◌∷◌, if◌then◌else◌, codes, refl, arith}
 use Rattle.std.specs.List.{IsDistinct}
-use Rattle.ml_lists.specs.Member.{IsMember}
-use Rattle.ml_lists.proofs.Member.{member-All}
+use Rattle.std.proofs.lemmas.List.Elements.{All-cons, All-nil}
 use Rattle.ml_base.specs.declared.structure.Edge.{Edge}
 use Rattle.ml_base.specs.Structure.{Structure, IsStructure}
 use Rattle.ml_graph.specs.CheckingGame.{Holds}
@@ -96,25 +95,30 @@ is_its_graph negated = record {
   root_is = refl;
 }
 
+abbrev by_a : Edge
+by_a = record { source = 0; action = codes "a"; target = 0 }
+
+abbrev by_b : Edge
+by_b = record { source = 1; action = codes "b"; target = 0 }
+
 abbrev turning : Structure
 turning = record {
   states = 2;
   labels = (codes "p" ∷ []) ∷ [] ∷ [];
-  edges =
-      record { source = 0; action = codes "a"; target = 0 } ∷ record { source = 1; action = codes "b"; target = 0 } ∷ [];
+  edges = by_a ∷ by_b ∷ [];
 }
+
+abbrev JoinsTwo : Edge → Type 0
+JoinsTwo e = (e.source < 2) × (e.target < 2)
 
 turning_is : IsStructure turning
 turning_is = record {
   has_state = omega arith;
   labels_states = refl;
-  joins_states = member-All (λ e. (e.source < 2) × (e.target < 2)) turning.edges low;
+  joins_states =
+      All-cons JoinsTwo by_a (by_b ∷ []) (omega arith, omega arith)
+      (All-cons JoinsTwo by_b [] (omega arith, omega arith) (All-nil JoinsTwo));
 }
-  where
-    low : (e : Edge) → IsMember e turning.edges → (e.source < 2) × (e.target < 2)
-    low e (inl is) = (omega (arith, ap (λ d. d.source) is), omega (arith, ap (λ d. d.target) is))
-    low e (inr (inl is)) = (omega (arith, ap (λ d. d.source) is), omega (arith, ap (λ d. d.target) is))
-    low e (inr (inr none)) = absurd none
 
 holds_at_turn : Holds (worked_graph false) turning 0
 holds_at_turn = (graphs_agree worked false (worked_graph false) (is_its_graph false) turning turning_is 0 (omega arith)).1 refl

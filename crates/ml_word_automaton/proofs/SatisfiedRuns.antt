@@ -27,6 +27,7 @@ use Rattle.ml_trace.specs.WordAutomata.{WordLasso, IsWordLasso, IsAcceptedFrom, 
 use Rattle.ml_ctl.specs.Formula.{Formula, is_linear}
 use Rattle.ml_blocks.specs.Items.{Item, now}
 use Rattle.ml_blocks.specs.Places.{Constant}
+use Rattle.ml_blocks.proofs.ItemSetMembers.{alone}
 use Rattle.ml_blocks.proofs.BlockSteps.{path}
 use Rattle.ml_blocks.proofs.ItemsFollow.{itself_within}
 use Rattle.ml_blocks.proofs.ItemsWithin.{IsOf}
@@ -226,10 +227,6 @@ module _ (g : Graph) (f : Formula) (negated : Bool) (w : WordLasso Letter) (is :
         (cases_eq k 0)
 
     module _ (a : Known B (path first true (first ∷ []) 0)) (wins : From (at B 0 a.number)) where
-      alone : (x : Item) → IsMember x (first ∷ []) → x ≡ first
-      alone x (inl e) = e
-      alone x (inr none) = absurd none
-
       start : Entry
       start = record {
         s = 0;
@@ -237,7 +234,7 @@ module _ (g : Graph) (f : Formula) (negated : Bool) (w : WordLasso Letter) (is :
         xs = first ∷ [];
         k = 0;
         a = a;
-        of = λ x member. subst (IsOf first) (sym (alone x member)) (itself_within 0 f (not negated));
+        of = λ x member. subst (IsOf first) (sym (alone x first member)) (itself_within 0 f (not negated));
         from = λ y member. wins;
       }
 

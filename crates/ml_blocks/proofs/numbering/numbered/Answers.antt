@@ -1,6 +1,5 @@
-use Rattle.std.proofs.Common.{rules, ◌≡◌, [], ◌∷◌, ap, ◌∙◌}
+use Rattle.std.proofs.Common.{rules, [], ◌∷◌, ap, ◌∙◌}
 use Rattle.ml_nodes.proofs.NumberedDrafts.{begun, no_room, root_too_many, stepped}
-use Rattle.ml_nodes.specs.NumberedValues.{IsTooLarge}
 use Rattle.ml_blocks.specs.private.Forms.{begin_in, form_in, priority_in, start_in}
 use Rattle.ml_blocks.specs.private.Occurrences.{lists_of}
 use Rattle.ml_blocks.proofs.SpotEquality.{spots_told}
