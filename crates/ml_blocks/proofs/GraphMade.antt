@@ -123,7 +123,7 @@ module _ (f : Formula) (first : Option Bool) (sign : Bool) (from : Beginning) (m
       → props ≡ names
       → actions ≡ codes "_" ∷ []
       → IsGraphFrom forms (record { nodes = nodes; priorities = priorities; root = 0; props = props; actions = actions })
-          (begin_place from start)
+      (begin_place from start)
   graph_listed vs ps D nodes priorities props actions same ranks named blank =
       let is =
       closed_draft forms names (form_in os lists begin) (priority_in os lists) root (place_of K.formulas start) viewed_spots max

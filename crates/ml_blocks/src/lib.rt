@@ -2,7 +2,7 @@
 //
 // What a graph is says `specs/BlockGraph.antt`, over items of paths (`specs/Items.antt`) and nodes as values
 // (`specs/Places.antt`); `laws` has that the checking game on it agrees with the problem's meaning. It stands on `ml_ctl`, for
-// formulas and their meaning, and on `ml_graph`, for modal graphs and their game.
+// formulas and their meaning, on `ml_graph`, for modal graphs and their game, and on `ml_nodes`, which numbers the nodes.
 #![tactic(auto)]
 
 mod graph;

@@ -106,7 +106,12 @@ fn connective_form(operator: Operator, positive: bool, at: u32, left: u32, right
 }
 
 // the formula at an occurrence, or its negation
-fn whole_form(alloc: Global, table: &Table, at: u32, positive: bool) -> Result<Form<Spot>, AllocError>
+fn whole_form(
+    alloc: Global,
+    table: &Table,
+    at: u32,
+    positive: bool,
+) -> Result<Form<Spot>, AllocError>
     ensures { IfOk result (λ form. form ≡ forms.symbol_form (listed.entry_at table.now.occurrences.items at).symbol positive at
         (listed.entry_at table.now.occurrences.items at).left (listed.entry_at table.now.occurrences.items at).right) }
 {

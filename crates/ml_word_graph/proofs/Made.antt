@@ -12,7 +12,6 @@ use Rattle.std.proofs.lemmas.List.{length-map, get_or-map}
 use Rattle.ml_lists.specs.Member.{IsMember}
 use Rattle.ml_graph.specs.declared.node.Node.{Node}
 use Rattle.ml_graph.specs.declared.node.Node.TheVariants as node
-use Rattle.ml_text.specs.NameLists.{place_of}
 use Rattle.ml_text.specs.Names.{Proposition, of_kind}
 use Rattle.ml_text.proofs.NameLists.{distinct_names, place_found}
 use Rattle.ml_text.proofs.Names.{kind_among}
