@@ -170,7 +170,7 @@ impl<P: Eq + Hash + Drop> Numbering<P> {
     /// Puts the node of a form behind those so far, with its priority, and gives numbers to the values to which it leads.
     ///
     /// # Errors
-    /// `ClosureTooLarge` only where these are more than `max`. `NoMemory`.
+    /// `ClosureTooLarge` exactly where these are more than `max`. `NoMemory`.
     ///
     /// Cost: constant on average.
     pub fn put(&mut self, form: Form<P>, priority: u32, max: u32) -> Result<(), BlockRefusal>
