@@ -21,8 +21,8 @@ use Rattle.ml_sequent.specs.declared.choice.Side.TheVariants.{Left, Right}
 use Rattle.ml_sequent.specs.Choice.{side_of, with_side}
 use Rattle.ml_sequent.proofs.ChoicesWith.{side_new, side_kept}
 use Rattle.ml_product.specs.Position.{Position, start_of, with_chosen}
-use Rattle.ml_product.specs.private.Pools.{beside}
-use Rattle.ml_product.specs.private.Exploring.{IsLonger, at_place, IsBelow, HasNoneBelow, AddsBelow}
+use Rattle.ml_product.specs.private.Pools.{beside, IsLonger}
+use Rattle.ml_product.specs.private.Exploring.{at_place, IsBelow, HasNoneBelow, AddsBelow}
 use Rattle.ml_product.proofs.OnePlace.{PlaceOf, place_of}
 
 -- a position is below itself
@@ -89,7 +89,7 @@ chosen_side : (g : Graph) (p : Position) (o : ℕ) (s : Side) (q : Position) →
 chosen_side g p o s q none is = is.sides o s (side_new p.choice o s none)
 
 -- what stands within a list stood there before it got longer
-pub longer_back : (ps qs : List Position) (w : ℕ) (q : Position) → IsLonger ps qs → w < length ps
+pub longer_back : {X : Type 0} (ps qs : List X) (w : ℕ) (q : X) → IsLonger ps qs → w < length ps
     → slice_get qs w ≡ Some q
     → slice_get ps w ≡ Some q
 longer_back ps qs w q longer low at =

@@ -18,9 +18,9 @@ use Rattle.ml_product.specs.Arena.{Arena, AreVertices, IsPlayed, IsArenaOf}
 use Rattle.ml_product.specs.declared.pool.Pool.{Pool}
 use Rattle.ml_product.specs.declared.recorded.Recorded.{Recorded}
 use Rattle.ml_product.specs.declared.recorded.Recorded.TheVariants as recorded
-use Rattle.ml_product.specs.private.Pools.{positions_of}
+use Rattle.ml_product.specs.private.Pools.{positions_of, IsLonger}
 use Rattle.ml_product.specs.private.Recorded.{owner_of, moves_of, IsRecorded}
-use Rattle.ml_product.specs.private.Exploring.{Explores, IsNumbered, HasNoRoom, IsLonger, AreTurned, Becomes}
+use Rattle.ml_product.specs.private.Exploring.{Explores, IsNumbered, HasNoRoom, AreTurned, Becomes}
 use Rattle.ml_lists.proofs.Member.{member_of_get}
 use Rattle.ml_lists.proofs.FirstEntries.{AreApart}
 use Rattle.ml_lists.proofs.Different.{different_within}
@@ -131,7 +131,7 @@ module _ (g : Graph) (limit : ℕ) (b : Pool) (e : Explores g limit b) (p : Posi
       by_place q (inr m) = e.are_reached q m
 
   -- a position that is reached may join
-  pub joined : (d : Pool) (v : ℕ) → IsNumbered limit (positions_of b) p d v → Becomes g limit (positions_of b) d
+  pub joined : (d : Pool) (v : ℕ) → IsNumbered limit b p d v → Becomes g limit b d
   joined d v is = by_kind is.added.grown
     where
       more : (positions_of d ≡ positions_of b ++ p ∷ []) → (q : Position) → IsMember q (positions_of d) → IsReached g q
@@ -148,7 +148,7 @@ module _ (g : Graph) (limit : ℕ) (b : Pool) (e : Explores g limit b) (p : Posi
 
       by_kind : (positions_of d ≡ positions_of b)
           ⊎ ((positions_of d ≡ positions_of b ++ p ∷ []) × ¬ (IsMember p (positions_of b)))
-          → Becomes g limit (positions_of b) d
+          → Becomes g limit b d
       by_kind (inl old) = record {
         explores = record {
           is_pool = is.is_pool;
@@ -156,8 +156,10 @@ module _ (g : Graph) (limit : ℕ) (b : Pool) (e : Explores g limit b) (p : Posi
           few = is.few;
         };
         longer = subst (IsLonger (positions_of b)) (sym old) (longer_self (positions_of b));
+        stored = is.stored;
       }
       by_kind (inr new) = record {
         explores = record { is_pool = is.is_pool; are_reached = more new.0; few = is.few };
         longer = record { more = p ∷ []; is = new.0 };
+        stored = is.stored;
       }

@@ -4,7 +4,10 @@
 --   shown_same     == what was added to the tables changes no position
 --   chosen_pool, chosen_added == the same for a position with a side more, which is a new one
 --   shown_at       == a position is shown at its place
---   has_site, first_shown == the first position without a choice that has the sequent and the history of another one
+--   shown_there, stored_at == a position that is stored is shown, and one that is shown is stored
+--   same_site      == positions with one sequent and one history have them at the same places
+--   site_shown     == and those that have them at the same places have one
+--   added_stored   == what was stored before stands before what is added
 --   still_pool, still_added == behind an addition the pool keeps what it has to, and has the position
 use Rattle.std.proofs.Common.{ℕ, suc, ◌≡◌, ◌+◌, ◌<◌, ◌≤◌, ◌⊎◌, inl, inr, List, [], ◌∷◌, ◌++◌, length, map, slice_get, get_or, Some, refl, sym, ap, ◌∙◌, subst, arith}
 use Rattle.std.specs.Option.{option_map}
@@ -17,16 +20,18 @@ use Rattle.ml_sequent.specs.Choice.{with_side}
 use Rattle.ml_trace.specs.Stack.{Item}
 use Rattle.ml_product.specs.Position.{Position}
 use Rattle.ml_product.specs.DecisionGame.{AreDifferent}
+use Rattle.ml_product.specs.declared.pool.Pool.{Pool}
 use Rattle.ml_product.specs.declared.stored.Site.{Site}
 use Rattle.ml_product.specs.declared.stored.Top.{Top}
-use Rattle.ml_product.specs.private.Numbers.{Leads, IsFirstAt}
+use Rattle.ml_product.specs.private.Numbers.{Leads}
 use Rattle.ml_product.specs.private.Placed.{Placed, nowhere, choice_at, site_of, top_of}
 use Rattle.ml_product.specs.private.Shared.{seen, shown, IsWithin, AreWithin}
-use Rattle.ml_product.specs.private.Pools.{IsPool, IsFirst, beside}
+use Rattle.ml_product.specs.private.Pools.{positions_of, IsPool, KeepsPool, beside, IsLonger}
 use Rattle.ml_lists.specs.Added.{IsAdded}
 use Rattle.ml_product.proofs.Naming.{stands_last, still_leads}
 use Rattle.ml_product.proofs.OnePlace.{PlaceOf, place_of}
 use Rattle.ml_product.proofs.ReachedChoices.{with_side_length}
+use Rattle.ml_product.proofs.Vertices.{longer_self}
 use Rattle.ml_lists.proofs.Added.{added_all, added_once, added_long, added_early, added_get}
 
 -- different positions, and one that isn't among them
@@ -59,8 +64,8 @@ map_alike f h (x ∷ xs) alike =
     λ i. here i ∷ rest i
 
 module _ (ss ts : List (List ℕ)) (hs gs : List (List (Item ℕ))) (xs ys : List Placed)
-    (s : List ℕ) (h : List (Item ℕ)) (x : Placed) (v : ℕ) (ks : List Top) (ls : List ℕ) (bs : List Site) (ms : List ℕ)
-    (pool : IsPool ss hs xs ks ls bs ms)
+    (s : List ℕ) (h : List (Item ℕ)) (x : Placed) (v : ℕ) (ks : List Top) (ls : List ℕ)
+    (pool : IsPool ss hs xs ks ls)
     (at_s : IsAdded ss s ts x.sequent)
     (at_h : IsAdded hs h gs x.history)
     (at_x : IsAdded xs x ys v) where
@@ -158,11 +163,8 @@ module _ (ss ts : List (List ℕ)) (hs gs : List (List (Item ℕ))) (xs ys : Lis
       by_kind (inr new) =
           subst AreDifferent (sym new.0) (different_more (shown ss hs xs) (seen ts gs x) pool.are_different new.1)
 
-  pub still_pool : (cs : List Top) (ns : List ℕ) (ds : List Site) (os : List ℕ)
-      → Leads top_of ys cs ns
-      → Leads site_of ys ds os
-      → IsPool ts gs ys cs ns ds os
-  still_pool cs ns ds os tops sites = record {
+  pub still_pool : (cs : List Top) (ns : List ℕ) → Leads top_of ys cs ns → IsPool ts gs ys cs ns
+  still_pool cs ns tops = record {
     sequents_once = added_once ss ts s x.sequent at_s pool.sequents_once;
     histories_once = added_once hs gs h x.history at_h pool.histories_once;
     within = all_within;
@@ -170,7 +172,6 @@ module _ (ss ts : List (List ℕ)) (hs gs : List (List (Item ℕ))) (xs ys : Lis
     few_histories = few hs gs h x.history at_h pool.few_histories (λ old. (early old).history);
     are_different = different;
     tops = tops;
-    sites = sites;
   }
 
   seen_made : seen ts gs x ≡ record { sequent = s; history = h; priority = x.priority; choice = x.choice }
@@ -192,8 +193,8 @@ module _ (ss ts : List (List ℕ)) (hs gs : List (List (Item ℕ))) (xs ys : Lis
 
 -- the same for a position that has the sequent and the history of another one, with a side more
 module _ (ss : List (List ℕ)) (hs : List (List (Item ℕ))) (xs : List Placed) (k priority : ℕ)
-    (node : ℕ) (side : Side) (p : Position) (ks : List Top) (ls : List ℕ) (bs : List Site) (ms : List ℕ)
-    (pool : IsPool ss hs xs ks ls bs ms)
+    (node : ℕ) (side : Side) (p : Position) (ks : List Top) (ls : List ℕ)
+    (pool : IsPool ss hs xs ks ls)
     (low : k < length xs)
     (at : slice_get (shown ss hs xs) k ≡ Some p)
     (new : ¬ (IsMember (beside p priority (with_side p.choice node side)) (shown ss hs xs))) where
@@ -241,11 +242,10 @@ module _ (ss : List (List ℕ)) (hs : List (List (Item ℕ))) (xs : List Placed)
   some_side : more.choice ≡ [] → ⊥
   some_side e = with_side_some (choice_at xs k) node side e
 
-  pub chosen_pool : IsPool ss hs (xs ++ more ∷ []) ks ls bs ms
+  pub chosen_pool : IsPool ss hs (xs ++ more ∷ []) ks ls
   chosen_pool =
-      still_pool ss ss hs hs xs (xs ++ more ∷ []) p.sequent p.history more (length xs) ks ls bs ms pool at_s at_h at_x
-      ks ls bs ms (still_leads top_of xs ks ls pool.tops more some_side)
-      (still_leads site_of xs bs ms pool.sites more some_side)
+      still_pool ss ss hs hs xs (xs ++ more ∷ []) p.sequent p.history more (length xs) ks ls pool at_s at_h at_x
+      ks ls (still_leads top_of xs ks ls pool.tops more some_side)
 
   choices_are : with_side (choice_at xs k) node side ≡ with_side p.choice node side
   choices_are = ap (λ (q : Position). with_side q.choice node side) same_position
@@ -254,7 +254,7 @@ module _ (ss : List (List ℕ)) (hs : List (List (Item ℕ))) (xs : List Placed)
       (shown ss hs (xs ++ more ∷ [])) (length xs)
   chosen_added =
       subst (λ c. IsAdded (shown ss hs xs) (beside p priority c) (shown ss hs (xs ++ more ∷ [])) (length xs)) choices_are
-      (still_added ss ss hs hs xs (xs ++ more ∷ []) p.sequent p.history more (length xs) ks ls bs ms pool at_s at_h at_x)
+      (still_added ss ss hs hs xs (xs ++ more ∷ []) p.sequent p.history more (length xs) ks ls pool at_s at_h at_x)
 
 -- a position is shown at its place
 pub shown_at : (ss : List (List ℕ)) (hs : List (List (Item ℕ))) (xs : List Placed) (v : ℕ) → v < length (shown ss hs xs)
@@ -263,67 +263,77 @@ shown_at ss hs xs v inside =
     let low : v < length xs = omega (arith, inside, length-map xs (seen ss hs)) in
     (low, slice_get-map (seen ss hs) xs v ∙ ap (option_map (seen ss hs)) (slice_get-get_or xs v nowhere low))
 
--- the first position without a choice that has the sequent and the history of another one
-module _ (ss : List (List ℕ)) (hs : List (List (Item ℕ))) (xs : List Placed) (k : ℕ)
-    (ks : List Top) (ls : List ℕ) (bs : List Site) (ms : List ℕ)
-    (pool : IsPool ss hs xs ks ls bs ms)
-    (low : k < length xs)
-    (none : choice_at xs k ≡ []) where
-  abbrev here : Placed
-  here = get_or xs k nowhere
+-- what was stored before stands before what is added
+pub added_stored : (xs ys : List Placed) (x : Placed) (v : ℕ) → IsAdded xs x ys v → IsLonger xs ys
+added_stored xs ys x v added = by_kind added.grown
+  where
+    by_kind : (ys ≡ xs) ⊎ ((ys ≡ xs ++ x ∷ []) × ¬ (IsMember x xs)) → IsLonger xs ys
+    by_kind (inl old) = subst (IsLonger xs) (sym old) (longer_self xs)
+    by_kind (inr new) = record { more = x ∷ []; is = new.0 }
 
-  here_at : slice_get xs k ≡ Some here
-  here_at = slice_get-get_or xs k nowhere low
+-- ---- sequents and histories by their places
 
-  -- its site has a number
-  pub has_site : IsMember (site_of (get_or xs k nowhere)) bs
-  has_site = pool.sites.all k here here_at none
+-- a position that is stored is shown
+pub shown_there : (b : Pool) (v : ℕ) (x : Placed) → slice_get b.positions v ≡ Some x
+    → slice_get (positions_of b) v ≡ Some (seen b.sequents.keys b.histories.keys x)
+shown_there b v x at =
+    slice_get-map (seen b.sequents.keys b.histories.keys) b.positions v
+    ∙ ap (option_map (seen b.sequents.keys b.histories.keys)) at
 
-  -- a position with the same lists is stored with the same numbers
-  same_site : (y z : Placed) → IsWithin ss hs y → IsWithin ss hs z
-      → (seen ss hs y).sequent ≡ (seen ss hs z).sequent
-      → (seen ss hs y).history ≡ (seen ss hs z).history
-      → site_of y ≡ site_of z
-  same_site y z in_y in_z s h =
-      let sequents = pool.sequents_once y.sequent z.sequent (get_or ss z.sequent [])
-      (slice_get-get_or ss y.sequent [] in_y.sequent ∙ ap Some s) (slice_get-get_or ss z.sequent [] in_z.sequent) in
-      let histories = pool.histories_once y.history z.history (get_or hs z.history [])
-      (slice_get-get_or hs y.history [] in_y.history ∙ ap Some h) (slice_get-get_or hs z.history [] in_z.history) in
+-- and one that is shown is stored
+pub record StoredAt (b : Pool) (v : ℕ) (q : Position) : Type 0 where
+  pub entry : Placed
+  pub stands : slice_get b.positions v ≡ Some entry
+  pub shows : seen b.sequents.keys b.histories.keys entry ≡ q
+
+pub stored_at : (b : Pool) (v : ℕ) (q : Position) → slice_get (positions_of b) v ≡ Some q → StoredAt b v q
+stored_at b v q at =
+    let within = slice_get_within (positions_of b) v q at in
+    let low = (shown_at b.sequents.keys b.histories.keys b.positions v within).0 in
+    let x = get_or b.positions v nowhere in
+    let stands = slice_get-get_or b.positions v nowhere low in
+    let e : Some (seen b.sequents.keys b.histories.keys x) ≡ Some q = sym (shown_there b v x stands) ∙ at in
+    record { entry = x; stands = stands; shows = cc }
+
+module _ (b : Pool) (v w : ℕ) (x y : Placed) (p q : Position)
+    (at_x : slice_get b.positions v ≡ Some x) (at_y : slice_get b.positions w ≡ Some y)
+    (at_p : slice_get (positions_of b) v ≡ Some p) (at_q : slice_get (positions_of b) w ≡ Some q) where
+  abbrev ss : List (List ℕ)
+  ss = b.sequents.keys
+
+  abbrev hs : List (List (Item ℕ))
+  hs = b.histories.keys
+
+  shows : (u : ℕ) (z : Placed) (r : Position) → slice_get b.positions u ≡ Some z
+      → slice_get (positions_of b) u ≡ Some r
+      → seen ss hs z ≡ r
+  shows u z r at_z at_r =
+      let e : Some (seen ss hs z) ≡ Some r = sym (shown_there b u z at_z) ∙ at_r in cc
+
+  -- positions with one sequent and one history have them at the same places
+  pub same_site : KeepsPool b → p.sequent ≡ q.sequent → p.history ≡ q.history → site_of x ≡ site_of y
+  same_site pool s h =
+      let in_x = pool.within v x at_x in
+      let in_y = pool.within w y at_y in
+      let here = shows v x p at_x at_p in
+      let there = shows w y q at_y at_q in
+      let sequents = pool.sequents_once x.sequent y.sequent (get_or ss y.sequent [])
+      (slice_get-get_or ss x.sequent [] in_x.sequent
+      ∙ ap Some (ap (λ (r : Position). r.sequent) here ∙ s ∙ ap (λ (r : Position). r.sequent) (sym there)))
+      (slice_get-get_or ss y.sequent [] in_y.sequent) in
+      let histories = pool.histories_once x.history y.history (get_or hs y.history [])
+      (slice_get-get_or hs x.history [] in_x.history
+      ∙ ap Some (ap (λ (r : Position). r.history) here ∙ h ∙ ap (λ (r : Position). r.history) (sym there)))
+      (slice_get-get_or hs y.history [] in_y.history) in
       λ i. record { sequent = sequents i; history = histories i }
 
-  -- and that of the first one
-  pub first_shown : (i : ℕ) (p : Position)
-      → slice_get bs i ≡ Some (site_of (get_or xs k nowhere))
-      → slice_get (shown ss hs xs) k ≡ Some p
-      → IsFirst (shown ss hs xs) p (get_or ms i 0)
-  first_shown i p at there = record {
-    entry = seen ss hs f.entry;
-    stands = slice_get-map (seen ss hs) xs (get_or ms i 0) ∙ ap (option_map (seen ss hs)) f.stands;
-    unchosen = f.unchosen;
-    sequent = ap (λ (s : Site). get_or ss s.sequent []) f.key_is ∙ ap (λ (q : Position). q.sequent) same;
-    history = ap (λ (s : Site). get_or hs s.history []) f.key_is ∙ ap (λ (q : Position). q.history) same;
-    least = λ u q at_u other s h. by_entry u q at_u other s h (slice_get_within (shown ss hs xs) u q at_u);
-  }
-    where
-      f : IsFirstAt site_of xs (site_of here) (get_or ms i 0)
-      f = pool.sites.leads i (site_of here) at
-
-      same : seen ss hs here ≡ p
-      same =
-          let e : Some (seen ss hs here) ≡ Some p =
-          ap (option_map (seen ss hs)) (sym here_at) ∙ sym (slice_get-map (seen ss hs) xs k) ∙ there in cc
-
-      by_entry : (u : ℕ) (q : Position) → slice_get (shown ss hs xs) u ≡ Some q → q.choice ≡ []
-          → q.sequent ≡ p.sequent → q.history ≡ p.history → u < length (shown ss hs xs)
-          → get_or ms i 0 ≤ u
-      by_entry u q at_u other s h inside =
-          let u_low : u < length xs = omega (arith, inside, length-map xs (seen ss hs)) in
-          let y = get_or xs u nowhere in
-          let at_y = slice_get-get_or xs u nowhere u_low in
-          let e : Some (seen ss hs y) ≡ Some q =
-          ap (option_map (seen ss hs)) (sym at_y) ∙ sym (slice_get-map (seen ss hs) xs u) ∙ at_u in
-          let is : seen ss hs y ≡ q = cc in
-          let site = same_site y here (pool.within u y at_y) (pool.within k here here_at)
-          (ap (λ (r : Position). r.sequent) is ∙ s ∙ ap (λ (r : Position). r.sequent) (sym same))
-          (ap (λ (r : Position). r.history) is ∙ h ∙ ap (λ (r : Position). r.history) (sym same)) in
-          f.least u y at_y (ap (λ (r : Position). r.choice) is ∙ other) site
+  -- and those that have them at the same places have one
+  pub site_shown : site_of x ≡ site_of y → (p.sequent ≡ q.sequent) × (p.history ≡ q.history)
+  site_shown same =
+      let here = shows v x p at_x at_p in
+      let there = shows w y q at_y at_q in (
+        ap (λ (r : Position). r.sequent) (sym here) ∙ ap (λ (s : Site). get_or ss s.sequent []) same
+            ∙ ap (λ (r : Position). r.sequent) there,
+        ap (λ (r : Position). r.history) (sym here) ∙ ap (λ (s : Site). get_or hs s.history []) same
+            ∙ ap (λ (r : Position). r.history) there,
+      )

@@ -26,7 +26,7 @@ pub mod Naming
 pub mod Below
 -- positions that differ in their priority alone
 pub mod Twins
--- the first one of them
+-- where sides began to be chosen
 pub mod Roots
 -- what there is one of: where a step leads, and the moves of a position
 pub mod OneTurn

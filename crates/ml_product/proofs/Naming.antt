@@ -15,7 +15,7 @@ use Rattle.ml_lists.specs.Member.{IsMember}
 use Rattle.ml_lists.proofs.Added.{added_early, last_or}
 use Rattle.ml_lists.proofs.Member.{member-append_left, member-append_right, member_of_get}
 use Rattle.ml_product.specs.declared.stored.Top.{Top}
-use Rattle.ml_product.specs.private.Numbers.{HasName, GetsName, IsNamed, IsFirstAt, Leads}
+use Rattle.ml_product.specs.private.Numbers.{HasName, GetsName, IsNamed, IsTopAt, Leads}
 use Rattle.ml_product.specs.private.Placed.{Placed, top_of}
 use Rattle.ml_product.proofs.OnePlace.{PlaceOf, place_of}
 use Rattle.ml_product.proofs.Placing.{end_get}
@@ -59,28 +59,20 @@ stands_last xs x =
 
 module _ {K : Type 0} (key : Placed → K) (xs : List Placed) (ks : List K) (ns : List ℕ) (table : Leads key xs ks ns)
     (x : Placed) where
-  -- the first one stays so
-  first_later : (k : K) (w : ℕ) → IsFirstAt key xs k w → IsFirstAt key (xs ++ x ∷ []) k w
-  first_later k w f = record {
+  -- what stood at a place stands there
+  top_later : (k : K) (w : ℕ) → IsTopAt key xs k w → IsTopAt key (xs ++ x ∷ []) k w
+  top_later k w f = record {
     entry = f.entry;
     stands = kept xs x f.entry w f.stands;
     unchosen = f.unchosen;
     key_is = f.key_is;
-    least = λ u y at none is. by_place u y none is (last_or xs x y u at);
   }
-    where
-      by_place : (u : ℕ) (y : Placed) → y.choice ≡ [] → key y ≡ k
-          → (slice_get xs u ≡ Some y) ⊎ ((u ≡ length xs) × (y ≡ x))
-          → w ≤ u
-      by_place u y none is (inl there) = f.least u y there none is
-      by_place u y none is (inr (here, same)) =
-          let low = slice_get_within xs w f.entry f.stands in omega arith
 
   -- behind a position with a choice the table says what it said
   pub still_leads : (x.choice ≡ [] → ⊥) → Leads key (xs ++ x ∷ []) ks ns
   still_leads chosen = record {
     even = table.even;
-    leads = λ i k at. first_later k (get_or ns i 0) (table.leads i k at);
+    leads = λ i k at. top_later k (get_or ns i 0) (table.leads i k at);
     all = λ v y at none. by_place v y none (last_or xs x y v at);
   }
     where
@@ -94,7 +86,7 @@ module _ {K : Type 0} (key : Placed → K) (xs : List Placed) (ks : List K) (ns 
     leads_old : IsMember (key x) ks → Leads key (xs ++ x ∷ []) ks ns
     leads_old had = record {
       even = table.even;
-      leads = λ i k at. first_later k (get_or ns i 0) (table.leads i k at);
+      leads = λ i k at. top_later k (get_or ns i 0) (table.leads i k at);
       all = λ v y at other. by_place v y other (last_or xs x y v at);
     }
       where
@@ -103,20 +95,8 @@ module _ {K : Type 0} (key : Placed → K) (xs : List Placed) (ks : List K) (ns 
         by_place v y other (inl there) = table.all v y there other
         by_place v y other (inr (here, same)) = subst (λ (z : Placed). IsMember (key z) ks) (sym same) had
 
-    first_now : ¬ (IsMember (key x) ks) → IsFirstAt key (xs ++ x ∷ []) (key x) (length xs)
-    first_now new = record {
-      entry = x;
-      stands = stands_last xs x;
-      unchosen = none;
-      key_is = refl;
-      least = λ u y at other is. by_place u y other is (last_or xs x y u at);
-    }
-      where
-        by_place : (u : ℕ) (y : Placed) → y.choice ≡ [] → key y ≡ key x
-            → (slice_get xs u ≡ Some y) ⊎ ((u ≡ length xs) × (y ≡ x))
-            → length xs ≤ u
-        by_place u y other is (inl there) = absurd (new (subst (λ k. IsMember k ks) is (table.all u y there other)))
-        by_place u y other is (inr (here, same)) = omega arith
+    top_now : IsTopAt key (xs ++ x ∷ []) (key x) (length xs)
+    top_now = record { entry = x; stands = stands_last xs x; unchosen = none; key_is = refl }
 
     leads_new : ¬ (IsMember (key x) ks) → Leads key (xs ++ x ∷ []) (ks ++ key x ∷ []) (ns ++ length xs ∷ [])
     leads_new new = record {
@@ -130,18 +110,18 @@ module _ {K : Type 0} (key : Placed → K) (xs : List Placed) (ks : List K) (ns 
     }
       where
         by_key : (i : ℕ) (k : K) → (slice_get ks i ≡ Some k) ⊎ ((i ≡ length ks) × (k ≡ key x))
-            → IsFirstAt key (xs ++ x ∷ []) k (get_or (ns ++ length xs ∷ []) i 0)
+            → IsTopAt key (xs ++ x ∷ []) k (get_or (ns ++ length xs ∷ []) i 0)
         by_key i k (inl there) =
             let low = slice_get_within ks i k there in
             let e = table.even in
-            subst (IsFirstAt key (xs ++ x ∷ []) k) (sym (get_or_append_left ns (length xs ∷ []) 0 i (omega arith)))
-            (first_later k (get_or ns i 0) (table.leads i k there))
+            subst (IsTopAt key (xs ++ x ∷ []) k) (sym (get_or_append_left ns (length xs ∷ []) 0 i (omega arith)))
+            (top_later k (get_or ns i 0) (table.leads i k there))
         by_key i k (inr (here, same)) =
             let place : length ns ≡ i = sym table.even ∙ sym here in
             let number : length xs ≡ get_or (ns ++ length xs ∷ []) i 0 =
             sym (end_get ns (length xs) 0) ∙ ap (λ j. get_or (ns ++ length xs ∷ []) j 0) place in
-            subst (IsFirstAt key (xs ++ x ∷ []) k) number
-            (subst (λ (l : K). IsFirstAt key (xs ++ x ∷ []) l (length xs)) (sym same) (first_now new))
+            subst (IsTopAt key (xs ++ x ∷ []) k) number
+            (subst (λ (l : K). IsTopAt key (xs ++ x ∷ []) l (length xs)) (sym same) top_now)
 
         by_place : (v : ℕ) (y : Placed) → y.choice ≡ [] → (slice_get xs v ≡ Some y) ⊎ ((v ≡ length xs) × (y ≡ x))
             → IsMember (key y) (ks ++ key x ∷ [])

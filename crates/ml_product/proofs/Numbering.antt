@@ -16,11 +16,15 @@ use Rattle.ml_product.specs.private.Exploring.{IsNumbered, HasNoRoom}
 use Rattle.ml_lists.proofs.Member.{member_of_get}
 use Rattle.ml_lists.proofs.Added.{last_or}
 
-module _ (limit : ℕ) (ps : List Position) (p : Position) (b : Pool) (n : ℕ) (few : length ps ≤ limit)
-    (is : IsInterned ps p b n) where
+module _ (limit : ℕ) (a : Pool) (p : Position) (b : Pool) (n : ℕ) (few : length (positions_of a) ≤ limit)
+    (is : IsInterned a p b n) where
+  abbrev ps : List Position
+  ps = positions_of a
+
   -- a position with a number that is allowed
-  pub numbered : n < limit → IsNumbered limit ps p b n
-  numbered low = record { is_pool = is.is_pool; added = is.added; few = by_kind is.added.grown }
+  pub numbered : n < limit → IsNumbered limit a p b n
+  numbered low =
+      record { is_pool = is.is_pool; added = is.added; stored = is.stored; few = by_kind is.added.grown }
     where
       by_place : (positions_of b ≡ ps ++ p ∷ [])
           → ¬ (IsMember p ps)
@@ -36,7 +40,7 @@ module _ (limit : ℕ) (ps : List Position) (p : Position) (b : Pool) (n : ℕ) 
           by_place new.0 new.1 (last_or ps p p n (subst (λ xs. slice_get xs n ≡ Some p) new.0 is.added.stands))
 
   -- a position with a number that isn't allowed is a new one
-  pub no_room : limit ≤ n → HasNoRoom limit ps p
+  pub no_room : limit ≤ n → HasNoRoom limit (positions_of a) p
   no_room high = by_kind is.added.grown
     where
       by_kind : (positions_of b ≡ ps) ⊎ ((positions_of b ≡ ps ++ p ∷ []) × ¬ (IsMember p ps)) → HasNoRoom limit ps p
@@ -49,21 +53,21 @@ module _ (limit : ℕ) (ps : List Position) (p : Position) (b : Pool) (n : ℕ) 
           record { full = omega arith; is_new = new.1 }
 
   -- the same of the answer of a call
-  pub for_ok : (r : Result ℕ ExploreRefusal) → IfOk r (λ v. (v ≡ n) × (v < limit)) → IfOk r (IsNumbered limit ps p b)
-  for_ok (Ok v) i = subst (IsNumbered limit ps p b) (sym i.0) (let e = i.0 in let l = i.1 in numbered (omega arith))
+  pub for_ok : (r : Result ℕ ExploreRefusal) → IfOk r (λ v. (v ≡ n) × (v < limit)) → IfOk r (IsNumbered limit a p b)
+  for_ok (Ok v) i = subst (IsNumbered limit a p b) (sym i.0) (let e = i.0 in let l = i.1 in numbered (omega arith))
   for_ok (Err x) i = tt
 
   pub for_err : (r : Result ℕ ExploreRefusal) → (IsErrOf r refusal.Passed → limit ≤ n) → IsErrOf r refusal.Passed
-      → HasNoRoom limit ps p
+      → HasNoRoom limit (positions_of a) p
   for_err r high e = no_room (high e)
 
 -- a position that is made of another one
-module _ (limit : ℕ) (ps : List Position) (v : ℕ) (made : Position → Position) (b : Pool) (n : ℕ)
-    (few : length ps ≤ limit)
-    (is : (p : Position) → slice_get ps v ≡ Some p → IsInterned ps (made p) b n) where
+module _ (limit : ℕ) (a : Pool) (v : ℕ) (made : Position → Position) (b : Pool) (n : ℕ)
+    (few : length (positions_of a) ≤ limit)
+    (is : (p : Position) → slice_get (positions_of a) v ≡ Some p → IsInterned a (made p) b n) where
   pub beside_ok : (r : Result ℕ ExploreRefusal) → IfOk r (λ w. (w ≡ n) × (w < limit))
-      → IfOk r (λ w. (p : Position) → slice_get ps v ≡ Some p → IsNumbered limit ps (made p) b w)
-  beside_ok (Ok w) i = λ p at. for_ok limit ps (made p) b n few (is p at) (Ok w) i
+      → IfOk r (λ w. (p : Position) → slice_get (positions_of a) v ≡ Some p → IsNumbered limit a (made p) b w)
+  beside_ok (Ok w) i = λ p at. for_ok limit a (made p) b n few (is p at) (Ok w) i
   beside_ok (Err x) i = tt
 
 -- an answer that hands on another's refusal refuses for the same cause

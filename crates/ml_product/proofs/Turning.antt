@@ -36,9 +36,9 @@ use Rattle.ml_product.specs.DecisionGame.{IsVerdictOf, IsResolved, diamonds_of, 
 use Rattle.ml_product.specs.declared.pool.Fresh.{Fresh}
 use Rattle.ml_product.specs.declared.pool.Pool.{Pool}
 use Rattle.ml_product.specs.declared.recorded.Recorded.TheVariants as recorded
-use Rattle.ml_product.specs.private.Pools.{positions_of, position_of, beside}
+use Rattle.ml_product.specs.private.Pools.{positions_of, position_of, beside, IsLonger}
 use Rattle.ml_product.specs.private.Recorded.{AreVerticesAt, IsRecorded}
-use Rattle.ml_product.specs.private.Exploring.{IsNumbered, HasNoRoom, IsLonger, at_place, target_of, Becomes, IsAt, HasNoneBelow, AddsUnchosen, IsLed, IsTurned, IsEnded, IsOpened}
+use Rattle.ml_product.specs.private.Exploring.{IsNumbered, HasNoRoom, at_place, target_of, Becomes, IsAt, HasNoneBelow, AddsUnchosen, IsLed, IsTurned, IsEnded, IsOpen, IsOpened}
 use Rattle.ml_product.proofs.ArenaGame.{same_entry}
 use Rattle.ml_product.proofs.Below.{new_beside, other_beside}
 use Rattle.ml_product.proofs.Explored.{passed, joined}
@@ -66,7 +66,7 @@ module _ (g : Graph) (limit : ℕ) (b : Pool) (v : ℕ) (sp : SpreadList) (at : 
   spread_of = own_spread g here.sequent here.choice sp at.is_spread
 
   -- so it is when positions have come
-  pub still_at : (d : Pool) → Becomes g limit (positions_of b) d → IsAt g limit d v sp
+  pub still_at : (d : Pool) → Becomes g limit b d → IsAt g limit d v sp
   still_at d is = record {
     explores = is.explores;
     number = low;
@@ -90,14 +90,14 @@ module _ (g : Graph) (limit : ℕ) (b : Pool) (v : ℕ) (sp : SpreadList) (at : 
     are_moves = are;
   }
 
-  stays : Becomes g limit (positions_of b) b
-  stays = record { explores = at.explores; longer = longer_self ps }
+  stays : Becomes g limit b b
+  stays = record { explores = at.explores; longer = longer_self ps; stored = longer_self b.positions }
 
   none_new : AddsUnchosen g (positions_of b) b
   none_new w high low = absurd (omega arith)
 
   -- where the spread clashes, the position is lost
-  pub clashed : (x : ClashCause) → IsCause g sp x → IsEnded g limit (positions_of b) v b recorded.Lost
+  pub clashed : (x : ClashCause) → IsCause g sp x → IsEnded g limit b v b recorded.Lost
   clashed x is = record {
     turned = record {
       becomes = stays;
@@ -112,7 +112,7 @@ module _ (g : Graph) (limit : ℕ) (b : Pool) (v : ℕ) (sp : SpreadList) (at : 
   }
 
   -- where there is nothing to do, it is won
-  pub settled : IsResolved g sp → diamonds_of g sp ≡ [] → IsEnded g limit (positions_of b) v b recorded.Won
+  pub settled : IsResolved g sp → diamonds_of g sp ≡ [] → IsEnded g limit b v b recorded.Won
   settled is none = record {
     turned = record {
       becomes = stays;
@@ -164,11 +164,11 @@ module _ (g : Graph) (limit : ℕ) (b : Pool) (v : ℕ) (sp : SpreadList) (at : 
 
     -- a side is chosen there
     pub chosen_becomes : (s : Side) (d : Pool) (w : ℕ)
-        → IsNumbered limit (positions_of b) (beside (at_place g (positions_of b) v) k (with_side (at_place g (positions_of b) v).choice o s)) d w
-        → Becomes g limit (positions_of b) d
+        → IsNumbered limit b (beside (at_place g (positions_of b) v) k (with_side (at_place g (positions_of b) v).choice o s)) d w
+        → Becomes g limit b d
     chosen_becomes s d w is =
         joined g limit b at.explores (with_chosen g here o s) (side_reached s) d w
-        (subst (λ q. IsNumbered limit ps q d w) (neutral_there s) is)
+        (subst (λ q. IsNumbered limit b q d w) (neutral_there s) is)
 
     pub chosen_passed : (s : Side)
         → HasNoRoom limit (positions_of b) (beside (at_place g (positions_of b) v) k (with_side (at_place g (positions_of b) v).choice o s))
@@ -179,7 +179,7 @@ module _ (g : Graph) (limit : ℕ) (b : Pool) (v : ℕ) (sp : SpreadList) (at : 
 
     -- it stands where its number says
     pub chosen_stands : (s : Side) (d : Pool) (w : ℕ)
-        → IsNumbered limit (positions_of b) (beside (at_place g (positions_of b) v) k (with_side (at_place g (positions_of b) v).choice o s)) d w
+        → IsNumbered limit b (beside (at_place g (positions_of b) v) k (with_side (at_place g (positions_of b) v).choice o s)) d w
         → slice_get (positions_of d) w ≡ Some (with_chosen g (at_place g (positions_of b) v) o s)
     chosen_stands s d w is = is.added.stands ∙ ap Some (neutral_there s)
 
@@ -209,7 +209,7 @@ pub still_chosen : (g : Graph) (limit : ℕ) (b d : Pool) (v : ℕ) (sp : Spread
     → ((x : ClashCause) → ¬ (IsCause g sp x))
     → IsLeastOpenOr g sp o
     → ((q : Position) → slice_get (positions_of b) v ≡ Some q
-    → IsNumbered limit (positions_of b) (beside q k (with_side q.choice o Left)) d l)
+    → IsNumbered limit b (beside q k (with_side q.choice o Left)) d l)
     → IsAt g limit d v sp
 still_chosen g limit b d v sp k o l at k_is no_clash least first =
     still_at g limit b v sp at d
@@ -224,7 +224,7 @@ pub second_new : (g : Graph) (limit : ℕ) (b d : Pool) (v : ℕ) (sp : SpreadLi
     → IsLeastOpenOr g sp o
     → HasNoneBelow (positions_of b) (at_place g (positions_of b) v)
     → ((q : Position) → slice_get (positions_of b) v ≡ Some q
-    → IsNumbered limit (positions_of b) (beside q k (with_side q.choice o Left)) d l)
+    → IsNumbered limit b (beside q k (with_side q.choice o Left)) d l)
     → (q : Position)
     → slice_get (positions_of d) v ≡ Some q
     → ¬ (IsMember (beside q k (with_side q.choice o Right)) (positions_of d))
@@ -246,10 +246,10 @@ pub chosen_turned : (g : Graph) (limit : ℕ) (b d e : Pool) (v : ℕ) (sp : Spr
     → ((x : ClashCause) → ¬ (IsCause g sp x))
     → IsLeastOpenOr g sp o
     → ((q : Position) → slice_get (positions_of b) v ≡ Some q
-    → IsNumbered limit (positions_of b) (beside q k (with_side q.choice o Left)) d l)
+    → IsNumbered limit b (beside q k (with_side q.choice o Left)) d l)
     → ((q : Position) → slice_get (positions_of d) v ≡ Some q
-    → IsNumbered limit (positions_of d) (beside q k (with_side q.choice o Right)) e r)
-    → IsTurned g limit (positions_of b) v e (recorded.Chosen (l ∷ r ∷ []))
+    → IsNumbered limit d (beside q k (with_side q.choice o Right)) e r)
+    → IsTurned g limit b v e (recorded.Chosen (l ∷ r ∷ []))
 chosen_turned g limit b d e v sp k o l r at k_is no_clash least first second =
     let here = at_place g (positions_of b) v in
     let left = first here (stands_at g limit b v sp at) in
@@ -263,6 +263,7 @@ chosen_turned g limit b d e v sp k o l r at k_is no_clash least first second =
       becomes = record {
         explores = twice.explores;
         longer = longer_both (positions_of b) (positions_of d) (positions_of e) once.longer twice.longer;
+        stored = longer_both b.positions d.positions e.positions once.stored twice.stored;
       };
       recorded = both_recorded g limit b v sp at k k_is o no_clash least d e l r once.longer twice.longer
           (chosen_stands g limit b v sp at k k_is o no_clash least Left d l left)
@@ -299,10 +300,10 @@ pub both_opened : (g : Graph) (limit : ℕ) (b d e : Pool) (v : ℕ) (sp : Sprea
     → ((x : ClashCause) → ¬ (IsCause g sp x))
     → IsLeastOpenOr g sp o
     → ((q : Position) → slice_get (positions_of b) v ≡ Some q
-    → IsNumbered limit (positions_of b) (beside q k (with_side q.choice o Left)) d l)
+    → IsNumbered limit b (beside q k (with_side q.choice o Left)) d l)
     → ((q : Position) → slice_get (positions_of d) v ≡ Some q
-    → IsNumbered limit (positions_of d) (beside q k (with_side q.choice o Right)) e r)
-    → IsOpened g limit (positions_of b) v sp e o l r
+    → IsNumbered limit d (beside q k (with_side q.choice o Right)) e r)
+    → IsOpened g limit b v sp e o l r
 both_opened g limit b d e v sp k o l r at k_is no_clash least first second =
     let here = at_place g (positions_of b) v in
     let left = first here (stands_at g limit b v sp at) in
@@ -324,8 +325,8 @@ both_opened g limit b d e v sp k o l r at k_is no_clash least first second =
   where
     by_part : (w : ℕ) → length (positions_of b) ≤ w → w < length (positions_of e)
         → {p q : Position}
-        → IsNumbered limit (positions_of b) p d l
-        → IsNumbered limit (positions_of d) q e r
+        → IsNumbered limit b p d l
+        → IsNumbered limit d q e r
         → (w < length (positions_of d)) ⊎ (length (positions_of d) ≤ w)
         → (w ≡ l) ⊎ (w ≡ r)
     by_part w high low {p} {q} one two (inl early) =
@@ -373,20 +374,21 @@ module _ (g : Graph) (limit : ℕ) (a : Pool) (v : ℕ) (sp : SpreadList) (at : 
   -- one of them got a number
   pub led_becomes : (xs rest : List Fresh) (x : Fresh) (b d : Pool) (w : ℕ)
       → xs ++ x ∷ rest ≡ made
-      → Becomes g limit (positions_of a) b
-      → IsNumbered limit (positions_of b) (position_of x) d w
-      → Becomes g limit (positions_of a) d
+      → Becomes g limit a b
+      → IsNumbered limit b (position_of x) d w
+      → Becomes g limit a d
   led_becomes xs rest x b d w is was numbered =
       let now = joined g limit b was.explores (position_of x) (made_reached x (among xs rest x is)) d w numbered in
       record {
         explores = now.explores;
         longer = longer_both (positions_of a) (positions_of b) (positions_of d) was.longer now.longer;
+        stored = longer_both a.positions b.positions d.positions was.stored now.stored;
       }
 
   pub led_vertices : (xs rest : List Fresh) (x : Fresh) (b d : Pool) (vs ws : List ℕ) (w : ℕ)
       → xs ++ x ∷ rest ≡ made
-      → Becomes g limit (positions_of a) b
-      → IsNumbered limit (positions_of b) (position_of x) d w
+      → Becomes g limit a b
+      → IsNumbered limit b (position_of x) d w
       → ws ≡ vs ++ w ∷ []
       → (n : ℕ)
       → AreVerticesAt n (positions_of b) (map target_of xs) vs
@@ -402,8 +404,8 @@ module _ (g : Graph) (limit : ℕ) (a : Pool) (v : ℕ) (sp : SpreadList) (at : 
   -- no side is chosen at it
   pub led_unchosen : (xs rest : List Fresh) (x : Fresh) (b d : Pool) (w : ℕ)
       → xs ++ x ∷ rest ≡ made
-      → Becomes g limit (positions_of a) b
-      → IsNumbered limit (positions_of b) (position_of x) d w
+      → Becomes g limit a b
+      → IsNumbered limit b (position_of x) d w
       → AddsUnchosen g (positions_of a) b
       → AddsUnchosen g (positions_of a) d
   led_unchosen xs rest x b d w is was numbered before = λ k high low. new_at k high low
@@ -426,7 +428,7 @@ module _ (g : Graph) (limit : ℕ) (a : Pool) (v : ℕ) (sp : SpreadList) (at : 
   -- one of them found no room
   pub led_passed : (xs rest : List Fresh) (x : Fresh) (b : Pool)
       → xs ++ x ∷ rest ≡ made
-      → Becomes g limit (positions_of a) b
+      → Becomes g limit a b
       → HasNoRoom limit (positions_of b) (position_of x)
       → HasMoreThan g limit
   led_passed xs rest x b is was full =
@@ -435,10 +437,10 @@ module _ (g : Graph) (limit : ℕ) (a : Pool) (v : ℕ) (sp : SpreadList) (at : 
   -- all of them got numbers
   pub all_led : (xs : List Fresh) (b : Pool) (vs : Vec ℕ)
       → xs ≡ made
-      → Becomes g limit (positions_of a) b
+      → Becomes g limit a b
       → ((n : ℕ) → AreVerticesAt n (positions_of b) (map target_of xs) vs.items)
       → AddsUnchosen g (positions_of a) b
-      → IsLed g limit (positions_of a) v b vs
+      → IsLed g limit a v b vs
   all_led xs b vs is was vertices none = record {
     becomes = was;
     unchosen = none;

@@ -7,7 +7,6 @@
 --   opened_members  == what is there behind a turn
 --   fresh_sides     == the sides have none below them, the second when the first is explored
 --   repeated_explored == where the same was found before, it is recorded
---   explored_before == from a position that was met before there is nothing to do
 --   explored_next, explored_waiting == so it is for all numbers up to this one, and what waits has no choice
 --   side_place, own_at == the position with a side more, and the spread of the branch's own sequent
 --   side_at         == with a side more the branch stands at the position with it
@@ -30,9 +29,9 @@ use Rattle.ml_product.specs.Position.{Position, start_of, with_chosen}
 use Rattle.ml_product.specs.declared.pool.Pool.{Pool}
 use Rattle.ml_product.specs.declared.recorded.Recorded.{Recorded}
 use Rattle.ml_product.specs.declared.recorded.Recorded.TheVariants as recorded
-use Rattle.ml_product.specs.private.Pools.{positions_of}
+use Rattle.ml_product.specs.private.Pools.{positions_of, IsLonger}
 use Rattle.ml_product.specs.private.Recorded.{IsRecorded}
-use Rattle.ml_product.specs.private.Exploring.{Explores, IsLonger, at_place, IsAt, HasNoneBelow, AddsBelow, Repeats, IsStarted, IsTurned, IsEnded, IsOpened, IsWaiting, Records, IsUnderway, AreWaiting, IsExplored, AreTurned}
+use Rattle.ml_product.specs.private.Exploring.{Explores, at_place, IsAt, HasNoneBelow, AddsBelow, Repeats, IsStarted, IsTurned, IsEnded, IsOpened, IsWaiting, Records, IsUnderway, AreWaiting, IsExplored, AreTurned}
 use Rattle.ml_product.proofs.Below.{opened_among, fresh_left, fresh_right, adds_ended, adds_both}
 use Rattle.ml_product.proofs.Ended.{started_explores}
 use Rattle.ml_product.proofs.ReachedChoices.{with_side_length, chosen_few}
@@ -54,7 +53,7 @@ found_within rs v found = by_place (cases_lt v (length rs))
 -- what was found at a position is recorded
 module _ (g : Graph) (limit : ℕ) (b d : Pool) (rs ts : List Recorded) (v : ℕ) (r : Recorded)
     (u : IsUnderway g limit b rs) (low : v < length (positions_of b))
-    (is : IsTurned g limit (positions_of b) v d r) (records : Records rs v r ts) where
+    (is : IsTurned g limit b v d r) (records : Records rs v r ts) where
   longer : IsLonger (positions_of b) (positions_of d)
   longer = is.becomes.longer
 
@@ -127,12 +126,13 @@ module _ (g : Graph) (limit : ℕ) (b d : Pool) (rs ts : List Recorded) (v : ℕ
 pub ended_explored : (g : Graph) (limit : ℕ) (b d : Pool) (rs ts : List Recorded) (v : ℕ) (r : Recorded)
     → IsUnderway g limit b rs
     → v < length (positions_of b)
-    → IsEnded g limit (positions_of b) v d r
+    → IsEnded g limit b v d r
     → Records rs v r ts
     → IsExplored g limit b rs v d ts
 ended_explored g limit b d rs ts v r u low is records = record {
   underway = recorded_underway g limit b d rs ts v r u low is.turned records;
   longer = is.turned.becomes.longer;
+  stored = is.turned.becomes.stored;
   kept = recorded_kept g limit b d rs ts v r u low is.turned records is.is_found;
   done = recorded_done g limit b d rs ts v r u low is.turned records is.is_found;
   waiting = λ ws before w w_low waits.
@@ -153,7 +153,7 @@ pub opened_waiting : (g : Graph) (limit : ℕ) (b d : Pool) (rs ts : List Record
     (node l r : ℕ)
     → IsUnderway g limit b rs
     → v < length (positions_of b)
-    → IsOpened g limit (positions_of b) v sp d node l r
+    → IsOpened g limit b v sp d node l r
     → Records rs v (recorded.Chosen (l ∷ r ∷ [])) ts
     → (ws : List ℕ)
     → AreWaiting g b rs (v ∷ ws)
@@ -174,7 +174,7 @@ opened_waiting g limit b d rs ts v sp node l r u low is records ws before w w_lo
 
 -- what is there behind a turn
 pub opened_members : (g : Graph) (limit : ℕ) (b d : Pool) (v : ℕ) (sp : SpreadList) (node l r : ℕ)
-    → IsOpened g limit (positions_of b) v sp d node l r
+    → IsOpened g limit b v sp d node l r
     → (q : Position)
     → IsMember q (positions_of d)
     → IsMember q (positions_of b) ⊎ (q ≡ with_chosen g (at_place g (positions_of b) v) node Left)
@@ -189,7 +189,7 @@ pub explored_both : (g : Graph) (limit : ℕ) (b d e f : Pool) (rs ts us xs : Li
     → IsUnderway g limit b rs
     → IsAt g limit b v sp
     → HasNoneBelow (positions_of b) (at_place g (positions_of b) v)
-    → IsOpened g limit (positions_of b) v sp d node l r
+    → IsOpened g limit b v sp d node l r
     → Records rs v (recorded.Chosen (l ∷ r ∷ [])) ts
     → IsExplored g limit d ts l e us
     → IsExplored g limit e us r f xs
@@ -198,6 +198,8 @@ explored_both g limit b d e f rs ts us xs v sp node l r u at fresh is records on
   underway = two.underway;
   longer = longer_both (positions_of b) (positions_of e) (positions_of f)
       (longer_both (positions_of b) (positions_of d) (positions_of e) is.turned.becomes.longer one.longer) two.longer;
+  stored = longer_both b.positions e.positions f.positions
+      (longer_both b.positions d.positions e.positions is.turned.becomes.stored one.stored) two.stored;
   kept = λ w found. two.kept w (one.kept w
       (recorded_kept g limit b d rs ts v (recorded.Chosen (l ∷ r ∷ [])) u at.number is.turned records (λ x. cc) w found));
   done = two.kept v (one.kept v (recorded_done g limit b d rs ts v (recorded.Chosen (l ∷ r ∷ [])) u at.number is.turned records
@@ -223,32 +225,11 @@ explored_both g limit b d e f rs ts us xs v sp node l r u at fresh is records on
     right = get_or_from_slice_get (positions_of e) r (with_chosen g here node Right) (start_of g)
         (longer_get (positions_of d) (positions_of e) one.longer r (with_chosen g here node Right) is.right)
 
--- from a position that was met before there is nothing to do
-pub explored_before : (g : Graph) (limit : ℕ) (b : Pool) (rs : List Recorded) (v : ℕ)
-    → IsUnderway g limit b rs
-    → (IsWaiting rs v → ⊥)
-    → IsExplored g limit b rs v b rs
-explored_before g limit b rs v u found = record {
-  underway = u;
-  longer = longer_self (positions_of b);
-  kept = λ w there. there;
-  done = found;
-  waiting = λ ws before w low waits. other ws w waits (before w low waits);
-  adds = λ q m. inl m;
-}
-  where
-    other : (ws : List ℕ) (w : ℕ) → IsWaiting rs w
-        → IsMember w (v ∷ ws) ⊎ ((at_place g (positions_of b) w).choice ≡ [])
-        → IsMember w ws ⊎ ((at_place g (positions_of b) w).choice ≡ [])
-    other ws w waits (inl (inl here)) = absurd (found (subst (IsWaiting rs) here waits))
-    other ws w waits (inl (inr m)) = inl m
-    other ws w waits (inr none) = inr none
-
 -- the sides of a position have none below them, the second when the first is explored
 pub fresh_sides : (g : Graph) (limit : ℕ) (b d : Pool) (v : ℕ) (sp : SpreadList) (node l r : ℕ)
     → IsAt g limit b v sp
     → HasNoneBelow (positions_of b) (at_place g (positions_of b) v)
-    → IsOpened g limit (positions_of b) v sp d node l r
+    → IsOpened g limit b v sp d node l r
     → HasNoneBelow (positions_of d) (at_place g (positions_of d) l)
     × ((limit2 : ℕ) (e : Pool) (ts us : List Recorded) → IsExplored g limit2 d ts l e us
     → HasNoneBelow (positions_of e) (at_place g (positions_of e) r))
@@ -289,7 +270,11 @@ repeated_explored g limit b rs ts v w u low s h c found is =
     ended_explored g limit b b rs ts v is.found u low
     (record {
       turned = record {
-        becomes = record { explores = u.explores; longer = longer_self (positions_of b) };
+        becomes = record {
+          explores = u.explores;
+          longer = longer_self (positions_of b);
+          stored = longer_self b.positions;
+        };
         recorded = like_recorded g (positions_of b) (at_place g (positions_of b) v) is.found
             (get_or rs w recorded.Waiting) is.like
             (twin_recorded g (positions_of b) (at_place g (positions_of b) w) (at_place g (positions_of b) v)
@@ -390,7 +375,7 @@ begun_at g limit b v C sp explores low none sequent is = record {
 pub fewer_sides : (g : Graph) (limit : ℕ) (b : Pool) (w o : ℕ) (s : Side) (sp sp2 : SpreadList)
     → IsAt g limit b w sp2
     → with_side sp.choice o s ≡ (at_place g (positions_of b) w).choice
-    → 2 * (size g - length sp2.choice) + 1 < 2 * (size g - length sp.choice)
+    → 3 * (size g - length sp2.choice) + 2 < 3 * (size g - length sp.choice)
 fewer_sides g limit b w o s sp sp2 at choice =
     let few = chosen_few g (at_place g (positions_of b) w) (at.explores.are_reached (at_place g (positions_of b) w)
     (place-member (positions_of b) w (start_of g) at.number)) in

@@ -7,7 +7,7 @@
 --   steps_pushed     == the step along the next diamond more
 --   target_stands    == a position to which a move leads stands among the positions
 --   at_the_end       == where there are no new positions, these are the vertices of the game
-use Rattle.std.proofs.Common.{ℕ, ◌≡◌, ◌<◌, inl, inr, List, [], ◌∷◌, ◌++◌, length, length-append, slice_get, get_or, Some, refl, sym, ap, ◌∙◌, subst, append_assoc, arith, map, take, ◌+◌}
+use Rattle.std.proofs.Common.{ℕ, ◌≡◌, ◌<◌, inl, inr, List, [], ◌∷◌, ◌++◌, length, length-append, slice_get, get_or, Some, refl, sym, ap, ◌∙◌, subst, append_assoc, append-nil, arith, map, take, ◌+◌}
 use Rattle.std.proofs.lemmas.List.{get_or_append_left, map_push, take_more}
 use Rattle.std.proofs.lemmas.Option.{slice_get_within, slice_get-get_or, get_or_from_slice_get}
 use Rattle.ml_lists.specs.Member.{IsMember}
@@ -18,13 +18,13 @@ use Rattle.ml_product.specs.DecisionGame.{Target, To, Lost, Won, AreSteps}
 use Rattle.ml_product.specs.Arena.{IsVertexOf, AreVertices}
 use Rattle.ml_product.specs.declared.recorded.Recorded.{Recorded}
 use Rattle.ml_product.specs.declared.pool.Fresh.{Fresh}
-use Rattle.ml_product.specs.private.Pools.{position_of}
+use Rattle.ml_product.specs.private.Pools.{position_of, IsLonger}
 use Rattle.ml_product.specs.private.Recorded.{moves_of, IsVertexAt, AreVerticesAt, IsRecorded}
-use Rattle.ml_product.specs.private.Exploring.{IsLonger, at_place, target_of}
+use Rattle.ml_product.specs.private.Exploring.{at_place, target_of}
 use Rattle.ml_lists.proofs.Member.{member_of_get}
 
 -- what stands in a list stands there in a longer one
-pub longer_get : (ps qs : List Position) → IsLonger ps qs → (v : ℕ) (p : Position) → slice_get ps v ≡ Some p
+pub longer_get : {X : Type 0} (ps qs : List X) → IsLonger ps qs → (v : ℕ) (p : X) → slice_get ps v ≡ Some p
     → slice_get qs v ≡ Some p
 longer_get ps qs l v p at =
     let low = slice_get_within ps v p at in
@@ -40,14 +40,10 @@ pub longer_place : (g : Graph) (ps qs : List Position) → IsLonger ps qs → (v
 longer_place g ps qs l v low =
     ap (λ xs. at_place g xs v) l.is ∙ get_or_append_left ps l.more _ v low
 
-pub longer_self : (ps : List Position) → IsLonger ps ps
-longer_self ps = record { more = []; is = sym (append_nil ps) }
-  where
-    append_nil : (xs : List Position) → xs ++ [] ≡ xs
-    append_nil [] = refl
-    append_nil (x ∷ xs) = ap (λ ys. x ∷ ys) (append_nil xs)
+pub longer_self : {X : Type 0} (ps : List X) → IsLonger ps ps
+longer_self ps = record { more = []; is = sym (append-nil ps) }
 
-pub longer_both : (ps qs rs : List Position) → IsLonger ps qs → IsLonger qs rs → IsLonger ps rs
+pub longer_both : {X : Type 0} (ps qs rs : List X) → IsLonger ps qs → IsLonger qs rs → IsLonger ps rs
 longer_both ps qs rs a b =
     record { more = a.more ++ b.more; is = b.is ∙ ap (λ xs. xs ++ b.more) a.is ∙ append_assoc ps a.more b.more }
 

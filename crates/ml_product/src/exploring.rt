@@ -15,6 +15,7 @@ use crate::pool::{Fresh, Pool};
 use crate::recorded::Recorded;
 use crate::recording::Turns;
 use crate::refusals::ExploreRefusal;
+use crate::trees::Trees;
 use ml_base::NoMemory;
 use ml_graph::ModalGraph;
 use ml_history::History;
@@ -85,9 +86,12 @@ fn turns(
     ensures passed { IsErrOf result refusal.Passed → HasMoreThan branch.old.graph limit }
 {
     let mut turns = Turns::new(alloc);
+    let mut trees = Trees::new(alloc);
     let mut v = 0;
     while v < pool.len() {
-        explore_from(alloc, branch, terms, pool, &mut turns, limit, v as u32)?;
+        explore_from(
+            alloc, branch, terms, pool, &mut turns, &mut trees, limit, v as u32,
+        )?;
         v += 1;
     }
     Ok(turns.into_vec())

@@ -29,6 +29,7 @@ mod recording;
 mod refusals;
 mod store;
 mod stored;
+mod trees;
 mod turns;
 mod view;
 

@@ -1,4 +1,4 @@
-// Tables of keys with a number for each, that of the first position with it.
+// Tables of keys with a number for each, that of a position.
 ghost use Rattle.std.specs.Prelude.{◌≡◌, IfOk, length};
 ghost use Rattle.ml_lists.specs.Added.{IsAdded};
 ghost use Rattle.ml_product.specs.private.Numbers.{IsNamed};
@@ -41,7 +41,7 @@ pub(crate) fn number_of_top(
     Ok(next)
 }
 
-// the number of the first position with a sequent and a history; the next one, if there was none
+// the number of a sequent with a history; the next one, if they are new
 pub(crate) fn number_of_site(
     table: &mut IndexSet<Site>,
     numbers: &mut Vec<u32>,

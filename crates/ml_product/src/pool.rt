@@ -1,16 +1,16 @@
 // Positions over shared parts: equal sequents are held once, and so are equal histories.
-ghost use Rattle.std.specs.Prelude.{◌≡◌, ◌<◌, ◌≤◌, ◌^◌, [], length, slice_get, Some, None, IfOk, OnOk};
+ghost use Rattle.std.specs.Prelude.{◌≡◌, ◌<◌, ◌^◌, [], length, get_or, slice_get, Some, None, IfOk, OnOk};
 ghost use Rattle.ml_lists.specs.Added.{IsAdded};
 ghost use Rattle.ml_lists.specs.Member.{IsMember};
 ghost use Rattle.ml_sequent.specs.Choice.{side_of, with_side};
 ghost use Rattle.ml_product.specs.Position.{Position};
 ghost use Rattle.ml_product.specs.View.{viewed};
-ghost use Rattle.ml_product.specs.private.Placed.{choice_at, site_of, top_of};
+ghost use Rattle.ml_product.specs.private.Placed.{nowhere, choice_at, site_of, top_of};
 ghost use Rattle.ml_product.specs.private.Numbers.{Leads};
 ghost use Rattle.ml_product.specs.private.Shared.{AreWithin};
-ghost use Rattle.ml_product.specs.private.Pools.{positions_of, position_of, beside, KeepsPool, IsInterned, IsEmptyPool, IsFirst};
+ghost use Rattle.ml_product.specs.private.Pools.{positions_of, position_of, beside, KeepsPool, IsLonger, IsInterned, IsEmptyPool};
 
-use crate::numbers::{number_of_site, number_of_top};
+use crate::numbers::number_of_top;
 use crate::store::Store;
 use crate::stored::{Site, Top};
 use crate::view::View;
@@ -29,9 +29,6 @@ pub(crate) struct Pool {
     // the positions without a choice, with their numbers
     tops: IndexSet<Top>,
     top_numbers: Vec<u32>,
-    // what they have of sequents with histories, with the numbers of the first ones
-    sites: IndexSet<Site>,
-    site_numbers: Vec<u32>,
 }
 
 /// A position without a choice that was made, before it has a number.
@@ -69,8 +66,6 @@ impl Pool {
             positions: Store::new(alloc),
             tops: IndexSet::new(alloc),
             top_numbers: Vec::new(alloc),
-            sites: IndexSet::new(alloc),
-            site_numbers: Vec::new(alloc),
         }
     }
 
@@ -104,22 +99,15 @@ impl Pool {
         }
     }
 
-    // the number of the first position without a choice that has the sequent and the history of this one
-    pub(crate) fn first(&self, v: u32) -> u32
-        requires pool { KeepsPool self.now }
-        requires number { v < length self.now.positions }
-        requires unchosen { choice_at self.now.positions v ≡ [] }
-        ensures { (p : Position) → slice_get (positions_of self.now) v ≡ Some p
-            → IsFirst (positions_of self.now) p result }
+    // the sequent and the history of a position, by their numbers
+    pub(crate) fn site(&self, v: u32) -> Site
+        requires { v < length self.now.positions }
+        ensures { result ≡ site_of (get_or self.now.positions v nowhere) }
     {
         let stored = self.positions.at(v as usize);
-        let site = Site {
+        Site {
             sequent: stored.sequent,
             history: stored.history,
-        };
-        match self.sites.get_index_of(&site) {
-            Some(place) => self.site_numbers[place],
-            None => v,
         }
     }
 
@@ -127,7 +115,7 @@ impl Pool {
     pub(crate) fn intern(&mut self, fresh: Fresh) -> Result<usize, NoMemory>
         requires pool { KeepsPool self.old }
         requires room { length self.old.positions < 2 ^ 32 }
-        ensures { IfOk result (IsInterned (positions_of self.old) (position_of fresh) self.new) }
+        ensures { IfOk result (IsInterned self.old (position_of fresh) self.new) }
     {
         let sequent = add_sequent(&mut self.sequents, fresh.sequent)? as u32;
         let history = add_history(&mut self.histories, fresh.history)? as u32;
@@ -143,13 +131,11 @@ impl Pool {
     ) -> Result<usize, NoMemory>
         requires room { length self.old.positions < 2 ^ 32 }
         requires tops { Leads top_of self.old.positions self.old.tops.keys self.old.top_numbers.items }
-        requires sites { Leads site_of self.old.positions self.old.sites.keys self.old.site_numbers.items }
         ensures sequents { OnOk result (self.new.sequents ≡ self.old.sequents) }
         ensures histories { OnOk result (self.new.histories ≡ self.old.histories) }
         ensures added { IfOk result (IsAdded self.old.positions
             (record { sequent = sequent; history = history; priority = priority; choice = [] }) self.new.positions) }
         ensures tops { OnOk result (Leads top_of self.new.positions self.new.tops.keys self.new.top_numbers.items) }
-        ensures sites { OnOk result (Leads site_of self.new.positions self.new.sites.keys self.new.site_numbers.items) }
     {
         let next = self.positions.len();
         let top = Top {
@@ -166,8 +152,6 @@ impl Pool {
         if number < next {
             return Ok(number);
         }
-        let site = Site { sequent, history };
-        number_of_site(&mut self.sites, &mut self.site_numbers, site, next as u32)?;
         self.positions.push_unchosen(sequent, history, priority)?;
         Ok(next)
     }
@@ -186,7 +170,7 @@ impl Pool {
         requires is_new { (p : Position) → slice_get (positions_of self.old) v ≡ Some p
             → ¬ (IsMember (beside p priority (with_side p.choice node side)) (positions_of self.old)) }
         ensures { IfOk result (λ w. (p : Position) → slice_get (positions_of self.old) v ≡ Some p
-            → IsInterned (positions_of self.old) (beside p priority (with_side p.choice node side)) self.new w) }
+            → IsInterned self.old (beside p priority (with_side p.choice node side)) self.new w) }
     {
         let next = self.positions.len();
         self.positions.push_chosen(v, priority, node, side)?;

@@ -3,14 +3,13 @@ ghost use Rattle.std.specs.Prelude.{◌≡◌, ◌<◌, ◌≤◌, ◌^◌, ℕ,
 ghost use Rattle.ml_graph.specs.Graph.{IsGraph};
 ghost use Rattle.ml_lists.specs.Member.{IsMember};
 ghost use Rattle.ml_sequent.specs.Choice.{side_of, with_side};
-ghost use Rattle.ml_sequent.specs.Spread.{IsSpreadOf, IsCause, IsLeastOpenOr};
-ghost use Rattle.ml_sequent.specs.declared.clashes.ClashCause.{ClashCause};
+ghost use Rattle.ml_sequent.specs.Spread.{IsSpreadOf};
 ghost use Rattle.ml_product.specs.declared.refusals.ExploreRefusal.TheVariants as refusal;
 ghost use Rattle.ml_product.specs.Position.{Position, automaton_states};
 ghost use Rattle.ml_product.specs.DecisionGame.{IsReached, HasMoreThan, IsResolved, AreSteps, diamonds_of};
 ghost use Rattle.ml_product.specs.View.{viewed};
 ghost use Rattle.ml_product.specs.private.Pools.{positions_of, position_of, KeepsPool, beside};
-ghost use Rattle.ml_product.specs.private.Exploring.{AreTerms, IsNumbered, HasNoRoom, at_place, target_of, IsAt, IsLed, IsTurnOf, HasNoneBelow};
+ghost use Rattle.ml_product.specs.private.Exploring.{AreTerms, IsNumbered, HasNoRoom, at_place, target_of, IsAt, IsLed, IsOpen, IsOpened, IsTurnOf, HasNoneBelow};
 
 use crate::following::{Terms, follow};
 use crate::pool::{Fresh, Pool};
@@ -21,12 +20,11 @@ use ml_base::NoMemory;
 use ml_sequent::{Branch, Side};
 use std::alloc::Global;
 
-/// What is done at a position: nothing more than is recorded of it, or a side is chosen at an or-node, which leads to
-/// these numbers.
+/// What is done at a position: nothing more than is recorded of it, or sides are to be chosen at an or-node.
 #[derive(Debug, Drop)]
 pub(crate) enum Turn {
     Ended(Recorded),
-    Open { node: u32, left: u32, right: u32 },
+    Open(u32),
 }
 
 // the number, if that many positions are allowed
@@ -45,7 +43,7 @@ fn within(number: usize, limit: u32) -> Result<u32, ExploreRefusal>
 fn number(pool: &mut Pool, limit: u32, fresh: Fresh) -> Result<u32, ExploreRefusal>
     requires pool { KeepsPool pool.old }
     requires few { length (positions_of pool.old) ≤ limit }
-    ensures ok { IfOk result (IsNumbered limit (positions_of pool.old) (position_of fresh) pool.new) }
+    ensures ok { IfOk result (IsNumbered limit pool.old (position_of fresh) pool.new) }
     ensures passed { IsErrOf result refusal.Passed → HasNoRoom limit (positions_of pool.old) (position_of fresh) }
 {
     let number = pool.intern(fresh)?;
@@ -68,7 +66,7 @@ fn chosen(
     requires is_new { (p : Position) → slice_get (positions_of pool.old) v ≡ Some p
         → ¬ (IsMember (beside p neutral (with_side p.choice node side)) (positions_of pool.old)) }
     ensures ok { IfOk result (λ w. (p : Position) → slice_get (positions_of pool.old) v ≡ Some p
-        → IsNumbered limit (positions_of pool.old) (beside p neutral (with_side p.choice node side)) pool.new w) }
+        → IsNumbered limit pool.old (beside p neutral (with_side p.choice node side)) pool.new w) }
     ensures passed { IsErrOf result refusal.Passed → (p : Position) → slice_get (positions_of pool.old) v ≡ Some p
         → HasNoRoom limit (positions_of pool.old) (beside p neutral (with_side p.choice node side)) }
 {
@@ -76,27 +74,26 @@ fn chosen(
     within(number, limit)
 }
 
-// where an or-node is open: the positions with a side chosen at the least one
-fn choose(
+// the numbers of the positions with a side chosen at the least open or-node
+pub(crate) fn choose(
     branch: &Branch,
     terms: &Terms,
     pool: &mut Pool,
     limit: u32,
     v: u32,
     node: u32,
-) -> Result<Turn, ExploreRefusal>
+) -> Result<(u32, u32), ExploreRefusal>
     requires terms { AreTerms branch.now.graph terms.now }
     requires at { IsAt branch.now.graph limit pool.old v branch.now.spread }
-    requires no_clash { (x : ClashCause) → ¬ (IsCause branch.now.graph branch.now.spread x) }
-    requires least { IsLeastOpenOr branch.now.graph branch.now.spread node }
+    requires is_open { IsOpen branch.now.graph branch.now.spread node }
     requires fresh { HasNoneBelow (positions_of pool.old) (at_place branch.now.graph (positions_of pool.old) v) }
-    ensures turned { IfOk result (IsTurnOf branch.now.graph limit (positions_of pool.old) v branch.now.spread
-        pool.new) }
+    ensures opened { IfOk result (λ sides.
+        IsOpened branch.now.graph limit pool.old v branch.now.spread pool.new node sides.0 sides.1) }
     ensures passed { IsErrOf result refusal.Passed → HasMoreThan branch.now.graph limit }
 {
     let left = chosen(pool, limit, v, terms.neutral, node, Side::Left)?;
     let right = chosen(pool, limit, v, terms.neutral, node, Side::Right)?;
-    Ok(Turn::Open { node, left, right })
+    Ok((left, right))
 }
 
 // the positions to which the steps along the diamonds lead
@@ -144,7 +141,7 @@ fn lead(
     requires diamonds { diamonds.now ≡ diamonds_of branch.old.graph branch.old.spread }
     requires some { 0 < length diamonds.now }
     ensures same { branch.new ≡ branch.old }
-    ensures led { IfOk result (IsLed branch.old.graph limit (positions_of pool.old) v pool.new) }
+    ensures led { IfOk result (IsLed branch.old.graph limit pool.old v pool.new) }
     ensures passed { IsErrOf result refusal.Passed → HasMoreThan branch.old.graph limit }
 {
     let view = pool.view(v);
@@ -173,8 +170,7 @@ fn go_on(
     requires sequent { branch.old.sequent ≡ (at_place branch.old.graph (positions_of pool.old) v).sequent }
     requires resolved { IsResolved branch.old.graph branch.old.spread }
     ensures same { branch.new ≡ branch.old }
-    ensures turned { IfOk result (IsTurnOf branch.old.graph limit (positions_of pool.old) v branch.old.spread
-        pool.new) }
+    ensures turned { IfOk result (IsTurnOf branch.old.graph limit pool.old v branch.old.spread pool.new) }
     ensures passed { IsErrOf result refusal.Passed → HasMoreThan branch.old.graph limit }
 {
     let diamonds = branch.diamonds()?;
@@ -199,17 +195,15 @@ pub(crate) fn take_turn(
     requires terms { AreTerms branch.old.graph terms.now }
     requires at { IsAt branch.old.graph limit pool.old v branch.old.spread }
     requires sequent { branch.old.sequent ≡ (at_place branch.old.graph (positions_of pool.old) v).sequent }
-    requires fresh { HasNoneBelow (positions_of pool.old) (at_place branch.old.graph (positions_of pool.old) v) }
     ensures same { branch.new ≡ branch.old }
-    ensures turned { IfOk result (IsTurnOf branch.old.graph limit (positions_of pool.old) v branch.old.spread
-        pool.new) }
+    ensures turned { IfOk result (IsTurnOf branch.old.graph limit pool.old v branch.old.spread pool.new) }
     ensures passed { IsErrOf result refusal.Passed → HasMoreThan branch.old.graph limit }
 {
     if branch.is_clashing()? {
         return Ok(Turn::Ended(Recorded::Lost));
     }
     match branch.open_or() {
-        Some(node) => choose(branch, terms, pool, limit, v, node),
+        Some(node) => Ok(Turn::Open(node)),
         None => go_on(alloc, branch, terms, pool, limit, v),
     }
 }

@@ -2,11 +2,10 @@
 --
 --   AreTerms g t       == t has the odd priorities of g, and its neutral priority
 --   Explores g limit b == what a pool keeps while g is explored: its positions are reached, and at most limit
---   IsLonger ps qs     == the list qs begins with ps
 --   IsNumbered         == a position got a number, and there are no more positions than are allowed
 --   HasNoRoom          == it is a new one, and there are as many positions as are allowed
 --   at_place g ps v    == the position at place v of ps; past the end, where nobody asks, the start
---   Becomes g limit ps b == the pool with the positions ps has become b, which keeps what it has to
+--   Becomes g limit a b == the pool a has become b, which keeps what it has to
 --   IsAt g limit b v sp == sp is the spread of the position at v
 --   target_of x        == the target that is the position made as x
 --   IsLed              == the vertices are those of the moves from the position at v, along diamonds
@@ -16,9 +15,10 @@
 --   HasNoneBelow ps p  == no other choice below p is among ps
 --   AddsBelow ps p qs  == those of qs that aren't among ps have no choice, or are below p
 --   AddsUnchosen g ps b == no side is chosen at the positions that are new
---   IsEnded, IsOpened  == so it was, and no side is chosen next, or one is at this or-node, which leads to these
---                         numbers
---   IsTurnOf           == the one or the other
+--   IsEnded            == so it was, and no side is chosen next
+--   IsOpened           == so it was, and sides are chosen at this or-node, which leads to these numbers
+--   IsOpen             == sides are to be chosen at this or-node
+--   IsTurnOf           == no side is chosen next, or sides are to be chosen
 --   IsWaiting rs v     == nothing was recorded yet of the position at v
 --   Records rs v r ts  == ts is rs with r recorded at v
 --   Repeats rs v w ts  == ts is rs with what was found at the position at w recorded at v
@@ -26,9 +26,10 @@
 --   AreWaiting g b rs ws == a position of which nothing was recorded is one of ws, or has no choice
 --   IsExplored g limit b rs v d ts == the exploration went on from the position at v, until nothing waits behind it but
 --                         positions without a choice
---   IsRooted ps rs q   == the exploration went on from the first position without a choice that has the sequent and the
---                         history of q
---   AreRooted ps rs    == so it did for all that have a choice
+--   IsRoot xs rs s w   == the exploration went on from the position at w, which has no choice, and the sequent and the
+--                         history of s
+--   AreRooted xs rs ks ns == it went on from a position with the sequent and the history of each that has a choice; their
+--                         numbers are ks, with those of the positions, ns
 --   IsStarted g b      == the pool has the start alone
 --   arena_of b rs      == the arena of the pool with what was recorded
 --   AreTurned          == so it was for all positions with numbers below that of what was recorded
@@ -39,7 +40,8 @@ use Rattle.ml_graph.specs.Graph.{Graph, odd_priorities}
 use Rattle.ml_sequent.specs.declared.choice.Side.{Side}
 use Rattle.ml_sequent.specs.declared.choice.Side.TheVariants.{Left, Right}
 use Rattle.ml_sequent.specs.Choice.{side_of}
-use Rattle.ml_sequent.specs.Spread.{SpreadList, IsSpreadOf, IsOpenOr}
+use Rattle.ml_sequent.specs.Spread.{SpreadList, IsSpreadOf, IsCause, IsOpenOr, IsLeastOpenOr}
+use Rattle.ml_sequent.specs.declared.clashes.ClashCause.{ClashCause}
 use Rattle.ml_product.specs.Position.{Position, start_of, neutral, with_chosen}
 use Rattle.ml_product.specs.DecisionGame.{Target, To, IsReached}
 use Rattle.ml_product.specs.Arena.{Arena}
@@ -48,9 +50,12 @@ use Rattle.ml_product.specs.declared.pool.Fresh.{Fresh}
 use Rattle.ml_product.specs.declared.pool.Pool.{Pool}
 use Rattle.ml_product.specs.declared.recorded.Recorded.{Recorded}
 use Rattle.ml_product.specs.declared.recorded.Recorded.TheVariants as recorded
+use Rattle.ml_product.specs.declared.stored.Site.{Site}
 use Rattle.ml_product.specs.declared.turns.Turn.{Turn}
 use Rattle.ml_product.specs.declared.turns.Turn.TheVariants as turn
-use Rattle.ml_product.specs.private.Pools.{positions_of, position_of, KeepsPool, IsFirst}
+use Rattle.ml_product.specs.private.Numbers.{IsTopAt}
+use Rattle.ml_product.specs.private.Placed.{Placed, site_of}
+use Rattle.ml_product.specs.private.Pools.{positions_of, position_of, KeepsPool, IsLonger}
 use Rattle.ml_lists.specs.Added.{IsAdded}
 use Rattle.ml_product.specs.private.Recorded.{owner_of, moves_of, IsLike, IsRecorded}
 
@@ -65,15 +70,11 @@ pub record Explores (g : Graph) (limit : ℕ) (b : Pool) : Type 0 where
   pub are_reached : (p : Position) → IsMember p (positions_of b) → IsReached g p
   pub few : length (positions_of b) ≤ limit
 
--- one list begins with the other
-pub record IsLonger (ps qs : List Position) : Type 0 where
-  pub more : List Position
-  pub is : qs ≡ ps ++ more
-
 -- a position got a number
-pub record IsNumbered (limit : ℕ) (ps : List Position) (p : Position) (b : Pool) (v : ℕ) : Type 0 where
+pub record IsNumbered (limit : ℕ) (a : Pool) (p : Position) (b : Pool) (v : ℕ) : Type 0 where
   pub is_pool : KeepsPool b
-  pub added : IsAdded ps p (positions_of b) v
+  pub added : IsAdded (positions_of a) p (positions_of b) v
+  pub stored : IsLonger a.positions b.positions
   pub few : length (positions_of b) ≤ limit
 
 -- it is a new one, and there are as many as are allowed
@@ -86,9 +87,10 @@ abbrev pub at_place : Graph → List Position → ℕ → Position
 at_place g ps v = get_or ps v (start_of g)
 
 -- the pool that was has become that which is
-pub record Becomes (g : Graph) (limit : ℕ) (ps : List Position) (b : Pool) : Type 0 where
+pub record Becomes (g : Graph) (limit : ℕ) (a b : Pool) : Type 0 where
   pub explores : Explores g limit b
-  pub longer : IsLonger ps (positions_of b)
+  pub longer : IsLonger (positions_of a) (positions_of b)
+  pub stored : IsLonger a.positions b.positions
 
 -- the spread is that of the position at v
 pub record IsAt (g : Graph) (limit : ℕ) (b : Pool) (v : ℕ) (sp : SpreadList) : Type 0 where
@@ -124,35 +126,40 @@ AddsUnchosen g ps b = (w : ℕ) → length ps ≤ w → w < length (positions_of
     (at_place g (positions_of b) w).choice ≡ []
 
 -- and the vertices are those of the moves from the position at v, along diamonds
-pub record IsLed (g : Graph) (limit : ℕ) (ps : List Position) (v : ℕ) (b : Pool) (vs : Vec ℕ) : Type 0 where
-  pub becomes : Becomes g limit ps b
-  pub recorded : IsRecorded g (positions_of b) (at_place g ps v) (recorded.Led vs)
-  pub unchosen : AddsUnchosen g ps b
+pub record IsLed (g : Graph) (limit : ℕ) (a : Pool) (v : ℕ) (b : Pool) (vs : Vec ℕ) : Type 0 where
+  pub becomes : Becomes g limit a b
+  pub recorded : IsRecorded g (positions_of b) (at_place g (positions_of a) v) (recorded.Led vs)
+  pub unchosen : AddsUnchosen g (positions_of a) b
 
 -- and what is found at the position at v was recorded
-pub record IsTurned (g : Graph) (limit : ℕ) (ps : List Position) (v : ℕ) (b : Pool) (r : Recorded) : Type 0 where
-  pub becomes : Becomes g limit ps b
-  pub recorded : IsRecorded g (positions_of b) (at_place g ps v) r
+pub record IsTurned (g : Graph) (limit : ℕ) (a : Pool) (v : ℕ) (b : Pool) (r : Recorded) : Type 0 where
+  pub becomes : Becomes g limit a b
+  pub recorded : IsRecorded g (positions_of b) (at_place g (positions_of a) v) r
 
 -- and no side is chosen next
-pub record IsEnded (g : Graph) (limit : ℕ) (ps : List Position) (v : ℕ) (b : Pool) (r : Recorded) : Type 0 where
-  pub turned : IsTurned g limit ps v b r
+pub record IsEnded (g : Graph) (limit : ℕ) (a : Pool) (v : ℕ) (b : Pool) (r : Recorded) : Type 0 where
+  pub turned : IsTurned g limit a v b r
   pub is_found : r ≡ recorded.Waiting → ⊥
-  pub unchosen : AddsUnchosen g ps b
+  pub unchosen : AddsUnchosen g (positions_of a) b
 
--- or a side is chosen at this or-node, which leads to these numbers
-pub record IsOpened (g : Graph) (limit : ℕ) (ps : List Position) (v : ℕ) (sp : SpreadList) (b : Pool)
+-- and sides are chosen at this or-node, which leads to these numbers
+pub record IsOpened (g : Graph) (limit : ℕ) (a : Pool) (v : ℕ) (sp : SpreadList) (b : Pool)
     (node l r : ℕ) : Type 0 where
-  pub turned : IsTurned g limit ps v b (recorded.Chosen (l ∷ r ∷ []))
+  pub turned : IsTurned g limit a v b (recorded.Chosen (l ∷ r ∷ []))
   pub is_open : IsOpenOr g sp node
-  pub left : slice_get (positions_of b) l ≡ Some (with_chosen g (at_place g ps v) node Left)
-  pub right : slice_get (positions_of b) r ≡ Some (with_chosen g (at_place g ps v) node Right)
-  pub only : (w : ℕ) → length ps ≤ w → w < length (positions_of b) → (w ≡ l) ⊎ (w ≡ r)
+  pub left : slice_get (positions_of b) l ≡ Some (with_chosen g (at_place g (positions_of a) v) node Left)
+  pub right : slice_get (positions_of b) r ≡ Some (with_chosen g (at_place g (positions_of a) v) node Right)
+  pub only : (w : ℕ) → length (positions_of a) ≤ w → w < length (positions_of b) → (w ≡ l) ⊎ (w ≡ r)
 
--- the one or the other
-abbrev pub IsTurnOf : Graph → ℕ → List Position → ℕ → SpreadList → Pool → Turn → Type 0
-IsTurnOf g limit ps v sp b (turn.Ended r) = IsEnded g limit ps v b r
-IsTurnOf g limit ps v sp b (turn.Open node l r) = IsOpened g limit ps v sp b node l r
+-- sides are to be chosen at this or-node
+pub record IsOpen (g : Graph) (sp : SpreadList) (node : ℕ) : Type 0 where
+  pub no_clash : (x : ClashCause) → ¬ (IsCause g sp x)
+  pub least : IsLeastOpenOr g sp node
+
+-- no side is chosen next, or sides are to be chosen
+abbrev pub IsTurnOf : Graph → ℕ → Pool → ℕ → SpreadList → Pool → Turn → Type 0
+IsTurnOf g limit a v sp b (turn.Ended r) = IsEnded g limit a v b r
+IsTurnOf g limit a v sp b (turn.Open node) = IsOpen g sp node × (b ≡ a)
 
 -- nothing was recorded yet of the position at v
 abbrev pub IsWaiting : List Recorded → ℕ → Type 0
@@ -188,20 +195,22 @@ pub record IsExplored (g : Graph) (limit : ℕ) (b : Pool) (rs : List Recorded) 
     (ts : List Recorded) : Type 0 where
   pub underway : IsUnderway g limit d ts
   pub longer : IsLonger (positions_of b) (positions_of d)
+  pub stored : IsLonger b.positions d.positions
   pub kept : (w : ℕ) → (IsWaiting rs w → ⊥) → IsWaiting ts w → ⊥
   pub done : IsWaiting ts v → ⊥
   pub waiting : (ws : List ℕ) → AreWaiting g b rs (v ∷ ws) → AreWaiting g d ts ws
   pub adds : AddsBelow (positions_of b) (at_place g (positions_of b) v) (positions_of d)
 
--- the exploration went on from the first position without a choice that has the sequent and the history of q
-pub record IsRooted (ps : List Position) (rs : List Recorded) (q : Position) : Type 0 where
-  pub root : ℕ
-  pub is_first : IsFirst ps q root
-  pub found : IsWaiting rs root → ⊥
+-- the exploration went on from the position at w, which has no choice, and the sequent and the history of s
+pub record IsRoot (xs : List Placed) (rs : List Recorded) (s : Site) (w : ℕ) : Type 0 where
+  pub is_top : IsTopAt site_of xs s w
+  pub found : IsWaiting rs w → ⊥
 
--- so it did for each position with a choice
-abbrev pub AreRooted : List Position → List Recorded → Type 0
-AreRooted ps rs = (q : Position) → IsMember q ps → (q.choice ≡ [] → ⊥) → IsRooted ps rs q
+-- the table has the sequent and the history of each position with a choice, and the numbers of roots
+pub record AreRooted (xs : List Placed) (rs : List Recorded) (ks : List Site) (ns : List ℕ) : Type 0 where
+  pub even : length ks ≡ length ns
+  pub roots : (i : ℕ) (s : Site) → slice_get ks i ≡ Some s → IsRoot xs rs s (get_or ns i 0)
+  pub all : (v : ℕ) (x : Placed) → slice_get xs v ≡ Some x → (x.choice ≡ [] → ⊥) → IsMember (site_of x) ks
 
 -- so it was for all positions with numbers below that of what was recorded
 pub record AreTurned (g : Graph) (limit : ℕ) (b : Pool) (rs : List Recorded) : Type 0 where

@@ -1,8 +1,10 @@
 -- One number more is explored, and at the end all are.
-use Rattle.std.proofs.Common.{ℕ, ◌<◌, List, [], length, refl, sym, ap, ◌∙◌, subst, arith}
+use Rattle.std.proofs.Common.{ℕ, ◌≡◌, ◌<◌, ◌≤◌, List, [], length, refl, sym, ap, ◌∙◌, subst, arith}
 use Rattle.std.proofs.lemmas.List.{length-map}
 use Rattle.ml_graph.specs.Graph.{Graph}
+use Rattle.ml_product.specs.declared.pool.Pool.{Pool}
 use Rattle.ml_product.specs.declared.recorded.Recorded.{Recorded}
+use Rattle.ml_product.specs.declared.stored.Site.{Site}
 use Rattle.ml_product.specs.private.Shared.{seen}
 use Rattle.ml_product.specs.private.Pools.{positions_of}
 use Rattle.ml_product.specs.private.Exploring.{AreTurned, IsUnderway, IsExplored, IsWaiting, AreWaiting, AreRooted}
@@ -19,7 +21,11 @@ loop-v-init c =
       graph = refl;
       underway = subst (IsUnderway g c.args.limit b) none c.requires.underway;
       waiting = subst (λ (rs : List Recorded). AreWaiting g b rs []) none c.requires.waiting;
-      rooted = subst (AreRooted (positions_of b)) none (rooted_start g b c.requires.waiting);
+      rooted = subst (λ (rs : List Recorded). AreRooted b.positions rs c.new-trees.result.sites.keys
+          c.new-trees.result.tops.items) none
+          (subst (λ (ks : List Site). AreRooted b.positions [] ks c.new-trees.result.tops.items)
+          (sym c.new-trees.ensures.sites)
+          (subst (AreRooted b.positions [] []) (sym c.new-trees.ensures.tops) (rooted_start g b c.requires.waiting)));
       done = λ w low waits. absurd (omega arith);
     }
 
@@ -40,21 +46,23 @@ loop-v-preserved c =
           explored l.invariant.done;
     }
 
-all_done : (c : goal.After-into_vec) → (v : ℕ) → v < length (positions_of c.loop-v.pool) → IsWaiting c.loop-v.turns
-    v → ⊥
-all_done c v low =
-    let pool = c.loop-v.pool in
-    let long = length-map pool.positions (seen pool.sequents.keys pool.histories.keys) in
-    c.loop-v.invariant.done v (omega (arith, long, low, c.len.ensures, c.loop-v-test.false))
+all_done : (b : Pool) (ts : List Recorded) (n size : ℕ) → ((w : ℕ) → w < n → IsWaiting ts w → ⊥)
+    → size ≡ length b.positions
+    → size ≤ n
+    → (v : ℕ) → v < length (positions_of b) → IsWaiting ts v → ⊥
+all_done b ts n size done all high v low =
+    let long = length-map b.positions (seen b.sequents.keys b.histories.keys) in done v (omega arith)
 
 pub returns-clause-turned : goal.returns-clause-turned
 returns-clause-turned c =
-    subst (AreTurned c.args.branch.now.graph c.args.limit c.loop-v.pool) (sym c.into_vec.ensures)
-    (all_turned c.args.branch.now.graph c.args.limit c.loop-v.pool c.loop-v.turns c.loop-v.invariant.underway
-    (all_done c))
+    let l = c.loop-v in
+    subst (AreTurned c.args.branch.now.graph c.args.limit l.pool) (sym c.into_vec.ensures)
+    (all_turned c.args.branch.now.graph c.args.limit l.pool l.turns l.invariant.underway
+    (all_done l.pool l.turns l.v c.len.result l.invariant.done c.len.ensures c.loop-v-test.false))
 
 pub returns-clause-whole : goal.returns-clause-whole
 returns-clause-whole c =
+    let l = c.loop-v in
     ap length c.into_vec.ensures
-    ∙ all_long c.args.branch.now.graph c.args.limit c.loop-v.pool c.loop-v.turns c.loop-v.invariant.underway
-    (all_done c)
+    ∙ all_long c.args.branch.now.graph c.args.limit l.pool l.turns l.invariant.underway
+    (all_done l.pool l.turns l.v c.len.result l.invariant.done c.len.ensures c.loop-v-test.false)

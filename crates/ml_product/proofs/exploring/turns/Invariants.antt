@@ -1,5 +1,4 @@
 use Rattle.std.proofs.Common.{ℕ, ◌≡◌, ◌<◌, ◌-◌, []}
-use Rattle.ml_product.specs.private.Pools.{positions_of}
 use Rattle.ml_product.specs.private.Exploring.{IsUnderway, IsWaiting, AreWaiting, AreRooted}
 use Rattle.ml_product.proofs.exploring.turns.Given as goal
 
@@ -8,7 +7,7 @@ invariant-loop-v l = record {
   graph : l.branch.graph ≡ l.fn.branch.graph;
   underway : IsUnderway l.fn.branch.graph l.limit l.pool l.turns;
   waiting : AreWaiting l.fn.branch.graph l.pool l.turns [];
-  rooted : AreRooted (positions_of l.pool) l.turns;
+  rooted : AreRooted l.pool.positions l.turns l.trees.sites.keys l.trees.tops.items;
   done : (w : ℕ) → w < l.v → IsWaiting l.turns w → ⊥;
 }
 

@@ -10,18 +10,18 @@ use Rattle.ml_product.proofs.turns.choose.Goals as goal
 pub chosen-requires-clause-unchosen : goal.chosen-requires-clause-unchosen
 chosen-requires-clause-unchosen c =
     unchosen_at c.args.branch.now.graph c.args.limit c.args.pool.now c.args.v c.args.branch.now.spread c.requires.at
-    c.args.terms.now.neutral c.requires.terms.neutral_is c.args.node c.requires.no_clash c.requires.least
+    c.args.terms.now.neutral c.requires.terms.neutral_is c.args.node c.requires.is_open.no_clash c.requires.is_open.least
 
 pub chosen-requires-clause-is_new : goal.chosen-requires-clause-is_new
 chosen-requires-clause-is_new c =
     first_new c.args.branch.now.graph c.args.limit c.args.pool.now c.args.v c.args.branch.now.spread c.requires.at
-    c.args.terms.now.neutral c.requires.terms.neutral_is c.args.node c.requires.no_clash c.requires.least c.requires.fresh
+    c.args.terms.now.neutral c.requires.terms.neutral_is c.args.node c.requires.is_open.no_clash c.requires.is_open.least c.requires.fresh
 
 pub chosen-requires-2-clause-is_new : goal.chosen-requires-2-clause-is_new
 chosen-requires-2-clause-is_new c =
     second_new c.args.branch.now.graph c.args.limit c.args.pool.now c.chosen.new.pool c.args.v
     c.args.branch.now.spread c.args.terms.now.neutral c.args.node c.in_ok-left.left c.requires.at
-    c.requires.terms.neutral_is c.requires.no_clash c.requires.least c.requires.fresh c.in_ok-left.ensures.ok
+    c.requires.terms.neutral_is c.requires.is_open.no_clash c.requires.is_open.least c.requires.fresh c.in_ok-left.ensures.ok
 
 pub returns-in_err-left-clause-passed : goal.returns-in_err-left-clause-passed
 returns-in_err-left-clause-passed c = λ e.
@@ -32,7 +32,7 @@ returns-in_err-left-clause-passed c = λ e.
     let at = c.requires.at in
     let p = err_from_is_err_and c.from_residual.result c.from_residual.ensures.1 in
     chosen_passed g c.args.limit b v sp at c.args.terms.now.neutral c.requires.terms.neutral_is c.args.node
-    c.requires.no_clash c.requires.least Left
+    c.requires.is_open.no_clash c.requires.is_open.least Left
     (c.in_err-left.ensures.passed (handed_on c.from_residual.result c.in_err-left.field-0.0 p e)
     (at_place g (positions_of b) v) (stands_at g c.args.limit b v sp at))
 
@@ -43,7 +43,7 @@ once c =
     still_chosen c.args.branch.now.graph c.args.limit c.args.pool.now c.chosen.new.pool c.args.v
     c.args.branch.now.spread
     c.args.terms.now.neutral c.args.node c.in_ok-left.left c.requires.at c.requires.terms.neutral_is
-    c.requires.no_clash c.requires.least c.in_ok-left.ensures.ok
+    c.requires.is_open.no_clash c.requires.is_open.least c.in_ok-left.ensures.ok
 
 pub chosen-requires-2-clause-pool : goal.chosen-requires-2-clause-pool
 chosen-requires-2-clause-pool c = (once c).explores.is_pool
@@ -57,7 +57,7 @@ chosen-requires-2-clause-number c = (once c).number
 pub chosen-requires-2-clause-unchosen : goal.chosen-requires-2-clause-unchosen
 chosen-requires-2-clause-unchosen c =
     unchosen_at c.args.branch.now.graph c.args.limit c.chosen.new.pool c.args.v c.args.branch.now.spread (once c)
-    c.args.terms.now.neutral c.requires.terms.neutral_is c.args.node c.requires.no_clash c.requires.least
+    c.args.terms.now.neutral c.requires.terms.neutral_is c.args.node c.requires.is_open.no_clash c.requires.is_open.least
 
 pub returns-in_err-right-clause-passed : goal.returns-in_err-right-clause-passed
 returns-in_err-right-clause-passed c = λ e.
@@ -68,15 +68,15 @@ returns-in_err-right-clause-passed c = λ e.
     let k = c.args.terms.now.neutral in
     let at =
     still_chosen g c.args.limit c.args.pool.now b v sp k c.args.node c.in_ok-left.left c.requires.at
-    c.requires.terms.neutral_is c.requires.no_clash c.requires.least c.in_ok-left.ensures.ok in
+    c.requires.terms.neutral_is c.requires.is_open.no_clash c.requires.is_open.least c.in_ok-left.ensures.ok in
     let p = err_from_is_err_and c.from_residual-in_err-right.result c.from_residual-in_err-right.ensures.1 in
     chosen_passed g c.args.limit b v sp at k c.requires.terms.neutral_is c.args.node
-    c.requires.no_clash c.requires.least Right
+    c.requires.is_open.no_clash c.requires.is_open.least Right
     (c.in_err-right.ensures.passed (handed_on c.from_residual-in_err-right.result c.in_err-right.field-0.0 p e)
     (at_place g (positions_of b) v) (stands_at g c.args.limit b v sp at))
 
-pub returns-clause-turned : goal.returns-clause-turned
-returns-clause-turned c =
+pub returns-clause-opened : goal.returns-clause-opened
+returns-clause-opened c =
     both_opened c.args.branch.now.graph c.args.limit c.args.pool.now c.chosen.new.pool c.chosen-2.new.pool c.args.v
     c.args.branch.now.spread c.args.terms.now.neutral c.args.node c.in_ok-left.left c.in_ok-right.right c.requires.at
-    c.requires.terms.neutral_is c.requires.no_clash c.requires.least c.in_ok-left.ensures.ok c.in_ok-right.ensures.ok
+    c.requires.terms.neutral_is c.requires.is_open.no_clash c.requires.is_open.least c.in_ok-left.ensures.ok c.in_ok-right.ensures.ok

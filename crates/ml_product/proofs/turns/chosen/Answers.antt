@@ -2,7 +2,7 @@
 use Rattle.std.proofs.Common.{get_or}
 use Rattle.ml_sequent.specs.Choice.{with_side}
 use Rattle.ml_product.specs.Position.{Position}
-use Rattle.ml_product.specs.private.Pools.{positions_of, beside}
+use Rattle.ml_product.specs.private.Pools.{beside}
 use Rattle.ml_product.specs.private.Placed.{nowhere}
 use Rattle.ml_product.specs.private.Shared.{seen}
 use Rattle.ml_product.proofs.Interning.{shown_at}
@@ -22,12 +22,12 @@ add_chosen-requires-clause-unchosen c =
 
 pub returns-clause-ok : goal.returns-clause-ok
 returns-clause-ok c =
-    beside_ok c.args.limit (positions_of c.args.pool.now) c.args.v
+    beside_ok c.args.limit c.args.pool.now c.args.v
     (λ (p : Position). beside p c.args.neutral (with_side p.choice c.args.node c.args.side)) c.add_chosen.new.self
     c.in_ok-number.number c.requires.few c.in_ok-number.ensures c.within.result c.within.ensures.ok
 
 pub returns-clause-passed : goal.returns-clause-passed
 returns-clause-passed c = λ e p at.
-    for_err c.args.limit (positions_of c.args.pool.now)
+    for_err c.args.limit c.args.pool.now
     (beside p c.args.neutral (with_side p.choice c.args.node c.args.side)) c.add_chosen.new.self
     c.in_ok-number.number c.requires.few (c.in_ok-number.ensures p at) c.within.result c.within.ensures.passed e

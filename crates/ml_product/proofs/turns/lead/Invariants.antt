@@ -7,7 +7,7 @@ use Rattle.ml_product.proofs.turns.lead.Given as goal
 
 abbrev pub invariant-loop-fresh : goal.invariant-loop-fresh
 invariant-loop-fresh l = (l.yielded ++ into_iter_items l.fresh-iterator ≡ into_iter_items l.initial.fresh-iterator)
-    × Becomes l.fn.branch.graph l.limit (positions_of l.fn.pool) l.pool
+    × Becomes l.fn.branch.graph l.limit l.fn.pool l.pool
     × ((n : ℕ) → AreVerticesAt n (positions_of l.pool) (map target_of l.yielded) l.moves.items)
     × AddsUnchosen l.fn.branch.graph (positions_of l.fn.pool) l.pool
     × (into_iter_len l.fresh-iterator ≡ length (into_iter_items l.fresh-iterator))

@@ -1,11 +1,10 @@
 -- The branch has the spread of the position; where it clashes, there is a cause.
-use Rattle.std.proofs.Common.{ℕ, sym, ◌∙◌, subst}
+use Rattle.std.proofs.Common.{ℕ, ◌≡◌, Bool, true, false, refl, sym, ◌∙◌, subst}
+use Rattle.ml_graph.specs.Graph.{Graph}
 use Rattle.ml_sequent.specs.declared.clashes.ClashCause.{ClashCause}
 use Rattle.ml_sequent.specs.Branch.{BranchList}
-use Rattle.ml_sequent.specs.Spread.{IsSpread, IsCause, IsOpenOr}
+use Rattle.ml_sequent.specs.Spread.{SpreadList, IsSpread, IsCause, IsOpenOr, IsLeastOpenOr}
 use Rattle.ml_product.specs.DecisionGame.{IsResolved}
-use Rattle.ml_product.specs.private.Pools.{positions_of}
-use Rattle.ml_product.specs.private.Exploring.{at_place, HasNoneBelow}
 use Rattle.ml_product.proofs.Turning.{spread_of, clashed}
 use Rattle.ml_product.proofs.turns.take_turn.Goals as goal
 
@@ -24,17 +23,30 @@ open_or-requires c =
     subst (λ (b : BranchList). IsSpread b.graph b.spread) (sym c.in_ok-is_clashing.ensures.same)
     (spread_of c.args.branch.now.graph c.args.limit c.args.pool.now c.args.v c.args.branch.now.spread c.requires.at)
 
+-- what doesn't clash has no cause
+calm : (g : Graph) (sp : SpreadList) (clashes : Bool) → ((x : ClashCause) → IsCause g sp x → clashes ≡ true)
+    → clashes ≡ false
+    → (x : ClashCause) → IsCause g sp x → ⊥
+calm g sp clashes found none x is = let yes = found x is in absurd (cc)
+
 pub go_on-requires-clause-resolved : goal.go_on-requires-clause-resolved
 go_on-requires-clause-resolved c =
     let before = sym (c.in-None.ensures.same ∙ c.in_ok-is_clashing.ensures.same) in
     let none = subst (λ (b : BranchList). (n : ℕ) → IsOpenOr b.graph b.spread n → ⊥)
     c.in_ok-is_clashing.ensures.same c.in-None.ensures.least in
-    let calm : (x : ClashCause) → IsCause c.args.branch.now.graph c.args.branch.now.spread x → ⊥ =
-    λ x h. (let yes = c.in_ok-is_clashing.ensures.no x h in let other = c.if-branch.false in absurd (cc)) in
-    subst (λ (b : BranchList). IsResolved b.graph b.spread) before (record { no_clash = calm; none_open = none })
+    subst (λ (b : BranchList). IsResolved b.graph b.spread) before (record {
+      no_clash = calm c.args.branch.now.graph c.args.branch.now.spread c.in_ok-is_clashing.field-0
+          c.in_ok-is_clashing.ensures.no c.if-branch.false;
+      none_open = none;
+    })
 
-pub choose-requires-clause-fresh : goal.choose-requires-clause-fresh
-choose-requires-clause-fresh c =
-    let ps = positions_of c.args.pool.now in
-    subst (λ (b : BranchList). HasNoneBelow ps (at_place b.graph ps c.args.v))
-    (sym (c.in-Some.ensures.same ∙ c.in_ok-is_clashing.ensures.same)) c.requires.fresh
+pub returns-in-Some-clause-turned : goal.returns-in-Some-clause-turned
+returns-in-Some-clause-turned c = (
+  record {
+    no_clash = calm c.args.branch.now.graph c.args.branch.now.spread c.in_ok-is_clashing.field-0
+        c.in_ok-is_clashing.ensures.no c.if-branch.false;
+    least = subst (λ (b : BranchList). IsLeastOpenOr b.graph b.spread c.in-Some.node)
+        c.in_ok-is_clashing.ensures.same c.in-Some.ensures.least;
+  },
+  refl,
+)

@@ -16,14 +16,14 @@ returns c = λ p at.
     let xs = a.positions in
     let here = sym c.in_ok-push_chosen.ensures in
     record {
-      is_pool = subst (λ (ys : List Placed). IsPool ss hs ys a.tops.keys a.top_numbers.items a.sites.keys
-          a.site_numbers.items) here
+      is_pool = subst (λ (ys : List Placed). IsPool ss hs ys a.tops.keys a.top_numbers.items) here
           (chosen_pool ss hs xs c.args.v c.args.priority c.args.node c.args.side p a.tops.keys a.top_numbers.items
-          a.sites.keys a.site_numbers.items c.requires.pool c.requires.number at (c.requires.is_new p at));
+          c.requires.pool c.requires.number at (c.requires.is_new p at));
       added = subst (λ n. IsAdded (shown ss hs xs) (beside p c.args.priority (with_side p.choice c.args.node c.args.side))
           (shown ss hs c.push_chosen.new.self) n) (sym c.len-next.ensures)
           (subst (λ (ys : List Placed). IsAdded (shown ss hs xs)
           (beside p c.args.priority (with_side p.choice c.args.node c.args.side)) (shown ss hs ys) (length xs)) here
           (chosen_added ss hs xs c.args.v c.args.priority c.args.node c.args.side p a.tops.keys a.top_numbers.items
-          a.sites.keys a.site_numbers.items c.requires.pool c.requires.number at (c.requires.is_new p at)));
+          c.requires.pool c.requires.number at (c.requires.is_new p at)));
+      stored = record { more = _; is = c.in_ok-push_chosen.ensures };
     }

@@ -7,10 +7,10 @@ use Rattle.ml_trace.specs.Stack.{Item}
 use Rattle.ml_product.specs.declared.pool.Fresh.{Fresh}
 use Rattle.ml_product.specs.declared.pool.Pool.{Pool}
 use Rattle.ml_product.specs.private.Numbers.{Leads}
-use Rattle.ml_product.specs.private.Placed.{Placed, site_of, top_of}
+use Rattle.ml_product.specs.private.Placed.{Placed, top_of}
 use Rattle.ml_product.specs.private.Pools.{IsPool, KeepsPool, IsInterned, positions_of, position_of}
 use Rattle.ml_product.specs.private.Shared.{shown}
-use Rattle.ml_product.proofs.Interning.{still_pool, still_added}
+use Rattle.ml_product.proofs.Interning.{still_pool, still_added, added_stored}
 use Rattle.ml_product.proofs.pool.Pool.intern.Goals as goal
 
 module _ (a d : Pool) (x : Fresh) (ts : List (List ℕ)) (gs : List (List (Item ℕ))) (s h : ℕ) (pool : KeepsPool a)
@@ -21,28 +21,25 @@ module _ (a d : Pool) (x : Fresh) (ts : List (List ℕ)) (gs : List (List (Item 
 
   interned : (v : ℕ) → d.sequents.keys ≡ ts → d.histories.keys ≡ gs → IsAdded a.positions made d.positions v
       → Leads top_of d.positions d.tops.keys d.top_numbers.items
-      → Leads site_of d.positions d.sites.keys d.site_numbers.items
-      → IsInterned (positions_of a) (position_of x) d v
-  interned v es eh added tops sites = record {
-    is_pool = subst (λ ss. IsPool ss d.histories.keys d.positions d.tops.keys d.top_numbers.items d.sites.keys
-        d.site_numbers.items) (sym es)
-        (subst (λ hs. IsPool ts hs d.positions d.tops.keys d.top_numbers.items d.sites.keys d.site_numbers.items) (sym eh)
+      → IsInterned a (position_of x) d v
+  interned v es eh added tops = record {
+    is_pool = subst (λ ss. IsPool ss d.histories.keys d.positions d.tops.keys d.top_numbers.items) (sym es)
+        (subst (λ hs. IsPool ts hs d.positions d.tops.keys d.top_numbers.items) (sym eh)
         (still_pool a.sequents.keys ts a.histories.keys gs a.positions d.positions x.sequent x.history made v a.tops.keys
-        a.top_numbers.items a.sites.keys a.site_numbers.items pool at_s at_h added d.tops.keys d.top_numbers.items
-        d.sites.keys d.site_numbers.items tops sites));
+        a.top_numbers.items pool at_s at_h added d.tops.keys d.top_numbers.items tops));
     added = subst (λ ss. IsAdded (positions_of a) (position_of x) (shown ss d.histories.keys d.positions) v) (sym es)
         (subst (λ hs. IsAdded (positions_of a) (position_of x) (shown ts hs d.positions) v) (sym eh)
         (still_added a.sequents.keys ts a.histories.keys gs a.positions d.positions x.sequent x.history made v
-        a.tops.keys a.top_numbers.items a.sites.keys a.site_numbers.items pool at_s at_h added));
+        a.tops.keys a.top_numbers.items pool at_s at_h added));
+    stored = added_stored a.positions d.positions made v added;
   }
 
   of_answer : (r : Result ℕ NoMemory) → OnOk r (d.sequents.keys ≡ ts) → OnOk r (d.histories.keys ≡ gs)
       → IfOk r (IsAdded a.positions made d.positions)
       → OnOk r (Leads top_of d.positions d.tops.keys d.top_numbers.items)
-      → OnOk r (Leads site_of d.positions d.sites.keys d.site_numbers.items)
-      → IfOk r (IsInterned (positions_of a) (position_of x) d)
-  of_answer (Ok v) es eh added tops sites = interned v es eh added tops sites
-  of_answer (Err e) es eh added tops sites = tt
+      → IfOk r (IsInterned a (position_of x) d)
+  of_answer (Ok v) es eh added tops = interned v es eh added tops
+  of_answer (Err e) es eh added tops = tt
 
 pub returns : goal.returns
 returns c =
@@ -51,4 +48,4 @@ returns c =
     c.add_history.new.table.keys c.in_ok-sequent.field-0 c.in_ok-history.field-0 c.requires.pool c.in_ok-sequent.ensures
     c.in_ok-history.ensures c.intern_placed.result
     (on_ok_weaker c.intern_placed.result (ap (λ t. t.keys)) h.sequents)
-    (on_ok_weaker c.intern_placed.result (ap (λ t. t.keys)) h.histories) h.added h.tops h.sites
+    (on_ok_weaker c.intern_placed.result (ap (λ t. t.keys)) h.histories) h.added h.tops

@@ -2,7 +2,7 @@
 use Rattle.std.proofs.Common.{ℕ, List, [], length, refl, sym, subst, arith}
 use Rattle.ml_lists.specs.Added.{IsAdded}
 use Rattle.ml_product.specs.private.Numbers.{IsNamed, Leads}
-use Rattle.ml_product.specs.private.Placed.{Placed, site_of, top_of}
+use Rattle.ml_product.specs.private.Placed.{Placed, top_of}
 use Rattle.ml_product.proofs.Naming.{leads_named, met_added, new_added}
 use Rattle.ml_product.proofs.pool.Pool.intern_placed.Goals as goal
 
@@ -43,15 +43,3 @@ returns-clause-tops c =
     (subst (λ k. IsNamed a.tops.keys a.top_numbers.items (top_of x) k
     c.number_of_top.new.table.keys c.number_of_top.new.numbers.items c.in_ok-number.field-0) c.len-next.ensures
     c.in_ok-number.ensures))
-
-pub returns-clause-sites : goal.returns-clause-sites
-returns-clause-sites c =
-    let a = c.args.self.now in
-    let x = made c.args.sequent c.args.history c.args.priority in
-    subst (λ (ys : List Placed). Leads site_of ys c.number_of_site.new.table.keys c.number_of_site.new.numbers.items)
-    (sym c.in_ok-push_unchosen.ensures)
-    (leads_named site_of a.positions a.sites.keys a.site_numbers.items c.requires.sites x refl
-    c.number_of_site.new.table.keys c.number_of_site.new.numbers.items c.in_ok-number_of_site.field-0
-    (subst (λ k. IsNamed a.sites.keys a.site_numbers.items (site_of x) k
-    c.number_of_site.new.table.keys c.number_of_site.new.numbers.items c.in_ok-number_of_site.field-0)
-    c.len-next.ensures c.in_ok-number_of_site.ensures))
