@@ -5,9 +5,9 @@
 --   OnCourse      == from a position that is met Even's moves choose until the end of some state
 --   on_course     == so it is of each position that is met
 --   states_are_met == the law
-use Rattle.std.proofs.Common.{ℕ, zero, suc, ◌≡◌, ◌+◌, ◌<◌, ◌≤◌, ◌⊎◌, inl, inr, true, false, nat_lt, List, [], ◌∷◌, length, get_or, slice_get, map, Some, refl, sym, ap, ◌∙◌, subst, arith}
+use Rattle.std.proofs.Common.{ℕ, zero, suc, ◌≡◌, ◌+◌, ◌<◌, ◌≤◌, ◌⊎◌, inl, inr, List, [], ◌∷◌, length, get_or, slice_get, map, Some, refl, sym, ap, ◌∙◌, subst, arith}
 use Rattle.std.specs.List.{zip}
-use Rattle.std.proofs.lemmas.Bool.{cases_eq, cases_lt, cases_Bool, cond-true, cond-false}
+use Rattle.std.proofs.lemmas.Bool.{cases_eq, cases_lt}
 use Rattle.std.proofs.lemmas.List.{get_or_past}
 use Rattle.std.proofs.lemmas.Option.{slice_get_within, slice_get-get_or}
 use Rattle.ml_lists.specs.Member.{IsMember}
@@ -17,12 +17,12 @@ use Rattle.ml_parity.specs.declared.players.Player.TheVariants.{Even}
 use Rattle.ml_parity.specs.Game.{HasMove, moves_of}
 use Rattle.ml_parity.proofs.FollowedWalks.{last, before, won_behind}
 use Rattle.ml_sequent.specs.declared.choice.Side.{Side}
-use Rattle.ml_sequent.specs.Choice.{with_side}
 use Rattle.ml_sequent.specs.Spread.{SpreadList, IsOpenOr}
 use Rattle.ml_product.specs.Position.{Position, start_of, with_chosen}
 use Rattle.ml_product.specs.DecisionGame.{diamonds_of, Won}
 use Rattle.ml_product.specs.Arena.{AreVertices, game_of}
 use Rattle.ml_product.proofs.ArenaGame.{same_entry, moves_at, lost_moves, won_moves, is_game}
+use Rattle.ml_product.proofs.ReachedChoices.{with_side_some}
 use Rattle.ml_lists.proofs.Member.{member_of_get}
 use Rattle.ml_extract.specs.Model.{PositionAt, SpreadAt, Chooses, ends, moves, State, nexts}
 use Rattle.ml_extract.specs.Extraction.{IsMet, at_first, by_move, StatesAreMet}
@@ -31,17 +31,6 @@ use Rattle.ml_extract.proofs.Choosing.{AtWon, choosing, leading, settled, at_spr
 use Rattle.ml_extract.proofs.Numbering.{StateAt, first_state, state_for, Earlier, earlier_state}
 use Rattle.ml_extract.proofs.AtNodes.{AtState, resolved_at}
 use Rattle.ml_extract.proofs.Board.{won_at_first}
-
--- a choice with a side more isn't empty
-with_side_some : (c : List (ℕ × Side)) (o : ℕ) (x : Side) → with_side c o x ≡ [] → ⊥
-with_side_some [] o x e = cc
-with_side_some (q ∷ c) o x e = by_test (cases_Bool (nat_lt o q.0))
-  where
-    by_test : (nat_lt o q.0 ≡ true) ⊎ (nat_lt o q.0 ≡ false) → ⊥
-    by_test (inl less) =
-        let wrong = sym (cond-true (nat_lt o q.0) ((o, x) ∷ q ∷ c) (q ∷ with_side c o x) less) ∙ e in cc
-    by_test (inr more) =
-        let wrong = sym (cond-false (nat_lt o q.0) ((o, x) ∷ q ∷ c) (q ∷ with_side c o x) more) ∙ e in cc
 
 module _ (S : Setting) where
   abbrev Met : ℕ → Type 0

@@ -1,8 +1,9 @@
 -- The end of an exploration.
 --
+--   start_alone_reached == where the start stands alone, all are reached
 --   started_explores == the start alone is explored
 --   held_of     == where what was recorded has as many entries as there are positions, they are an arena's
-use Rattle.std.proofs.Common.{ℕ, ◌≡◌, ◌+◌, ◌<◌, ◌≤◌, ◌^◌, ◌⊎◌, inl, inr, List, [], length, map, get_or, Contains, sym, ap, subst, arith}
+use Rattle.std.proofs.Common.{ℕ, ◌≡◌, ◌+◌, ◌<◌, ◌≤◌, ◌^◌, ◌⊎◌, inl, inr, List, [], ◌∷◌, length, map, get_or, Contains, sym, ap, subst, arith}
 use Rattle.std.proofs.lemmas.Bool.{cases_lt}
 use Rattle.std.proofs.lemmas.List.{length-map, get_or_past}
 use Rattle.ml_lists.specs.Member.{IsMember}
@@ -21,17 +22,18 @@ use Rattle.ml_product.specs.private.Exploring.{Explores, IsStarted, AreTurned, a
 use Rattle.ml_product.proofs.ArenaGame.{size_is, moves_at, is_game}
 use Rattle.ml_product.proofs.Explored.{is_arena}
 
+-- where the start stands alone, all are reached
+pub start_alone_reached : (g : Graph) (p : Position) → IsMember p (start_of g ∷ []) → IsReached g p
+start_alone_reached g p (inl same) = subst (IsReached g) (sym same) at_start
+start_alone_reached g p (inr none) = absurd none
+
 -- the start alone is explored
 pub started_explores : (g : Graph) (limit : ℕ) (b : Pool) → 1 ≤ limit → IsStarted g b → Explores g limit b
 started_explores g limit b some is = record {
   is_pool = is.is_pool;
-  are_reached = λ p m. by_place p (subst (IsMember p) is.alone m);
+  are_reached = λ p m. start_alone_reached g p (subst (IsMember p) is.alone m);
   few = let e = ap length is.alone in omega arith;
 }
-  where
-    by_place : (p : Position) → (p ≡ start_of g) ⊎ ⊥ → IsReached g p
-    by_place p (inl same) = subst (IsReached g) (sym same) at_start
-    by_place p (inr none) = absurd none
 
 -- where what was recorded has as many entries as there are positions, they are an arena's
 module _ (g : Graph) (limit : ℕ) (b : Pool) (rs : List Recorded) (t : AreTurned g limit b rs)

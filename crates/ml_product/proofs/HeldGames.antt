@@ -11,7 +11,7 @@ use Rattle.ml_parity.specs.declared.players.Player.{Player}
 use Rattle.ml_parity.specs.declared.players.Player.TheVariants.{Even}
 use Rattle.ml_parity.specs.Game.{ParityGame, IsGame, HasMove, size, moves_of}
 use Rattle.ml_trace.specs.Stack.{Item}
-use Rattle.ml_product.specs.private.Placed.{Placed}
+use Rattle.ml_product.specs.Placed.{Placed}
 use Rattle.ml_product.specs.private.Shared.{IsHeld, seen, shown}
 use Rattle.ml_product.specs.Position.{Position}
 use Rattle.ml_product.specs.Arena.{Arena, game_of}

@@ -24,13 +24,14 @@ use Rattle.ml_product.specs.declared.pool.Pool.{Pool}
 use Rattle.ml_product.specs.declared.stored.Site.{Site}
 use Rattle.ml_product.specs.declared.stored.Top.{Top}
 use Rattle.ml_product.specs.private.Numbers.{Leads}
-use Rattle.ml_product.specs.private.Placed.{Placed, nowhere, choice_at, site_of, top_of}
+use Rattle.ml_product.specs.Placed.{Placed, nowhere, choice_at}
+use Rattle.ml_product.specs.private.Links.{site_of, top_of}
 use Rattle.ml_product.specs.private.Shared.{seen, shown, IsWithin, AreWithin}
 use Rattle.ml_product.specs.private.Pools.{positions_of, IsPool, KeepsPool, beside, IsLonger}
 use Rattle.ml_lists.specs.Added.{IsAdded}
 use Rattle.ml_product.proofs.Naming.{stands_last, still_leads}
 use Rattle.ml_product.proofs.OnePlace.{PlaceOf, place_of}
-use Rattle.ml_product.proofs.ReachedChoices.{with_side_length}
+use Rattle.ml_product.proofs.ReachedChoices.{with_side_some}
 use Rattle.ml_product.proofs.Vertices.{longer_self}
 use Rattle.ml_lists.proofs.Added.{added_all, added_once, added_long, added_early, added_get}
 
@@ -49,10 +50,6 @@ different_more (q ∷ ps) p apart new = (
     by_part (inl there) = apart.0 there
     by_part (inr (inl same)) = new (inl (sym same))
     by_part (inr (inr none)) = none
-
--- a choice with a side more has one
-with_side_some : (c : List (ℕ × Side)) (n : ℕ) (s : Side) → with_side c n s ≡ [] → ⊥
-with_side_some c n s e = let long = with_side_length c n s in let none = ap length e in omega arith
 
 -- maps that agree where something stands
 map_alike : {X Y : Type 0} (f h : X → Y) (xs : List X) → ((k : ℕ) (x : X) → slice_get xs k ≡ Some x → f x ≡ h x)

@@ -16,7 +16,8 @@ use Rattle.ml_lists.proofs.Added.{added_early, last_or}
 use Rattle.ml_lists.proofs.Member.{member-append_left, member-append_right, member_of_get}
 use Rattle.ml_product.specs.declared.stored.Top.{Top}
 use Rattle.ml_product.specs.private.Numbers.{HasName, GetsName, IsNamed, IsTopAt, Leads}
-use Rattle.ml_product.specs.private.Placed.{Placed, top_of}
+use Rattle.ml_product.specs.Placed.{Placed}
+use Rattle.ml_product.specs.private.Links.{top_of}
 use Rattle.ml_product.proofs.OnePlace.{PlaceOf, place_of}
 use Rattle.ml_product.proofs.Placing.{end_get}
 

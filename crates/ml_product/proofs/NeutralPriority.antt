@@ -6,7 +6,8 @@
 --   MovesTo             == a position to which a move leads: with one more side, or by a step along a diamond
 --   moves_to            == each move to a position is one of these
 --   sequent_low         == the nodes of a sequent of a position that is reached are nodes of the graph
---   state_low           == the states of its history are states of the automaton
+--   AreStatesLow        == the states of a history are states of the automaton
+--   state_low           == so are those of a position that is reached
 --   names_fit           == there are at most as many names in use as states of the automaton
 --   mark_fits           == the number of a step's mark is below the neutral priority
 --   priority_at_most    == no position that is reached has a greater priority than the neutral one
@@ -109,10 +110,14 @@ pub sequent_low : (g : Graph) (p : Position) (sp : SpreadList)
     → n < size g
 sequent_low g p sp is n m = is.low n ((is.nodes n).1 (record { from = n; member = m; lowest = _; walk = stays n }))
 
+-- the states of its history are below those of the automaton
+abbrev pub AreStatesLow : Graph → Position → Type 0
+AreStatesLow g p = (a : Item ℕ) → IsMember a p.history → a.state < automaton_states g
+
 -- so the numbers of its states are below the automaton's, as many as can be in use
 module _ (g : Graph) (p : Position) (facts : Facts g p)
     (node_low : (n : ℕ) → IsMember n p.sequent → n < size g) where
-  pub state_low : (a : Item ℕ) → IsMember a p.history → a.state < automaton_states g
+  pub state_low : AreStatesLow g p
   state_low a m =
       let t : IsTraced g p.sequent a = facts.traced a m in
       let node : t.state.node < size g = node_low t.state.node t.member in

@@ -14,7 +14,8 @@ use Rattle.ml_sequent.specs.Choice.{side_of, with_side}
 use Rattle.ml_product.specs.declared.stored.Link.{Link}
 use Rattle.ml_product.specs.declared.stored.Link.TheVariants as link
 use Rattle.ml_product.specs.declared.stored.Stored.{Stored}
-use Rattle.ml_product.specs.private.Placed.{Placed, nowhere, choice_at, choice_under, placed, placed_behind, placed_all, HasParent, IsLinked, AreLinked}
+use Rattle.ml_product.specs.Placed.{Placed, nowhere, choice_at}
+use Rattle.ml_product.specs.private.Links.{choice_under, placed, placed_behind, placed_all, HasParent, IsLinked, AreLinked}
 
 -- there is a position for each that is stored
 placed_long : (ps : List Placed) (xs : List Stored) → length (placed_behind ps xs) ≡ length ps + length xs

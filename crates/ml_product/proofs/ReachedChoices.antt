@@ -1,6 +1,7 @@
 -- The choice of a position that is reached decides nodes of the graph, each once.
 --
 --   with_side_length == a choice with a side more has one side more
+--   with_side_some   == so it isn't empty
 --   ChoiceFacts      == the choice is one, of nodes of the graph
 --   reached_choice   == so is that of each position that is reached
 --   chosen_few       == so there are at most as many sides as nodes
@@ -28,6 +29,10 @@ with_side_length (q ∷ c) o x = by_test (cases_Bool (nat_lt o q.0)) (with_side_
     by_test (inl less) rest = ap length (cond-true (nat_lt o q.0) ((o, x) ∷ q ∷ c) (q ∷ with_side c o x) less)
     by_test (inr more) rest =
         ap length (cond-false (nat_lt o q.0) ((o, x) ∷ q ∷ c) (q ∷ with_side c o x) more) ∙ ap suc rest
+
+-- so it isn't empty
+pub with_side_some : (c : List (ℕ × Side)) (o : ℕ) (x : Side) → with_side c o x ≡ [] → ⊥
+with_side_some c o x e = let long = with_side_length c o x in let none = ap length e in omega arith
 
 -- its nodes are those of the choice and the new one
 with_side_nodes : (c : List (ℕ × Side)) (o : ℕ) (x : Side) (n : ℕ)

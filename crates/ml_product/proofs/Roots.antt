@@ -20,7 +20,8 @@ use Rattle.ml_product.specs.declared.pool.Pool.{Pool}
 use Rattle.ml_product.specs.declared.recorded.Recorded.{Recorded}
 use Rattle.ml_product.specs.declared.stored.Site.{Site}
 use Rattle.ml_product.specs.private.Numbers.{HasName, GetsName, IsTopAt}
-use Rattle.ml_product.specs.private.Placed.{Placed, nowhere, site_of}
+use Rattle.ml_product.specs.Placed.{Placed, nowhere}
+use Rattle.ml_product.specs.private.Links.{site_of}
 use Rattle.ml_product.specs.private.Pools.{positions_of, KeepsPool, IsLonger}
 use Rattle.ml_product.specs.private.Shared.{seen}
 use Rattle.ml_product.specs.private.Exploring.{at_place, IsBelow, HasNoneBelow, AddsUnchosen, IsWaiting, AreWaiting, IsExplored, IsRoot, AreRooted}

@@ -4,6 +4,8 @@ pub mod Position
 pub mod DecisionGame
 -- the game as a list of positions
 pub mod Arena
+-- positions as an arena holds them
+pub mod Placed
 -- positions as an arena lends them
 pub mod View
 -- how many positions it has at most

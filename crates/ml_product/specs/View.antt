@@ -3,7 +3,7 @@
 --   viewed x == the position that the view x shows
 use Rattle.ml_product.specs.Position.{Position}
 use Rattle.ml_product.specs.declared.view.View.{View}
-use Rattle.ml_product.specs.private.Placed.{choice_at}
+use Rattle.ml_product.specs.Placed.{choice_at}
 
 -- the position that the view shows
 abbrev pub viewed : View → Position

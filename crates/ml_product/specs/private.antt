@@ -1,7 +1,7 @@
 -- how positions are held
 pub mod Shared
 -- positions as they are stored
-pub mod Placed
+pub mod Links
 -- tables of keys, with a number for each
 pub mod Numbers
 -- the positions so far

@@ -1,7 +1,8 @@
 // Positions in the order of their numbers, with their choices as links.
 ghost use Rattle.std.specs.Prelude.{◌≡◌, ◌<◌, [], ◌∷◌, ◌++◌, None, IfOk, OnOk, get_or, length, map};
 ghost use Rattle.ml_sequent.specs.Choice.{side_of, with_side};
-ghost use Rattle.ml_product.specs.private.Placed.{nowhere, choice_at, placed, HasParent, IsLinked};
+ghost use Rattle.ml_product.specs.Placed.{nowhere, choice_at};
+ghost use Rattle.ml_product.specs.private.Links.{placed, HasParent, IsLinked};
 
 use crate::stored::{Link, Stored};
 use ml_base::NoMemory;
@@ -17,7 +18,8 @@ pub struct Store {
 
 impl Model for Store {
     ghost use Rattle.std.specs.Prelude.{List};
-    ghost use Rattle.ml_product.specs.private.Placed.{Placed, placed_all, AreLinked};
+    ghost use Rattle.ml_product.specs.Placed.{Placed};
+    ghost use Rattle.ml_product.specs.private.Links.{placed_all, AreLinked};
 
     ghost Value = { List Placed };
 

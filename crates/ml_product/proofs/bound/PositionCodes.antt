@@ -29,7 +29,7 @@ use Rattle.ml_sequent.specs.Step.{LeadsOut, IsTarget}
 use Rattle.ml_product.specs.Position.{Position, start_of, automaton_states, neutral}
 use Rattle.ml_product.specs.DecisionGame.{IsReached, at_start, by_move, AreDifferent}
 use Rattle.ml_product.specs.Bound.{bound, PositionBoundLaw}
-use Rattle.ml_product.proofs.NeutralPriority.{MovesTo, chooses, steps, moves_to, priority_at_most, state_low, names_fit}
+use Rattle.ml_product.proofs.NeutralPriority.{MovesTo, chooses, steps, moves_to, priority_at_most, AreStatesLow, state_low, names_fit}
 use Rattle.ml_product.proofs.Reached.{Facts, reached_facts}
 use Rattle.ml_product.proofs.ReachedChoices.{ChoiceFacts, reached_choice}
 use Rattle.ml_product.proofs.bound.Packs.{pair_low, pair_same, pack, pack_low, pack_same}
@@ -71,7 +71,7 @@ module _ (g : Graph) (ok : IsGraph g) where
     pub low : (n : ℕ) → IsMember n p.sequent → n < size g
     pub choice : ChoiceFacts g p.choice
     pub history : IsHistory p.history
-    pub states : (a : Item ℕ) → IsMember a p.history → a.state < automaton_states g
+    pub states : AreStatesLow g p
     pub names : (a : Item ℕ) → IsMember a p.history → (z : ℕ) → IsMember z a.stack → z < automaton_states g
     pub priority : p.priority ≤ neutral g
 

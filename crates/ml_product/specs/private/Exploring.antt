@@ -54,7 +54,8 @@ use Rattle.ml_product.specs.declared.stored.Site.{Site}
 use Rattle.ml_product.specs.declared.turns.Turn.{Turn}
 use Rattle.ml_product.specs.declared.turns.Turn.TheVariants as turn
 use Rattle.ml_product.specs.private.Numbers.{IsTopAt}
-use Rattle.ml_product.specs.private.Placed.{Placed, site_of}
+use Rattle.ml_product.specs.Placed.{Placed}
+use Rattle.ml_product.specs.private.Links.{site_of}
 use Rattle.ml_product.specs.private.Pools.{positions_of, position_of, KeepsPool, IsLonger}
 use Rattle.ml_lists.specs.Added.{IsAdded}
 use Rattle.ml_product.specs.private.Recorded.{owner_of, moves_of, IsLike, IsRecorded}

@@ -6,7 +6,7 @@
 --   Leads key xs ks ns == the table has the keys of the positions without a choice, each with the number of one
 use Rattle.std.specs.Prelude.{ℕ, ◌≡◌, ◌⊎◌, List, [], ◌∷◌, ◌++◌, length, get_or, slice_get, Some}
 use Rattle.ml_lists.specs.Member.{IsMember}
-use Rattle.ml_product.specs.private.Placed.{Placed}
+use Rattle.ml_product.specs.Placed.{Placed}
 
 -- it had the key, and is as before
 pub record HasName {K : Type 0} (ks : List K) (ns : List ℕ) (k : K) (ls : List K) (ms : List ℕ) (n : ℕ) : Type 0 where

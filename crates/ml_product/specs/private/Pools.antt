@@ -20,7 +20,8 @@ use Rattle.ml_product.specs.declared.pool.Pool.{Pool}
 use Rattle.ml_product.specs.declared.pool.Fresh.{Fresh}
 use Rattle.ml_product.specs.declared.stored.Top.{Top}
 use Rattle.ml_product.specs.private.Numbers.{Leads}
-use Rattle.ml_product.specs.private.Placed.{Placed, top_of}
+use Rattle.ml_product.specs.Placed.{Placed}
+use Rattle.ml_product.specs.private.Links.{top_of}
 use Rattle.ml_product.specs.private.Shared.{shown, AreWithin}
 
 -- the positions of the pool

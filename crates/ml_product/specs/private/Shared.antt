@@ -12,7 +12,7 @@ use Rattle.std.specs.Prelude.{ℕ, ◌≡◌, ◌+◌, ◌<◌, ◌^◌, List, [
 use Rattle.ml_parity.specs.declared.players.Player.{Player}
 use Rattle.ml_trace.specs.Stack.{Item}
 use Rattle.ml_product.specs.Position.{Position}
-use Rattle.ml_product.specs.private.Placed.{Placed}
+use Rattle.ml_product.specs.Placed.{Placed}
 
 -- the position for which x stands
 abbrev pub seen : List (List ℕ) → List (List (Item ℕ)) → Placed → Position

@@ -8,7 +8,8 @@ use Rattle.ml_product.specs.declared.pool.Pool.{Pool}
 use Rattle.ml_product.specs.declared.recorded.Recorded.{Recorded}
 use Rattle.ml_product.specs.declared.stored.Site.{Site}
 use Rattle.ml_product.specs.private.Numbers.{HasName, GetsName, IsNamed}
-use Rattle.ml_product.specs.private.Placed.{nowhere, site_of}
+use Rattle.ml_product.specs.Placed.{nowhere}
+use Rattle.ml_product.specs.private.Links.{site_of}
 use Rattle.ml_product.specs.private.Pools.{positions_of}
 use Rattle.ml_product.specs.private.Exploring.{at_place, HasNoneBelow, IsWaiting, Repeats, IsUnderway, IsExplored, IsRoot, AreRooted}
 use Rattle.ml_product.proofs.Roots.{fresh_root, root_twin, rooted_kept, rooted_explored}

@@ -3,7 +3,7 @@ use Rattle.std.proofs.Common.{get_or}
 use Rattle.ml_sequent.specs.Choice.{with_side}
 use Rattle.ml_product.specs.Position.{Position}
 use Rattle.ml_product.specs.private.Pools.{beside}
-use Rattle.ml_product.specs.private.Placed.{nowhere}
+use Rattle.ml_product.specs.Placed.{nowhere}
 use Rattle.ml_product.specs.private.Shared.{seen}
 use Rattle.ml_product.proofs.Interning.{shown_at}
 use Rattle.ml_product.proofs.Numbering.{beside_ok, for_err}

@@ -5,7 +5,7 @@ use Rattle.ml_parity.specs.Game.{IsGame}
 use Rattle.ml_parity.specs.Refusal.{lists_of}
 use Rattle.std.proofs.lemmas.List.{length-map}
 use Rattle.ml_product.specs.declared.recorded.Recorded.{Recorded}
-use Rattle.ml_product.specs.private.Placed.{Placed}
+use Rattle.ml_product.specs.Placed.{Placed}
 use Rattle.ml_product.specs.private.Pools.{positions_of}
 use Rattle.ml_product.specs.private.Recorded.{owner_of, moves_of}
 use Rattle.ml_product.specs.private.Shared.{seen}

@@ -2,7 +2,7 @@
 use Rattle.std.proofs.Common.{List, length, sym, subst}
 use Rattle.ml_lists.specs.Added.{IsAdded}
 use Rattle.ml_sequent.specs.Choice.{with_side}
-use Rattle.ml_product.specs.private.Placed.{Placed}
+use Rattle.ml_product.specs.Placed.{Placed}
 use Rattle.ml_product.specs.private.Pools.{IsPool, beside}
 use Rattle.ml_product.specs.private.Shared.{shown}
 use Rattle.ml_product.proofs.Interning.{chosen_pool, chosen_added}

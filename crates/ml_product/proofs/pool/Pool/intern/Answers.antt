@@ -7,7 +7,8 @@ use Rattle.ml_trace.specs.Stack.{Item}
 use Rattle.ml_product.specs.declared.pool.Fresh.{Fresh}
 use Rattle.ml_product.specs.declared.pool.Pool.{Pool}
 use Rattle.ml_product.specs.private.Numbers.{Leads}
-use Rattle.ml_product.specs.private.Placed.{Placed, top_of}
+use Rattle.ml_product.specs.Placed.{Placed}
+use Rattle.ml_product.specs.private.Links.{top_of}
 use Rattle.ml_product.specs.private.Pools.{IsPool, KeepsPool, IsInterned, positions_of, position_of}
 use Rattle.ml_product.specs.private.Shared.{shown}
 use Rattle.ml_product.proofs.Interning.{still_pool, still_added, added_stored}

@@ -2,7 +2,8 @@
 use Rattle.std.proofs.Common.{ℕ, List, [], length, refl, sym, subst, arith}
 use Rattle.ml_lists.specs.Added.{IsAdded}
 use Rattle.ml_product.specs.private.Numbers.{IsNamed, Leads}
-use Rattle.ml_product.specs.private.Placed.{Placed, top_of}
+use Rattle.ml_product.specs.Placed.{Placed}
+use Rattle.ml_product.specs.private.Links.{top_of}
 use Rattle.ml_product.proofs.Naming.{leads_named, met_added, new_added}
 use Rattle.ml_product.proofs.pool.Pool.intern_placed.Goals as goal
 

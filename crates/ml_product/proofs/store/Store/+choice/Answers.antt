@@ -5,7 +5,8 @@ use Rattle.ml_sequent.specs.declared.choice.Side.{Side}
 use Rattle.ml_sequent.specs.Choice.{side_of, with_side}
 use Rattle.ml_product.specs.declared.stored.Stored.{Stored}
 use Rattle.ml_product.specs.declared.stored.Link.TheVariants as link
-use Rattle.ml_product.specs.private.Placed.{Placed, choice_at, choice_under, HasParent, IsLinked}
+use Rattle.ml_product.specs.Placed.{Placed, choice_at}
+use Rattle.ml_product.specs.private.Links.{choice_under, HasParent, IsLinked}
 use Rattle.ml_product.proofs.store.Store.+choice.Goals as goal
 
 parent_of : (ps : List Placed) (v : ℕ) (x : Stored) (parent node : ℕ) (side : Side) → IsLinked ps v x

@@ -1,7 +1,8 @@
 -- What stands at a place is what is stored there.
 use Rattle.std.proofs.Common.{ℕ, ◌≡◌, ◌<◌, List, length, ap, subst, arith}
 use Rattle.ml_product.specs.declared.stored.Stored.{Stored}
-use Rattle.ml_product.specs.private.Placed.{Placed, placed_all, IsLinked}
+use Rattle.ml_product.specs.Placed.{Placed}
+use Rattle.ml_product.specs.private.Links.{placed_all, IsLinked}
 use Rattle.ml_product.proofs.Placing.{placed_length, read_linked}
 use Rattle.ml_product.proofs.store.Store.at.Goals as goal
 

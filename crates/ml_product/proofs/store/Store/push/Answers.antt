@@ -1,6 +1,7 @@
 -- One position more, with a parent.
 use Rattle.std.proofs.Common.{◌++◌, ◌∷◌, [], List, length, sym, ap, ◌∙◌, subst}
-use Rattle.ml_product.specs.private.Placed.{Placed, placed, placed_all, HasParent, AreLinked}
+use Rattle.ml_product.specs.Placed.{Placed}
+use Rattle.ml_product.specs.private.Links.{placed, placed_all, HasParent, AreLinked}
 use Rattle.ml_product.proofs.Placing.{placed_push, linked_push}
 use Rattle.ml_product.proofs.store.Store.push.Goals as goal
 

@@ -1,6 +1,6 @@
 use Rattle.std.proofs.Common.{map, ap, ◌∙◌}
 use Rattle.ml_product.specs.declared.stored.Stored.{Stored}
-use Rattle.ml_product.specs.private.Placed.{Placed}
+use Rattle.ml_product.specs.Placed.{Placed}
 use Rattle.ml_product.proofs.Placing.{placed_priorities}
 use Rattle.ml_product.proofs.store.Store.stored.Goals as goal
 

@@ -2,9 +2,6 @@
 --
 -- A position with a side chosen is stored as the position without that side, its parent, with a node and a side.
 --
---   Placed               == a position, with its sequent and its history by their numbers
---   nowhere              == a placed position, which stands where nobody asks
---   choice_at ps v       == the choice of the position at place v of ps
 --   choice_under ps l    == the choice to which the link l leads, where ps are the positions before
 --   placed ps x          == the position for which x stands, behind the positions ps
 --   placed_behind ps xs  == ps, and behind them those for which xs stand
@@ -20,20 +17,7 @@ use Rattle.ml_product.specs.declared.stored.Link.TheVariants as link
 use Rattle.ml_product.specs.declared.stored.Site.{Site}
 use Rattle.ml_product.specs.declared.stored.Stored.{Stored}
 use Rattle.ml_product.specs.declared.stored.Top.{Top}
-
-pub record Placed : Type 0 where
-  pub sequent : ℕ
-  pub history : ℕ
-  pub priority : ℕ
-  pub choice : List (ℕ × Side)
-
--- where nobody asks
-abbrev pub nowhere : Placed
-nowhere = record { sequent = 0; history = 0; priority = 0; choice = [] }
-
--- the choice of the position at a place
-abbrev pub choice_at : List Placed → ℕ → List (ℕ × Side)
-choice_at ps v = (get_or ps v nowhere).choice
+use Rattle.ml_product.specs.Placed.{Placed, nowhere, choice_at}
 
 -- the choice to which a link leads
 abbrev pub choice_under : List Placed → Link → List (ℕ × Side)
