@@ -1,13 +1,11 @@
--- Keys of the tables of a pool are equal if they are one.
+-- Keys of tables are equal if they are one.
 --
---   site_eq, top_eq             == they are one, field by field
---   site_eq_equiv, top_eq_equiv == this is an equivalence
---   site_eq-same, top_eq-same   == and it holds of no two
+--   site_eq, top_eq           == they are one, field by field
+--   site_eq-same, top_eq-same == this holds of no two
 use Rattle.std.proofs.Common.{◌≡◌, Bool, true, nat_eq}
 use Rattle.std.specs.Ordering.{on, eq_of_both}
-use Rattle.std.specs.Cmp.{IsEquivalence, first_so, second_so}
+use Rattle.std.specs.Cmp.{first_so, second_so}
 use Rattle.std.proofs.lemmas.Bool.{eqb-true}
-use Rattle.std.proofs.lemmas.Cmp.{on_equiv, and_equiv, nat_eq_equiv}
 use Rattle.ml_product.specs.declared.stored.Site.{Site}
 use Rattle.ml_product.specs.declared.stored.Top.{Top}
 
@@ -15,10 +13,6 @@ use Rattle.ml_product.specs.declared.stored.Top.{Top}
 
 abbrev pub site_eq : Site → Site → Bool
 site_eq = eq_of_both (on (λ (x : Site). x.sequent) nat_eq) (on (λ (x : Site). x.history) nat_eq)
-
-pub site_eq_equiv : IsEquivalence site_eq
-site_eq_equiv =
-    and_equiv (on_equiv (λ (x : Site). x.sequent) nat_eq_equiv) (on_equiv (λ (x : Site). x.history) nat_eq_equiv)
 
 pub site_eq-same : (x y : Site) → site_eq x y ≡ true → x ≡ y
 site_eq-same x y e =
@@ -33,11 +27,6 @@ behind_eq = eq_of_both (on (λ (x : Top). x.history) nat_eq) (on (λ (x : Top). 
 
 abbrev pub top_eq : Top → Top → Bool
 top_eq = eq_of_both (on (λ (x : Top). x.sequent) nat_eq) behind_eq
-
-pub top_eq_equiv : IsEquivalence top_eq
-top_eq_equiv =
-    and_equiv (on_equiv (λ (x : Top). x.sequent) nat_eq_equiv)
-    (and_equiv (on_equiv (λ (x : Top). x.history) nat_eq_equiv) (on_equiv (λ (x : Top). x.priority) nat_eq_equiv))
 
 pub top_eq-same : (x y : Top) → top_eq x y ≡ true → x ≡ y
 top_eq-same x y e =

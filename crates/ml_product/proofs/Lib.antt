@@ -16,7 +16,7 @@ pub mod bound
 pub mod SomeSolution
 -- a position gets a number
 pub mod Interning
--- keys of the tables of a pool are equal if they are one
+-- keys of tables are equal if they are one
 pub mod KeyEquality
 -- positions as they are stored, one more
 pub mod Placing

@@ -11,7 +11,7 @@ ghost use Rattle.ml_product.specs.private.Numbers.{Leads};
 ghost use Rattle.ml_product.specs.private.Shared.{AreWithin};
 ghost use Rattle.ml_product.specs.private.Pools.{positions_of, position_of, beside, KeepsPool, IsLonger, IsInterned, IsEmptyPool};
 
-use crate::numbers::number_of_top;
+use crate::numbers::{add, number_of};
 use crate::store::Store;
 use crate::stored::{Site, Top};
 use crate::view::View;
@@ -38,22 +38,6 @@ pub(crate) struct Fresh {
     pub(crate) sequent: Sequent,
     pub(crate) history: History,
     pub(crate) priority: u32,
-}
-
-// the number of a sequent
-fn add_sequent(table: &mut IndexSet<Sequent>, sequent: Sequent) -> Result<usize, NoMemory>
-    ensures { IfOk result (IsAdded table.old.keys sequent table.new.keys) }
-{
-    let (number, _) = table.insert_full(sequent)?;
-    Ok(number)
-}
-
-// the number of a history
-fn add_history(table: &mut IndexSet<History>, history: History) -> Result<usize, NoMemory>
-    ensures { IfOk result (IsAdded table.old.keys history table.new.keys) }
-{
-    let (number, _) = table.insert_full(history)?;
-    Ok(number)
 }
 
 impl Pool {
@@ -118,8 +102,8 @@ impl Pool {
         requires room { length self.old.positions < 2 ^ 32 }
         ensures { IfOk result (IsInterned self.old (position_of fresh) self.new) }
     {
-        let sequent = add_sequent(&mut self.sequents, fresh.sequent)? as u32;
-        let history = add_history(&mut self.histories, fresh.history)? as u32;
+        let sequent = add(&mut self.sequents, fresh.sequent)? as u32;
+        let history = add(&mut self.histories, fresh.history)? as u32;
         self.intern_placed(sequent, history, fresh.priority)
     }
 
@@ -144,12 +128,7 @@ impl Pool {
             history,
             priority,
         };
-        let number = number_of_top(
-            &mut self.tops,
-            &mut self.top_numbers,
-            top,
-            next as u32,
-        )? as usize;
+        let number = number_of(&mut self.tops, &mut self.top_numbers, top, next as u32)? as usize;
         if number < next {
             return Ok(number);
         }

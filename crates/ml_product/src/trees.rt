@@ -2,7 +2,7 @@
 ghost use Rattle.std.specs.Prelude.{◌≡◌, [], IfOk, length};
 ghost use Rattle.ml_product.specs.private.Numbers.{IsNamed};
 
-use crate::numbers::number_of_site;
+use crate::numbers::number_of;
 use crate::stored::Site;
 use indexmap::IndexSet;
 use ml_base::NoMemory;
@@ -33,6 +33,6 @@ impl Trees {
         ensures { IfOk result
             (IsNamed self.old.sites.keys self.old.tops.items site v self.new.sites.keys self.new.tops.items) }
     {
-        number_of_site(&mut self.sites, &mut self.tops, site, v)
+        number_of(&mut self.sites, &mut self.tops, site, v)
     }
 }

@@ -1,8 +1,10 @@
 -- What the additions say is what the pool keeps.
 use Rattle.std.proofs.Common.{ℕ, ◌≡◌, List, [], Result, Ok, Err, IfOk, OnOk, ap, sym, subst}
 use Rattle.std.proofs.lemmas.Result.{on_ok_weaker}
+use Rattle.std.specs.Cmp.Lexicographic.{bytes_decides}
 use Rattle.ml_base.specs.declared.no_memory.NoMemory.{NoMemory}
 use Rattle.ml_lists.specs.Added.{IsAdded}
+use Rattle.ml_history.specs.HistoryOrder.{history_eq-same}
 use Rattle.ml_trace.specs.Stack.{Item}
 use Rattle.ml_product.specs.declared.pool.Fresh.{Fresh}
 use Rattle.ml_product.specs.declared.pool.Pool.{Pool}
@@ -45,8 +47,14 @@ module _ (a d : Pool) (x : Fresh) (ts : List (List ℕ)) (gs : List (List (Item 
 pub returns : goal.returns
 returns c =
     let h = c.intern_placed.ensures in
-    of_answer c.args.self.now c.intern_placed.new.self c.args.fresh c.add_sequent.new.table.keys
-    c.add_history.new.table.keys c.in_ok-sequent.field-0 c.in_ok-history.field-0 c.requires.pool c.in_ok-sequent.ensures
+    of_answer c.args.self.now c.intern_placed.new.self c.args.fresh c.add.new.table.keys
+    c.add-2.new.table.keys c.in_ok-sequent.field-0 c.in_ok-history.field-0 c.requires.pool c.in_ok-sequent.ensures
     c.in_ok-history.ensures c.intern_placed.result
     (on_ok_weaker c.intern_placed.result (ap (λ t. t.keys)) h.sequents)
     (on_ok_weaker c.intern_placed.result (ap (λ t. t.keys)) h.histories) h.added h.tops
+
+pub add-requires : goal.add-requires
+add-requires c = λ x y. (bytes_decides x y).0
+
+pub add-requires-2 : goal.add-requires-2
+add-requires-2 c = history_eq-same
