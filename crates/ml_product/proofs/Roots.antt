@@ -19,14 +19,13 @@ use Rattle.ml_product.specs.Position.{Position, start_of}
 use Rattle.ml_product.specs.declared.pool.Pool.{Pool}
 use Rattle.ml_product.specs.declared.recorded.Recorded.{Recorded}
 use Rattle.ml_product.specs.declared.stored.Site.{Site}
-use Rattle.ml_product.specs.private.Numbers.{HasName, GetsName, IsTopAt}
 use Rattle.ml_product.specs.Placed.{Placed, nowhere}
 use Rattle.ml_product.specs.private.Links.{site_of}
 use Rattle.ml_product.specs.private.Pools.{positions_of, KeepsPool, IsLonger}
 use Rattle.ml_product.specs.private.Shared.{seen}
 use Rattle.ml_product.specs.private.Exploring.{at_place, IsBelow, HasNoneBelow, AddsUnchosen, IsWaiting, AreWaiting, IsExplored, IsRoot, AreRooted}
 use Rattle.ml_product.proofs.Below.{longer_back}
-use Rattle.ml_product.proofs.Interning.{StoredAt, stored_at, shown_there, same_site, site_shown}
+use Rattle.ml_product.proofs.Interning.{stored_at, shown_there, same_site, site_shown}
 use Rattle.ml_product.proofs.OnePlace.{PlaceOf, place_of, same_place}
 use Rattle.ml_product.proofs.Placing.{end_get}
 use Rattle.ml_product.proofs.Vertices.{longer_get, longer_place}

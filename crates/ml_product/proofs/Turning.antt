@@ -38,7 +38,7 @@ use Rattle.ml_product.specs.declared.pool.Pool.{Pool}
 use Rattle.ml_product.specs.declared.recorded.Recorded.TheVariants as recorded
 use Rattle.ml_product.specs.private.Pools.{positions_of, position_of, beside, IsLonger}
 use Rattle.ml_product.specs.private.Recorded.{AreVerticesAt, IsRecorded}
-use Rattle.ml_product.specs.private.Exploring.{IsNumbered, HasNoRoom, at_place, target_of, Becomes, IsAt, HasNoneBelow, AddsUnchosen, IsLed, IsTurned, IsEnded, IsOpen, IsOpened}
+use Rattle.ml_product.specs.private.Exploring.{IsNumbered, HasNoRoom, at_place, target_of, Becomes, IsAt, HasNoneBelow, AddsUnchosen, IsLed, IsTurned, IsEnded, IsOpened}
 use Rattle.ml_product.proofs.ArenaGame.{same_entry}
 use Rattle.ml_product.proofs.Below.{new_beside, other_beside}
 use Rattle.ml_product.proofs.Explored.{passed, joined}

@@ -33,7 +33,7 @@
 --   IsStarted g b      == the pool has the start alone
 --   arena_of b rs      == the arena of the pool with what was recorded
 --   AreTurned          == so it was for all positions with numbers below that of what was recorded
-use Rattle.std.specs.Prelude.{ℕ, ◌≡◌, ◌<◌, ◌≤◌, ◌⊎◌, List, [], ◌∷◌, ◌++◌, length, map, slice_get, get_or, Some}
+use Rattle.std.specs.Prelude.{ℕ, ◌≡◌, ◌<◌, ◌≤◌, ◌⊎◌, List, [], ◌∷◌, length, map, slice_get, get_or, Some}
 use Rattle.std.specs.Global.{Vec}
 use Rattle.ml_lists.specs.Member.{IsMember}
 use Rattle.ml_graph.specs.Graph.{Graph, odd_priorities}
