@@ -54,3 +54,5 @@ pub mod SomeEntries
 pub mod SomeRefutation
 -- a branch at a position, and with a side more
 pub mod BranchPositions
+-- entries and items that are put behind others, with the lists that they name
+pub mod NamedLists

@@ -33,6 +33,7 @@ use Rattle.ml_sequent.specs.declared.clashes.ClashCause.TheVariants as cause
 use Rattle.ml_refute.specs.Extracted.{IsDecisionAt, IsEntryAt, IsGreatestLive, IsOutlineOf, arcs_of, arcs_from, go_graph, IsRefutationOf, leads_to, traces_of}
 use Rattle.ml_refute.specs.private.Found.{OddWins, AreNumbered, AreLooked, position_at}
 use Rattle.ml_refute.specs.private.PutTogether.{IsMostBelow, HasMarksOf, arcs_at, go_graph_of, IsNamesOf, IsPut, ArePut}
+use Rattle.ml_refute.specs.private.Tables.{IsPutBehind}
 use Rattle.ml_refute.proofs.Accepted.{extracted_accepted}
 use Rattle.ml_refute.proofs.Entries.{Extraction}
 use Rattle.ml_product.proofs.Naming.{stands_last}
@@ -155,24 +156,24 @@ put_more g a vs rows ds es d e put is = record {
 
 -- so a program puts the next one
 pub put_next : (g : Graph) (a : Arena) (vs odds row : List ℕ) (rows : List (List ℕ)) (ds : List Decision)
-    (es : List Entry) (d : Decision) (e : Entry) (p : Position) (v i : ℕ)
+    (es es' : List Entry) (d : Decision) (p : Position) (v i : ℕ)
     → ArePut g a vs rows ds es
     → i ≡ length es
     → slice_get vs i ≡ Some v
     → slice_get a.positions v ≡ Some p
     → odds ≡ odd_priorities g
     → row ≡ get_or rows i []
-    → IsPut odds p row d e
-    → ArePut g a vs rows (ds ++ d ∷ []) (es ++ e ∷ [])
-put_next g a vs odds row rows ds es d e p v i put i_is vertex position odds_are row_is is =
+    → IsPutBehind odds p row d es es'
+    → ArePut g a vs rows (ds ++ d ∷ []) es'
+put_next g a vs odds row rows ds es es' d p v i put i_is vertex position odds_are row_is behind =
     let p_is : p ≡ position_at g a (get_or vs (length es) 0) =
     sym (get_or_from_slice_get a.positions v p (start_of g) position)
     ∙ ap (position_at g a) (sym (get_or_from_slice_get vs i v 0 vertex) ∙ ap (λ k. get_or vs k 0) i_is) in
     let row_here : row ≡ get_or rows (length es) [] = row_is ∙ ap (λ k. get_or rows k []) i_is in
-    put_more g a vs rows ds es d e put
-    (subst (λ x. IsPut x (position_at g a (get_or vs (length es) 0)) (get_or rows (length es) []) d e) odds_are
-    (subst (λ x. IsPut odds x (get_or rows (length es) []) d e) p_is
-    (subst (λ x. IsPut odds p x d e) row_here is)))
+    subst (ArePut g a vs rows (ds ++ d ∷ [])) (sym behind.grown) (put_more g a vs rows ds es d behind.entry put
+    (subst (λ x. IsPut x (position_at g a (get_or vs (length es) 0)) (get_or rows (length es) []) d behind.entry) odds_are
+    (subst (λ x. IsPut odds x (get_or rows (length es) []) d behind.entry) p_is
+    (subst (λ x. IsPut odds p x d behind.entry) row_here behind.is_put))))
 
 -- a row is low where no height is above so much
 pub row_low : (m : ℕ) (rows : List (List ℕ)) (v : ℕ) (row : List ℕ) → AtMost m rows → row ≡ get_or rows v []

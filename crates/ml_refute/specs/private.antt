@@ -4,3 +4,5 @@
 pub mod Found
 -- the refutation as it is put together
 pub mod PutTogether
+-- entries with the lists that they name
+pub mod Tables

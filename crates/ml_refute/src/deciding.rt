@@ -1,5 +1,5 @@
 // Decisions at positions of a decision game that Odd wins, and the entries to which they lead.
-ghost use Rattle.std.specs.Prelude.{◌≡◌, ◌<◌, [], length, map, slice_get, IfOk, OnOk};
+ghost use Rattle.std.specs.Prelude.{◌≡◌, ◌<◌, ◌+◌, [], ◌∷◌, length, map, slice_get, IfOk, OnOk};
 ghost use Rattle.ml_sequent.specs.Choice.{with_side};
 ghost use Rattle.ml_sequent.specs.Spread.{IsSpreadOf, IsOpenOr};
 ghost use Rattle.ml_refutation.specs.Views.{decision_of};
@@ -209,20 +209,73 @@ impl Decided {
             (map decision_of found.decisions.items)) }
         ensures all { IfOk result (λ found. length found.decisions.items ≡ length found.vertices.keys) }
     {
-        let mut branch = Branch::new(alloc, game.graph)?;
+        let mut found = Decided::start(alloc)?;
+        found.look(alloc, game)?;
+        Ok(found)
+    }
+
+    /// The entry of the start, without its decision.
+    fn start(alloc: Global) -> Result<Decided, NoMemory>
+        ensures vertices { IfOk result (λ found. found.vertices.keys ≡ 0 ∷ []) }
+        ensures decisions { IfOk result (λ found. found.decisions.items ≡ []) }
+    {
         let mut vertices = IndexSet::new(alloc);
         vertices.insert(0)?;
-        let mut decisions = Vec::new(alloc);
-        let _size = game.arena.size();
-        while decisions.len() < vertices.len() {
-            let v = vertex_at(&vertices, decisions.len());
-            let decision = decide_from(alloc, game, &mut branch, &mut vertices, v)?;
-            decisions.push(decision)?;
-        }
         Ok(Decided {
             vertices,
-            decisions,
+            decisions: Vec::new(alloc),
         })
+    }
+
+    /// Decides at each entry, also at those that are found meanwhile.
+    fn look(&mut self, alloc: Global, game: &LostGame) -> Result<(), NoMemory>
+        requires odd { OddWins game.now.graph.now game.now.arena.now game.now.solution.now }
+        requires looked { AreLooked
+            game.now.graph.now
+            game.now.arena.now
+            game.now.solution.now
+            self.old.vertices.keys
+            (map decision_of self.old.decisions.items) }
+        ensures looked { OnOk result (AreLooked
+            game.now.graph.now
+            game.now.arena.now
+            game.now.solution.now
+            self.new.vertices.keys
+            (map decision_of self.new.decisions.items)) }
+        ensures all { OnOk result (length self.new.decisions.items ≡ length self.new.vertices.keys) }
+    {
+        let mut branch = Branch::new(alloc, game.graph)?;
+        let _size = game.arena.size();
+        while self.decisions.len() < self.vertices.len() {
+            self.look_at_next(alloc, game, &mut branch)?;
+        }
+        Ok(())
+    }
+
+    /// Decides at the first entry that has no decision.
+    fn look_at_next(&mut self, alloc: Global, game: &LostGame, branch: &mut Branch) -> Result<(), NoMemory>
+        requires odd { OddWins game.now.graph.now game.now.arena.now game.now.solution.now }
+        requires graph { branch.old.graph ≡ game.now.graph.now }
+        requires some { length self.old.decisions.items < length self.old.vertices.keys }
+        requires looked { AreLooked
+            game.now.graph.now
+            game.now.arena.now
+            game.now.solution.now
+            self.old.vertices.keys
+            (map decision_of self.old.decisions.items) }
+        ensures graph { OnOk result (branch.new.graph ≡ branch.old.graph) }
+        ensures looked { OnOk result (AreLooked
+            game.now.graph.now
+            game.now.arena.now
+            game.now.solution.now
+            self.new.vertices.keys
+            (map decision_of self.new.decisions.items)) }
+        ensures one { OnOk result (length self.new.decisions.items ≡ length self.old.decisions.items + 1) }
+    {
+        let v = vertex_at(&self.vertices, self.decisions.len());
+        let decision = decide_from(alloc, game, branch, &mut self.vertices, v)?;
+        self.decisions.push(decision)?;
+        Ok(())
     }
 }
 

@@ -2,14 +2,15 @@
 ghost use Rattle.std.specs.Prelude.{◌≡◌, ◌+◌, ◌*◌, ◌^◌, ◌<◌, ◌++◌, length, map, All, IfOk, OnOk};
 ghost use Rattle.ml_parity.specs.Heights.{AreLongest, AtMost, EvenCycleIn, IsOneSided};
 ghost use Rattle.ml_refutation.specs.Refutation.{IsMarkOf};
-ghost use Rattle.ml_refutation.specs.Views.{decision_of, mark_of};
+ghost use Rattle.ml_refutation.specs.Views.{decision_of};
 ghost use Rattle.ml_trace.specs.Marks.{priority};
 ghost use Rattle.ml_refute.specs.Extracted.{arcs_of};
 ghost use Rattle.ml_refute.specs.private.PutTogether.{HasMarksOf, arcs_at, go_graph_of};
 
 use ml_base::NoMemory;
 use ml_parity::{Arc, Heights, OneSided, heights};
-use ml_refutation::{Decision, Step};
+use ml_refutation::Decision;
+use ml_trace::Mark;
 use std::alloc::Global;
 
 /// Heights of entries with these decisions.
@@ -84,14 +85,14 @@ fn push_arcs(
 }
 
 /// The priority of a mark: neutral has twice the number of names.
-fn priority_of(names: u32, mark: Step) -> u32
+fn priority_of(names: u32, mark: Mark) -> u32
     requires few { 2 * names + 2 < 2 ^ 32 }
-    requires mark { IsMarkOf names (mark_of mark) }
-    ensures { result ≡ priority (2 * names) (mark_of mark) }
+    requires mark { IsMarkOf names mark }
+    ensures { result ≡ priority (2 * names) mark }
 {
     match mark {
-        Step::Red(name) => 2 * name,
-        Step::Green(name) => 2 * name + 1,
-        Step::Neutral => 2 * names,
+        Mark::Red(name) => 2 * name,
+        Mark::Green(name) => 2 * name + 1,
+        Mark::Neutral => 2 * names,
     }
 }

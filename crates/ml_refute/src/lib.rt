@@ -11,5 +11,6 @@ mod go_heights;
 pub mod laws;
 mod lost_game;
 mod making;
+mod tables;
 
 pub use making::refutation_of;

@@ -4,8 +4,6 @@ ghost use Rattle.std.specs.List.{position_or_len};
 ghost use Rattle.ml_parity.specs.Solution.{choice_at};
 ghost use Rattle.ml_product.specs.DecisionGame.{IsResolved};
 ghost use Rattle.ml_product.specs.Position.{neutral, start_of};
-ghost use Rattle.ml_refutation.specs.Views.{cause_of, mark_of};
-ghost use Rattle.ml_trace.specs.declared.marks.Mark.{Mark};
 ghost use Rattle.ml_trace.specs.Marks.{priority, FitsBelow};
 ghost use Rattle.ml_refute.specs.private.Found.{OddWins, IsWon, IsSpreadAt, LeavesTo, IsTurnAt, AreSides};
 
@@ -13,14 +11,14 @@ use ml_base::NoMemory;
 use ml_graph::ModalGraph;
 use ml_parity::Solution;
 use ml_product::Arena;
-use ml_refutation::{Cause, Step};
 use ml_sequent::{Branch, ClashCause};
+use ml_trace::Mark;
 
 /// What is done at a position.
 #[derive(Clone, Copy, Debug)]
 pub(crate) enum Turn {
     /// The spread clashes.
-    Clash(Cause),
+    Clash(ClashCause),
     /// This is the least or-node at which a side is still to be chosen.
     Open(u32),
     /// Odd's choice leads along this diamond, the least one that leads there.
@@ -51,7 +49,7 @@ impl LostGame<'_> {
         ensures turn { IfOk result (IsTurnAt self.now.graph.now self.now.arena.now self.now.solution.now v) }
     {
         match branch.clash()? {
-            Some(cause) => Ok(Turn::Clash(cause_of(cause))),
+            Some(cause) => Ok(Turn::Clash(cause)),
             None => match branch.open_or() {
                 Some(node) => Ok(Turn::Open(node)),
                 None => Ok(Turn::Leave(self.diamond_of(branch, v)?)),
@@ -119,13 +117,13 @@ impl LostGame<'_> {
     }
 
     /// The mark whose priority a position has.
-    pub(crate) fn mark_of(&self, v: u32) -> Step
+    pub(crate) fn mark_of(&self, v: u32) -> Mark
         requires odd { OddWins self.now.graph.now self.now.arena.now self.now.solution.now }
         requires low { v < length self.now.arena.now.positions }
         ensures { (m : Mark)
             → FitsBelow (neutral self.now.graph.now) m
             → (get_or self.now.arena.now.positions v (start_of self.now.graph.now)).priority ≡ priority (neutral self.now.graph.now) m
-            → mark_of result ≡ m }
+            → result ≡ m }
     {
         mark_with(
             self.arena.position(0).priority,
@@ -135,15 +133,15 @@ impl LostGame<'_> {
 }
 
 /// The mark with a priority, where this is the neutral one.
-fn mark_with(neutral: u32, number: u32) -> Step
-    ensures { (m : Mark) → FitsBelow neutral m → number ≡ priority neutral m → mark_of result ≡ m }
+fn mark_with(neutral: u32, number: u32) -> Mark
+    ensures { (m : Mark) → FitsBelow neutral m → number ≡ priority neutral m → result ≡ m }
 {
     if number == neutral {
-        Step::Neutral
+        Mark::Neutral
     } else if number % 2 == 0 {
-        Step::Red(number / 2)
+        Mark::Red(number / 2)
     } else {
-        Step::Green(number / 2)
+        Mark::Green(number / 2)
     }
 }
 
@@ -157,15 +155,4 @@ fn place_in(vertices: &[u64], v: u64) -> usize
         }
     }
     vertices.len()
-}
-
-/// The cause, as a file names it.
-fn cause_of(cause: ClashCause) -> Cause
-    ensures { cause_of result ≡ cause }
-{
-    match cause {
-        ClashCause::False(node) => Cause::False(node),
-        ClashCause::Pair(positive, negative) => Cause::Pair(positive, negative),
-        ClashCause::Cycle(node) => Cause::Cycle(node),
-    }
 }

@@ -7,28 +7,26 @@ ghost use Rattle.ml_parity.specs.Solution.{IsSolution, winner_at};
 ghost use Rattle.ml_parity.specs.Heights.{AtMost};
 ghost use Rattle.ml_parity.specs.Refusal.{lists_of};
 ghost use Rattle.ml_product.specs.Arena.{IsArenaOf, game_of};
-ghost use Rattle.ml_product.specs.View.{viewed};
 ghost use Rattle.ml_refutation.specs.Acceptance.{IsAccepted};
 ghost use Rattle.ml_refutation.specs.Refutation.{Fits};
-ghost use Rattle.ml_refutation.specs.Views.{decision_of, entry_of, item_of, of_parts};
+ghost use Rattle.ml_refutation.specs.Views.{decision_of, of_parts};
 ghost use Rattle.ml_refutation.specs.declared.refutation.TheConstants.{NESTING_LIMIT};
 ghost use Rattle.ml_refute.specs.Extracted.{IsRefutationOf};
 ghost use Rattle.ml_refute.specs.private.Found.{AreNumbered, position_at};
-ghost use Rattle.ml_refute.specs.private.PutTogether.{IsNamesOf, ArePut, IsPut, carried};
+ghost use Rattle.ml_refute.specs.private.PutTogether.{IsNamesOf, ArePut};
+ghost use Rattle.ml_refute.specs.private.Tables.{entries_in};
 
 use crate::deciding::{Decided, vertex_at};
 use crate::go_heights::heights_of;
 use crate::lost_game::LostGame;
+use crate::tables::Tables;
 use indexmap::IndexSet;
 use ml_base::NoMemory;
 use ml_graph::ModalGraph;
-use ml_history::History;
 use ml_parity::Solution;
-use ml_product::{Arena, View};
-use ml_refutation::{Decision, Entry, Item, Refutation};
-use ml_trace::state_of;
+use ml_product::Arena;
+use ml_refutation::Refutation;
 use std::alloc::Global;
-use std::rc::Rc;
 
 /// The refutation that a solution of a graph's decision game makes, where Odd wins it.
 ///
@@ -51,8 +49,12 @@ pub fn refutation_of(
     requires arena { IsArenaOf graph.now arena.now }
     requires solution { IsSolution (game_of arena.now) solution.now }
     requires wins { winner_at solution.now.winner 0 ≡ Odd }
-    ensures is { IfOk result (λ r. IsRefutationOf graph.now arena.now solution.now (of_parts r.names r.entries)) }
-    ensures accepted { IfOk result (λ r. IsAccepted graph.now (of_parts r.names r.entries)) }
+    ensures is { IfOk result (λ r. IsRefutationOf
+        graph.now
+        arena.now
+        solution.now
+        (of_parts r.names r.sequents r.stacks r.entries)) }
+    ensures accepted { IfOk result (λ r. IsAccepted graph.now (of_parts r.names r.sequents r.stacks r.entries)) }
 {
     let game = LostGame {
         graph,
@@ -66,8 +68,8 @@ pub fn refutation_of(
     let names = names_of(&game, &found.vertices);
     let heights = heights_of(alloc, names, &found.decisions)?;
     let odds = graph.odd_priorities()?;
-    let entries = entries_of(alloc, &game, &odds, found, &heights.rows)?;
-    Ok(Refutation::new(names, entries))
+    let tables = entries_of(alloc, &game, &odds, found, &heights.rows)?;
+    Ok(Refutation::new(names, tables.sequents, tables.stacks, tables.entries))
 }
 
 /// What is known of numbers: they fit. Does nothing when called.
@@ -97,76 +99,32 @@ fn live_at(game: &LostGame, v: u32) -> u32
     game.arena.position(v).history.live()
 }
 
-/// The entries of these vertices, with their heights and their decisions.
+/// The entries of these vertices, with their heights and their decisions, and the lists that they name.
 fn entries_of(
     alloc: Global,
     game: &LostGame,
     odds: &[u32],
     found: Decided,
     rows: &[Vec<u64>],
-) -> Result<Vec<Entry>, NoMemory>
+) -> Result<Tables, NoMemory>
     requires odds { odds.now ≡ odd_priorities game.now.graph.now }
     requires numbered { AreNumbered game.now.graph.now game.now.arena.now game.now.solution.now found.vertices.keys }
     requires all { length found.decisions.items ≡ length found.vertices.keys }
     requires a_row_each { length rows.now ≡ length found.vertices.keys }
     requires low { AtMost (2 ^ 32 - 1) (lists_of rows.now) }
-    ensures { IfOk result (λ entries. ArePut
+    ensures { IfOk result (λ tables. ArePut
         game.now.graph.now
         game.now.arena.now
         found.vertices.keys
         (lists_of rows.now)
         (map decision_of found.decisions.items)
-        (map entry_of entries.items)) }
+        (entries_in tables)) }
 {
-    let mut entries = Vec::with_capacity(alloc, rows.len())?;
+    let mut tables = Tables::new(alloc, rows.len())?;
     for decision in found.decisions {
-        let e = entries.len();
+        let e = tables.entries.len();
         let view = game.arena.position(vertex_at(&found.vertices, e));
-        entries.push(entry_at(alloc, odds, view, &rows[e], decision)?)?;
+        tables.push(alloc, odds, view, &rows[e], decision)?;
     }
-    Ok(entries)
-}
-
-/// The entry at a position.
-fn entry_at(
-    alloc: Global,
-    odds: &[u32],
-    view: View,
-    row: &[u64],
-    decision: Decision,
-) -> Result<Entry, NoMemory>
-    requires { All (λ n. n < 2 ^ 32) row.now }
-    ensures { IfOk result (λ e. IsPut odds.now (viewed view.entry) row.now (decision_of decision) (entry_of e)) }
-{
-    Ok(Entry {
-        sequent: Rc::new(alloc, view.sequent.nodes()?)?,
-        live: view.history.live(),
-        items: items_of(alloc, odds, view.history)?,
-        heights: row_of(alloc, row)?,
-        decision,
-    })
-}
-
-/// The items of a history, at states of the automaton.
-fn items_of(alloc: Global, odds: &[u32], history: &History) -> Result<Vec<Item>, NoMemory>
-    ensures { IfOk result (λ items. map item_of items.items ≡ carried odds.now history.now) }
-{
-    let mut items = Vec::new(alloc);
-    for (number, stack) in history.stacks()? {
-        let state = state_of(number, odds);
-        items.push(Item {
-            node: state.node,
-            odd: state.odd,
-            stack: Rc::new(alloc, stack)?,
-        })?;
-    }
-    Ok(items)
-}
-
-/// The numbers of a row, which fit.
-fn row_of(alloc: Global, row: &[u64]) -> Result<Vec<u32>, NoMemory>
-    requires { All (λ n. n < 2 ^ 32) row.now }
-    ensures { IfOk result (λ heights. heights.items ≡ row.now) }
-{
-    Ok(row.iter().map(|n| *n as u32).collect(alloc)?)
+    Ok(tables)
 }

@@ -26,7 +26,6 @@ use Rattle.ml_product.specs.DecisionGame.{Open, IsResolved, IsVerdictOf, AreDiff
 use Rattle.ml_product.specs.Position.{Position, start_of, neutral, with_chosen}
 use Rattle.ml_refutation.specs.Acceptance.{OfSpread}
 use Rattle.ml_refutation.specs.Refutation.{Decision}
-use Rattle.ml_refutation.specs.Views.{cause_of}
 use Rattle.ml_sequent.specs.declared.choice.Side.TheVariants.{Left, Right}
 use Rattle.ml_sequent.specs.Spread.{SpreadList, IsSpread, IsSpreadOf, IsFirstCause}
 use Rattle.ml_trace.specs.declared.marks.Mark.{Mark}
@@ -64,7 +63,7 @@ pub record LeavesTo (g : Graph) (a : Arena) (s : GameSolution) (v : ℕ) (sp : S
 
 abbrev pub IsTurnAt : Graph → Arena → GameSolution → ℕ → Turn → Type 0
 IsTurnAt g a s v (turn.Clash x) =
-    OfSpread g (position_at g a v).sequent (position_at g a v).choice (λ sp. IsFirstCause g sp (cause_of x))
+    OfSpread g (position_at g a v).sequent (position_at g a v).choice (λ sp. IsFirstCause g sp x)
 IsTurnAt g a s v (turn.Open o) =
     OfSpread g (position_at g a v).sequent (position_at g a v).choice (λ sp. IsVerdictOf g sp (Open o))
 IsTurnAt g a s v (turn.Leave d) =

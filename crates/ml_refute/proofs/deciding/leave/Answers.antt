@@ -1,5 +1,4 @@
 use Rattle.std.proofs.Common.{ap, subst, ◌∙◌}
-use Rattle.ml_refutation.specs.Views.{mark_of}
 use Rattle.ml_refute.specs.private.Found.{IsNumberOf, position_at}
 use Rattle.ml_refute.proofs.FoundEntries.{leave_decided}
 use Rattle.ml_refute.proofs.deciding.leave.Goals as goal
@@ -11,7 +10,7 @@ returns c =
     c.next_of-next.ensures in
     leave_decided c.args.game.now.graph.now c.args.game.now.arena.now c.args.game.now.solution.now c.requires.odd
     c.args.vertices.now.keys c.number_of.new.vertices.keys c.args.v c.args.diamond
-    c.in_ok-entry.entry (mark_of c.mark_of.result) c.requires.won c.requires.turn
+    c.in_ok-entry.entry c.mark_of.result c.requires.won c.requires.turn
     (subst (λ n. IsNumberOf c.args.game.now.graph.now c.args.game.now.arena.now c.args.game.now.solution.now
     c.args.vertices.now.keys c.number_of.new.vertices.keys n c.in_ok-entry.entry)
     c.next_of-next.ensures c.in_ok-entry.ensures)

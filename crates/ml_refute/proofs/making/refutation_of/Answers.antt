@@ -87,7 +87,7 @@ new-requires c =
     (sym (ap lists_of c.deref-3.ensures.value ∙ c.heights.view_is)) c.in_ok-heights.ensures.longest in
     is_held _ _ _ odd _ _ c.in_ok-found.ensures.looked
     (length-map c.in_ok-found.found.decisions.items decision_of ∙ c.in_ok-found.ensures.all) _ c.names_of-names.ensures
-    _ _ c.in_ok-entries.ensures longest c.size-size.ensures.is_graph c.requires.small
+    _ _ c.in_ok-tables.ensures longest c.size-size.ensures.is_graph c.requires.small
     (subst (All Fits) c.priorities.ensures c.fit.ensures)
     (omega (arith, c.size-positions.ensures, c.size-positions.type_inv))
 
@@ -101,11 +101,8 @@ returns-clause-is c =
     let made =
     is_refutation _ _ _ odd _ _ c.in_ok-found.ensures.looked
     (length-map c.in_ok-found.found.decisions.items decision_of ∙ c.in_ok-found.ensures.all) _ c.names_of-names.ensures
-    _ _ c.in_ok-entries.ensures longest in
-    subst (λ x. IsRefutationOf c.args.graph.now c.args.arena.now c.args.solution.now (of_parts c.new.result.names x))
-    (sym c.new.ensures.entries)
-    (subst (λ n. IsRefutationOf c.args.graph.now c.args.arena.now c.args.solution.now
-    (of_parts n c.in_ok-entries.entries)) (sym c.new.ensures.names) made)
+    _ _ c.in_ok-tables.ensures longest in
+    rw (c.new.ensures.names, c.new.ensures.sequents, c.new.ensures.stacks, c.new.ensures.entries) made
 
 pub returns-clause-accepted : goal.returns-clause-accepted
 returns-clause-accepted c =
@@ -117,6 +114,9 @@ returns-clause-accepted c =
     let made =
     is_accepted _ _ _ odd _ _ c.in_ok-found.ensures.looked
     (length-map c.in_ok-found.found.decisions.items decision_of ∙ c.in_ok-found.ensures.all) _ c.names_of-names.ensures
-    _ _ c.in_ok-entries.ensures longest in
-    subst (λ x. IsAccepted c.args.graph.now (of_parts c.new.result.names x)) (sym c.new.ensures.entries)
-    (subst (λ n. IsAccepted c.args.graph.now (of_parts n c.in_ok-entries.entries)) (sym c.new.ensures.names) made)
+    _ _ c.in_ok-tables.ensures longest in
+    let same : of_parts c.new.result.names c.new.result.sequents c.new.result.stacks c.new.result.entries
+    ≡ of_parts c.names_of-names.result c.in_ok-tables.tables.sequents c.in_ok-tables.tables.stacks
+    c.in_ok-tables.tables.entries =
+    λ i. of_parts (c.new.ensures.names i) (c.new.ensures.sequents i) (c.new.ensures.stacks i) (c.new.ensures.entries i) in
+    subst (IsAccepted c.args.graph.now) (sym same) made
