@@ -48,4 +48,4 @@ pub record IsModelFound (g : Graph) (m : Structure) (start : ℕ) : Type 0 where
 
 abbrev pub IsFound : Graph → Found → Type 0
 IsFound g (found.Model m) = IsModelFound g m.structure m.start
-IsFound g (found.Refutation r) = IsAccepted g (of_parts r.names r.entries)
+IsFound g (found.Refutation r) = IsAccepted g (of_parts r.names r.sequents r.stacks r.entries)

@@ -31,12 +31,15 @@ fn checked(
             }
             Ok(None)
         }
-        Candidate::Refutation { names, entries } => {
-            match accepted(alloc, graph, names, entries)? {
-                Some(refutation) => Ok(Some(Found::Refutation(refutation))),
-                None => Ok(None),
-            }
-        }
+        Candidate::Refutation {
+            names,
+            sequents,
+            stacks,
+            entries,
+        } => match accepted(alloc, graph, names, sequents, stacks, entries)? {
+            Some(refutation) => Ok(Some(Found::Refutation(refutation))),
+            None => Ok(None),
+        },
     }
 }
 

@@ -2,10 +2,12 @@
 ghost use Rattle.std.specs.Prelude.{◌≡◌, ◌<◌, ◌≤◌, ◌+◌, ◌^◌, ℕ, length, map, All, IsTrue};
 ghost use Rattle.ml_lists.specs.Ascending.{IsAscending};
 ghost use Rattle.ml_refutation.specs.Refutation.{IsRefutation, IsEntry, IsTraced, IsItem, IsStack, IsDecided, IsMarkOf, comes_before, guess_before, nesting, Fits, FitsGuess, FitsCause};
-ghost use Rattle.ml_refutation.specs.Views.{cause_of, decision_of, entry_of, item_of, mark_of};
-ghost use Rattle.ml_search.specs.private.Checked.{Rise};
+ghost use Rattle.ml_refutation.specs.Views.{decision_of, entry_of, item_of};
+ghost use Rattle.ml_search.specs.private.Checked.{Rise, state_in};
 
-use ml_refutation::{Cause, Decision, Entry, Item, NESTING_LIMIT, Step};
+use ml_refutation::{Decision, Entry, Item, Lists, NESTING_LIMIT};
+use ml_sequent::ClashCause;
+use ml_trace::Mark;
 
 /// What is known of a number: it fits. Does nothing when called.
 fn fits(_number: u32)
@@ -30,12 +32,12 @@ fn guess_fits(guess: Option<u32>)
 }
 
 /// What is known of a cause: its numbers fit. Does nothing when called.
-fn cause_fits(cause: Cause)
-    ensures { FitsCause (cause_of cause) }
+fn cause_fits(cause: ClashCause)
+    ensures { FitsCause cause }
 {
     match cause {
-        Cause::False(node) | Cause::Cycle(node) => fits(node),
-        Cause::Pair(positive, negative) => {
+        ClashCause::False(node) | ClashCause::Cycle(node) => fits(node),
+        ClashCause::Pair(positive, negative) => {
             fits(positive);
             fits(negative)
         }
@@ -75,7 +77,7 @@ fn guess_before(guess: Option<u32>, other: Option<u32>) -> bool
 
 /// Does the first item come before the other one?
 fn comes_before(item: &Item, other: &Item) -> bool
-    ensures { result ≡ comes_before (item_of item.now).state (item_of other.now).state }
+    ensures { result ≡ comes_before (state_in item.now) (state_in other.now) }
 {
     item.node < other.node || (item.node == other.node && guess_before(item.odd, other.odd))
 }
@@ -93,20 +95,20 @@ fn rise(items: &[Item]) -> bool
 }
 
 /// Is the item's stack one of names in use?
-fn is_item(live: u32, item: &Item) -> bool
-    ensures { IsTrue result → IsItem live (item_of item.now) }
+fn is_item(live: u32, stacks: &Lists, item: &Item) -> bool
+    ensures { IsTrue result → IsItem live (item_of stacks.now item.now) }
 {
     fits(item.node);
     guess_fits(item.odd);
-    is_stack(live, &item.stack)
+    is_stack(live, stacks.at(item.stack))
 }
 
 /// Is each item's stack one of names in use?
-fn are_items(live: u32, items: &[Item]) -> bool
-    ensures { IsTrue result → All (λ a. IsItem live (item_of a)) items.now }
+fn are_items(live: u32, stacks: &Lists, items: &[Item]) -> bool
+    ensures { IsTrue result → All (λ a. IsItem live (item_of stacks.now a)) items.now }
 {
     for item in items {
-        if !is_item(live, item) {
+        if !is_item(live, stacks, item) {
             return false;
         }
     }
@@ -114,25 +116,25 @@ fn are_items(live: u32, items: &[Item]) -> bool
 }
 
 /// Are the items what an entry traces?
-fn is_traced(names: u32, live: u32, items: &[Item]) -> bool
-    ensures { IsTrue result → IsTraced names (record { live = live; items = map item_of items.now }) }
+fn is_traced(names: u32, live: u32, stacks: &Lists, items: &[Item]) -> bool
+    ensures { IsTrue result → IsTraced names (record { live = live; items = map (item_of stacks.now) items.now }) }
 {
     if live > names {
         return false;
     }
     if rise(items) {
-        return are_items(live, items);
+        return are_items(live, stacks, items);
     }
     false
 }
 
 /// Is the name of the mark one of so many?
-fn is_mark(names: u32, mark: Step) -> bool
-    ensures { IsTrue result → IsMarkOf names (mark_of mark) }
+fn is_mark(names: u32, mark: Mark) -> bool
+    ensures { IsTrue result → IsMarkOf names mark }
 {
     match mark {
-        Step::Red(name) | Step::Green(name) => name < names,
-        Step::Neutral => true,
+        Mark::Red(name) | Mark::Green(name) => name < names,
+        Mark::Neutral => true,
     }
 }
 
@@ -171,34 +173,49 @@ fn is_decided(decision: &Decision, names: u32, entries: usize, depth: u32) -> bo
 }
 
 /// Is this an entry of a refutation with so many names and entries?
-fn is_entry(names: u32, entries: usize, entry: &Entry) -> bool
-    ensures { IsTrue result → IsEntry names entries (entry_of entry.now) }
+fn is_entry(names: u32, entries: usize, sequents: &Lists, stacks: &Lists, entry: &Entry) -> bool
+    ensures { IsTrue result → IsEntry names entries (entry_of sequents.now stacks.now entry.now) }
 {
-    fit(&entry.sequent);
+    let sequent = sequents.at(entry.sequent);
+    fit(sequent);
     fit(&entry.heights);
-    ascends(&entry.sequent)
-        && is_traced(names, entry.live, &entry.items)
+    ascends(sequent)
+        && is_traced(names, entry.live, stacks, &entry.items)
         && entry.heights.len() == names as usize + 1
         && is_decided(&entry.decision, names, entries, NESTING_LIMIT)
 }
 
 /// Are these entries of a refutation with so many names and entries?
-fn are_entries(names: u32, count: usize, entries: &[Entry]) -> bool
-    ensures { IsTrue result → All (λ e. IsEntry names count (entry_of e)) entries.now }
+fn are_entries(
+    names: u32,
+    count: usize,
+    sequents: &Lists,
+    stacks: &Lists,
+    entries: &[Entry],
+) -> bool
+    ensures { IsTrue result → All (λ e. IsEntry names count (entry_of sequents.now stacks.now e)) entries.now }
 {
     for entry in entries {
-        if !is_entry(names, count, entry) {
+        if !is_entry(names, count, sequents, stacks, entry) {
             return false;
         }
     }
     true
 }
 
-/// Are these entries, with so many names, a refutation?
+/// Are these entries, with so many names and the lists that they name, a refutation?
 ///
-/// Cost: linear in the entries.
-pub(crate) fn is_refutation(names: u32, entries: &[Entry]) -> bool
-    ensures { IsTrue result → IsRefutation (record { names = names; entries = map entry_of entries.now }) }
+/// Cost: linear in the entries, with the lists that they name, each as often as it is named.
+pub(crate) fn is_refutation(
+    names: u32,
+    sequents: &Lists,
+    stacks: &Lists,
+    entries: &[Entry],
+) -> bool
+    ensures { IsTrue result → IsRefutation (record {
+        names = names;
+        entries = map (entry_of sequents.now stacks.now) entries.now;
+    }) }
 {
     let count = entries.len();
     if count == 0 {
@@ -207,5 +224,5 @@ pub(crate) fn is_refutation(names: u32, entries: &[Entry]) -> bool
     if count > u32::MAX as usize {
         return false;
     }
-    are_entries(names, count, entries)
+    are_entries(names, count, sequents, stacks, entries)
 }

@@ -3,8 +3,7 @@ use crate::arrays::{NONE, flag, number, row, set_flag, set_number, small};
 use crate::terms::{Terms, sides};
 use ml_base::NoMemory;
 use ml_graph::Node;
-use ml_refutation::Cause;
-use ml_sequent::Side;
+use ml_sequent::{ClashCause, Side};
 use std::alloc::Global;
 
 /// What is taken back.
@@ -39,7 +38,7 @@ pub(crate) struct Branch {
     work: Vec<(usize, usize)>,
     /// Memory for what is met or killed next; empty in between.
     near: Vec<usize>,
-    cause: Option<Cause>,
+    cause: Option<ClashCause>,
 }
 
 impl Branch {
@@ -168,7 +167,7 @@ impl Branch {
     fn stand(&mut self, terms: &Terms, n: usize) -> Result<(), NoMemory> {
         match terms.node(n) {
             Node::True => {}
-            Node::False => self.cause = Some(Cause::False(small(n))),
+            Node::False => self.cause = Some(ClashCause::False(small(n))),
             Node::Lit { prop, positive } => {
                 if positive {
                     self.literals.push(n)?;
@@ -201,9 +200,9 @@ impl Branch {
         for m in other {
             if flag(&self.stands, *m) {
                 self.cause = Some(if positive {
-                    Cause::Pair(small(n), small(*m))
+                    ClashCause::Pair(small(n), small(*m))
                 } else {
-                    Cause::Pair(small(*m), small(n))
+                    ClashCause::Pair(small(*m), small(n))
                 });
                 return Ok(());
             }
@@ -272,7 +271,7 @@ impl Branch {
     }
 
     /// Why the spread clashes, if it does.
-    pub(crate) fn cause(&self) -> Option<Cause> {
+    pub(crate) fn cause(&self) -> Option<ClashCause> {
         self.cause
     }
 
@@ -403,7 +402,7 @@ impl Branch {
         }
         for n in &terms.cyclic {
             if flag(&self.stands, *n) && terms.priority(*n) % 2 == 1 && self.returns(terms, *n)? {
-                self.cause = Some(Cause::Cycle(small(*n)));
+                self.cause = Some(ClashCause::Cycle(small(*n)));
                 return Ok(());
             }
         }

@@ -5,7 +5,7 @@ use crate::terms::Terms;
 use crate::trees::Trees;
 use ml_base::NoMemory;
 use ml_parity::{Game, Player, Solution, solve};
-use ml_refutation::Step;
+use ml_trace::Mark;
 
 /// A vertex of the game.
 #[derive(Clone, Copy, PartialEq, Eq)]
@@ -55,11 +55,11 @@ struct Making {
 }
 
 /// The priority of a mark.
-fn priority_of(terms: &Terms, mark: Step) -> u32 {
+fn priority_of(terms: &Terms, mark: Mark) -> u32 {
     match mark {
-        Step::Red(name) => name.saturating_mul(2),
-        Step::Green(name) => name.saturating_mul(2).saturating_add(1),
-        Step::Neutral => terms.neutral,
+        Mark::Red(name) => name.saturating_mul(2),
+        Mark::Green(name) => name.saturating_mul(2).saturating_add(1),
+        Mark::Neutral => terms.neutral,
     }
 }
 

@@ -5,13 +5,12 @@ use crate::trees::Trees;
 use indexmap::IndexSet;
 use ml_base::NoMemory;
 use ml_history::History;
-use ml_refutation::Step;
 use ml_trace::Mark;
 
 /// Where a way leads from a position.
 #[derive(Clone, Copy)]
 pub(crate) struct Next {
-    pub mark: Step,
+    pub mark: Mark,
     pub to: usize,
 }
 
@@ -40,15 +39,6 @@ pub(crate) struct Positions {
     pub histories: IndexSet<History>,
     numbers: IndexSet<(usize, usize)>,
     pub all: Vec<Position>,
-}
-
-/// The mark, as a file names it.
-fn step_of(mark: Mark) -> Step {
-    match mark {
-        Mark::Red(name) => Step::Red(name),
-        Mark::Green(name) => Step::Green(name),
-        Mark::Neutral => Step::Neutral,
-    }
 }
 
 impl Positions {
@@ -121,7 +111,7 @@ impl Positions {
         let (history, mark) = history.step(&way.letter)?;
         let to = self.number(terms, way.next, history)?;
         Ok(Some(Next {
-            mark: step_of(mark),
+            mark,
             to,
         }))
     }

@@ -1,5 +1,5 @@
 // The refutation of Odd's moves.
-use crate::arrays::{NONE, small};
+use crate::arrays::{NONE, number, set_number, small};
 use crate::candidates::Candidate;
 use crate::games::{Solved, Vertex};
 use crate::positions::Positions;
@@ -8,16 +8,15 @@ use crate::trees::{Kind, Trees};
 use indexmap::IndexSet;
 use ml_base::NoMemory;
 use ml_parity::{Arc, OneSided, heights};
-use ml_refutation::{Decision, Entry, Item, Step};
-use ml_trace::state_of;
+use ml_refutation::{Decision, Entry, Item, Lists};
+use ml_trace::{Mark, state_of};
 use std::alloc::Global;
-use std::rc::Rc;
 
 /// A go, by the entries.
 #[derive(Clone, Copy)]
 struct Go {
     from: usize,
-    mark: Step,
+    mark: Mark,
     to: usize,
 }
 
@@ -26,6 +25,18 @@ struct Go {
 struct Entries {
     positions: IndexSet<usize>,
     gos: Vec<Go>,
+}
+
+/// Entries that were made, with the lists that they name. A sequent and a history have theirs there once.
+#[derive(Drop)]
+struct Tables {
+    sequents: Lists,
+    stacks: Lists,
+    entries: Vec<Entry>,
+    /// Of each sequent its place.
+    sequent_at: Vec<usize>,
+    /// Of each history the place of its first stack.
+    stacks_at: Vec<usize>,
 }
 
 /// What is to be done, and what was decided.
@@ -195,11 +206,11 @@ fn names_of(positions: &Positions, entries: &Entries) -> u32 {
 }
 
 /// The priority of a mark, where neutral has this one.
-fn priority_of(top: u32, mark: Step) -> u32 {
+fn priority_of(top: u32, mark: Mark) -> u32 {
     match mark {
-        Step::Red(name) => name.saturating_mul(2),
-        Step::Green(name) => name.saturating_mul(2).saturating_add(1),
-        Step::Neutral => top,
+        Mark::Red(name) => name.saturating_mul(2),
+        Mark::Green(name) => name.saturating_mul(2).saturating_add(1),
+        Mark::Neutral => top,
     }
 }
 
@@ -239,40 +250,88 @@ fn one_sided(size: u64, top: u32, arcs: Vec<Arc>) -> Option<OneSided> {
     None
 }
 
-/// The items of a position.
-fn items_of(
-    terms: &Terms,
-    positions: &Positions,
-    history: usize,
-) -> Result<(u32, Vec<Item>), NoMemory> {
-    let mut items = Vec::new(terms.alloc);
-    let Some(history) = positions.histories.as_slice().get(history) else {
-        return Ok((0, items));
-    };
-    for (number, stack) in history.stacks()? {
-        let state = state_of(number, &terms.odds);
-        items.push(Item {
-            node: state.node,
-            odd: state.odd,
-            stack: Rc::new(terms.alloc, stack)?,
-        })?;
+impl Tables {
+    fn new(terms: &Terms, trees: &Trees, positions: &Positions) -> Result<Tables, NoMemory> {
+        let alloc = terms.alloc;
+        Ok(Tables {
+            sequents: Lists::new(alloc),
+            stacks: Lists::new(alloc),
+            entries: Vec::new(alloc),
+            sequent_at: vec![in alloc; NONE; trees.sequents.len()]?,
+            stacks_at: vec![in alloc; NONE; positions.histories.len()]?,
+        })
     }
-    Ok((history.live(), items))
+
+    /// The place of a sequent.
+    fn sequent(&mut self, trees: &Trees, sequent: usize) -> Result<usize, NoMemory> {
+        let known = number(&self.sequent_at, sequent);
+        if known != NONE {
+            return Ok(known);
+        }
+        let place = self.sequents.push(trees.nodes_of(sequent))?;
+        set_number(&mut self.sequent_at, sequent, place);
+        Ok(place)
+    }
+
+    /// The names in use and the items of a history.
+    fn items(
+        &mut self,
+        terms: &Terms,
+        positions: &Positions,
+        history: usize,
+    ) -> Result<(u32, Vec<Item>), NoMemory> {
+        let mut items = Vec::new(terms.alloc);
+        let known = number(&self.stacks_at, history);
+        let first = if known == NONE { self.stacks.len() } else { known };
+        set_number(&mut self.stacks_at, history, first);
+        let Some(history) = positions.histories.as_slice().get(history) else {
+            return Ok((0, items));
+        };
+        for (i, (state, stack)) in history.stacks()?.iter().enumerate() {
+            if known == NONE {
+                self.stacks.push(stack)?;
+            }
+            let state = state_of(*state, &terms.odds);
+            items.push(Item {
+                node: state.node,
+                odd: state.odd,
+                stack: first.saturating_add(i),
+            })?;
+        }
+        Ok((history.live(), items))
+    }
+
+    /// Adds the entry of a position; tells whether there is one.
+    fn push(
+        &mut self,
+        terms: &Terms,
+        trees: &Trees,
+        positions: &Positions,
+        p: usize,
+        row: &[u64],
+        decision: Decision,
+    ) -> Result<bool, NoMemory> {
+        let Some(position) = positions.all.get(p) else {
+            return Ok(false);
+        };
+        let Some(heights) = heights_of(terms, row)? else {
+            return Ok(false);
+        };
+        let sequent = self.sequent(trees, position.sequent)?;
+        let (live, items) = self.items(terms, positions, position.history)?;
+        self.entries.push(Entry {
+            sequent,
+            live,
+            items,
+            heights,
+            decision,
+        })?;
+        Ok(true)
+    }
 }
 
-/// The entry of a position.
-fn entry_of(
-    terms: &Terms,
-    trees: &Trees,
-    positions: &Positions,
-    p: usize,
-    row: &[u64],
-    decision: Decision,
-) -> Result<Option<Entry>, NoMemory> {
-    let Some(position) = positions.all.get(p) else {
-        return Ok(None);
-    };
-    let (live, items) = items_of(terms, positions, position.history)?;
+/// The heights of an entry; `None` where one doesn't fit.
+fn heights_of(terms: &Terms, row: &[u64]) -> Result<Option<Vec<u32>>, NoMemory> {
     let mut heights = Vec::with_capacity(terms.alloc, row.len())?;
     for height in row {
         match u32::try_from(*height) {
@@ -280,16 +339,7 @@ fn entry_of(
             Err(_) => return Ok(None),
         }
     }
-    Ok(Some(Entry {
-        sequent: Rc::new(
-            terms.alloc,
-            Vec::from_slice(terms.alloc, trees.nodes_of(position.sequent))?,
-        )?,
-        live,
-        items,
-        heights,
-        decision,
-    }))
+    Ok(Some(heights))
 }
 
 /// The decisions at all entries that are found from the start; `None` where one can't be had.
@@ -319,6 +369,35 @@ fn decisions_of(
     Ok(Some(decisions))
 }
 
+/// The refutation with these heights and decisions at the entries; `None` where a height doesn't fit.
+fn candidate_of(
+    terms: &Terms,
+    trees: &Trees,
+    positions: &Positions,
+    names: u32,
+    entries: &Entries,
+    rows: &[Vec<u64>],
+    decisions: Vec<Decision>,
+) -> Result<Option<Candidate>, NoMemory> {
+    let mut tables = Tables::new(terms, trees, positions)?;
+    for (p, (row, decision)) in entries
+        .positions
+        .as_slice()
+        .iter()
+        .zip(rows.iter().zip(decisions))
+    {
+        if !tables.push(terms, trees, positions, *p, row, decision)? {
+            return Ok(None);
+        }
+    }
+    Ok(Some(Candidate::Refutation {
+        names,
+        sequents: tables.sequents,
+        stacks: tables.stacks,
+        entries: tables.entries,
+    }))
+}
+
 /// The refutation of Odd's moves where Odd wins with what was made.
 pub(crate) fn refutation(
     terms: &Terms,
@@ -339,20 +418,5 @@ pub(crate) fn refutation(
     let Some(rows) = rows_of(terms, names, decisions.len(), &entries.gos)? else {
         return Ok(None);
     };
-    let mut made = Vec::new(alloc);
-    for (p, (row, decision)) in entries
-        .positions
-        .as_slice()
-        .iter()
-        .zip(rows.iter().zip(decisions))
-    {
-        match entry_of(terms, trees, positions, *p, row, decision)? {
-            Some(entry) => made.push(entry)?,
-            None => return Ok(None),
-        }
-    }
-    Ok(Some(Candidate::Refutation {
-        names,
-        entries: made,
-    }))
+    candidate_of(terms, trees, positions, names, &entries, &rows, decisions)
 }

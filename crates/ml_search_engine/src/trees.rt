@@ -6,8 +6,7 @@ use crate::terms::{Terms, sides};
 use indexmap::IndexSet;
 use ml_base::NoMemory;
 use ml_graph::Node;
-use ml_refutation::Cause;
-use ml_sequent::{Sequent, Side};
+use ml_sequent::{ClashCause, Sequent, Side};
 use ml_trace::Letter;
 
 /// So many leaves that are looked at, to ask for less, count as one thing that is made.
@@ -25,7 +24,7 @@ pub(crate) enum Kind {
         right: usize,
     },
     /// The spread clashes.
-    Clash(Cause),
+    Clash(ClashCause),
     /// Diamonds lead on.
     Leaf(usize),
 }
@@ -142,7 +141,7 @@ impl Trees {
     pub(crate) fn kind(&self, knot: usize) -> Kind {
         match self.knots.get(knot) {
             Some(knot) => knot.kind,
-            None => Kind::Clash(Cause::False(0)),
+            None => Kind::Clash(ClashCause::False(0)),
         }
     }
 
@@ -357,15 +356,15 @@ impl Trees {
     }
 
     /// The or-nodes that a clash needs.
-    fn needs_of(&self, terms: &Terms, cause: Cause) -> Result<Vec<usize>, NoMemory> {
+    fn needs_of(&self, terms: &Terms, cause: ClashCause) -> Result<Vec<usize>, NoMemory> {
         let mut needs = Vec::new(terms.alloc);
         match cause {
-            Cause::False(n) => self.branch.reasons(terms, n as usize, &mut needs)?,
-            Cause::Pair(p, q) => {
+            ClashCause::False(n) => self.branch.reasons(terms, n as usize, &mut needs)?,
+            ClashCause::Pair(p, q) => {
                 self.branch.reasons(terms, p as usize, &mut needs)?;
                 self.branch.reasons(terms, q as usize, &mut needs)?;
             }
-            Cause::Cycle(_) => self.branch.all_chosen(&mut needs)?,
+            ClashCause::Cycle(_) => self.branch.all_chosen(&mut needs)?,
         }
         needs.sort_unstable();
         needs.dedup();

@@ -6,4 +6,4 @@ use Rattle.ml_search.proofs.well_formed.are_entries.Given as goal
 
 abbrev pub invariant-loop-entry : goal.invariant-loop-entry
 invariant-loop-entry l =
-    (k : ℕ) (d : Entry) → k < l.entry-index → IsEntry l.names l.count (entry_of (get_or l.entries k d))
+    (k : ℕ) (d : Entry) → k < l.entry-index → IsEntry l.names l.count (entry_of l.sequents l.stacks (get_or l.entries k d))

@@ -5,4 +5,4 @@ use Rattle.ml_refutation.specs.declared.refutation.Item.{Item}
 use Rattle.ml_search.proofs.well_formed.are_items.Given as goal
 
 abbrev pub invariant-loop-item : goal.invariant-loop-item
-invariant-loop-item l = (k : ℕ) (d : Item) → k < l.item-index → IsItem l.live (item_of (get_or l.items k d))
+invariant-loop-item l = (k : ℕ) (d : Item) → k < l.item-index → IsItem l.live (item_of l.stacks (get_or l.items k d))

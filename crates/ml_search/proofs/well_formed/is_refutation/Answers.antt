@@ -1,4 +1,4 @@
-use Rattle.std.proofs.Common.{length, map, All, subst, sym, arith, ℕ}
+use Rattle.std.proofs.Common.{ℕ, length, map, All, subst, sym, arith}
 use Rattle.std.proofs.lemmas.List.{length-map}
 use Rattle.ml_refutation.specs.Refutation.{IsEntry}
 use Rattle.ml_refutation.specs.Views.{entry_of}
@@ -8,13 +8,13 @@ use Rattle.ml_search.proofs.well_formed.is_refutation.Goals as goal
 pub returns : goal.returns
 returns c =
     λ yes.
-    let same = length-map c.args.entries.now entry_of in
+    let entry = entry_of c.args.sequents.now c.args.stacks.now in
+    let es = c.args.entries.now in
+    let same = length-map es entry in
     record {
       names_fit = c.ranges.names.fits;
       has_start = omega (arith, same, c.if-count-eq0.false);
       entries_fit = omega (arith, same);
-      are_entries =
-          All-mapped (IsEntry c.args.names (length (map entry_of c.args.entries.now))) entry_of c.args.entries.now
-          (subst (λ (n : ℕ). All (λ e. IsEntry c.args.names n (entry_of e)) c.args.entries.now) (sym same)
-          (c.are_entries.ensures yes));
+      are_entries = All-mapped (IsEntry c.args.names (length (map entry es))) entry es
+          (subst (λ (n : ℕ). All (λ e. IsEntry c.args.names n (entry e)) es) (sym same) (c.are_entries.ensures yes));
     }

@@ -8,6 +8,6 @@ pub returns-then-rise : goal.returns-then-rise
 returns-then-rise c =
     λ yes. record {
       within = omega (arith, c.if-live-names.false);
-      ascend = above_rise c.args.items.now (c.rise.ensures c.if-rise.true);
-      are_items = All-mapped (IsItem c.args.live) item_of c.args.items.now (c.are_items.ensures yes);
+      ascend = above_rise c.args.stacks.now c.args.items.now (c.rise.ensures c.if-rise.true);
+      are_items = All-mapped (IsItem c.args.live) (item_of c.args.stacks.now) c.args.items.now (c.are_items.ensures yes);
     }
