@@ -253,7 +253,12 @@ impl Decided {
     }
 
     /// Decides at the first entry that has no decision.
-    fn look_at_next(&mut self, alloc: Global, game: &LostGame, branch: &mut Branch) -> Result<(), NoMemory>
+    fn look_at_next(
+        &mut self,
+        alloc: Global,
+        game: &LostGame,
+        branch: &mut Branch,
+    ) -> Result<(), NoMemory>
         requires odd { OddWins game.now.graph.now game.now.arena.now game.now.solution.now }
         requires graph { branch.old.graph ≡ game.now.graph.now }
         requires some { length self.old.decisions.items < length self.old.vertices.keys }

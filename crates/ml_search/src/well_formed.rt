@@ -206,15 +206,10 @@ fn are_entries(
 /// Are these entries, with so many names and the lists that they name, a refutation?
 ///
 /// Cost: linear in the entries, with the lists that they name, each as often as it is named.
-pub(crate) fn is_refutation(
-    names: u32,
-    sequents: &Lists,
-    stacks: &Lists,
-    entries: &[Entry],
-) -> bool
+pub(crate) fn is_refutation(names: u32, sequents: &Lists, stacks: &Lists, entries: &[Entry]) -> bool
     ensures { IsTrue result → IsRefutation (record {
-        names = names;
-        entries = map (entry_of sequents.now stacks.now) entries.now;
+      names = names;
+      entries = map (entry_of sequents.now stacks.now) entries.now;
     }) }
 {
     let count = entries.len();

@@ -110,10 +110,7 @@ impl Positions {
         };
         let (history, mark) = history.step(&way.letter)?;
         let to = self.number(terms, way.next, history)?;
-        Ok(Some(Next {
-            mark,
-            to,
-        }))
+        Ok(Some(Next { mark, to }))
     }
 
     /// Links a position to a leaf of its tree.

@@ -282,7 +282,11 @@ impl Tables {
     ) -> Result<(u32, Vec<Item>), NoMemory> {
         let mut items = Vec::new(terms.alloc);
         let known = number(&self.stacks_at, history);
-        let first = if known == NONE { self.stacks.len() } else { known };
+        let first = if known == NONE {
+            self.stacks.len()
+        } else {
+            known
+        };
         set_number(&mut self.stacks_at, history, first);
         let Some(history) = positions.histories.as_slice().get(history) else {
             return Ok((0, items));
