@@ -3,7 +3,7 @@ use Rattle.std.proofs.Common.{ℕ, List, ap, ◌∙◌, ◌≡◌, ◌∷◌, []
 use Rattle.std.proofs.lemmas.List.{length-append, length-map, map-append, get_or-map}
 use Rattle.std.proofs.lemmas.Option.{slice_get_within}
 use Rattle.ml_parity.specs.Refusal.{lists_of}
-use Rattle.ml_refutation.specs.Refutation.{Decision, Entry}
+use Rattle.ml_refutation.specs.Refutation.{Decision}
 use Rattle.ml_refutation.specs.Views.{decision_of, entry_of}
 use Rattle.ml_refute.specs.private.PutTogether.{ArePut}
 use Rattle.ml_refute.specs.private.Tables.{entries_in}

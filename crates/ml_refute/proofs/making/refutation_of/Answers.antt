@@ -6,7 +6,6 @@ use Rattle.ml_refutation.specs.Acceptance.{IsAccepted}
 use Rattle.ml_refutation.specs.Refutation.{Fits}
 use Rattle.ml_refutation.specs.Views.{decision_of, of_parts}
 use Rattle.ml_refutation.specs.declared.refutation.Decision.{Decision}
-use Rattle.ml_refute.specs.Extracted.{IsRefutationOf}
 use Rattle.ml_refute.specs.private.Found.{OddWins}
 use Rattle.ml_refute.specs.private.PutTogether.{HasMarksOf, go_graph_of}
 use Rattle.ml_refute.proofs.FoundEntries.{looked_few}
