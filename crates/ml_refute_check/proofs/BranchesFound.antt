@@ -170,24 +170,20 @@ module _ (q : Question) (e : ℕ) (nodes : List ℕ) (sp : SpreadList) (ok : IsG
   unfolding branch_parts
   alone d is = sym (ap (map Decided) (is sp.choice))
 
-  pub clash_kept : (x y : ClashCause) (b : Bool) → y ≡ x → (IsTrue b ↔ IsCause q.graph sp y) → b ≡ true
+  pub clash_kept : (x : ClashCause) (b : Bool) → (IsTrue b ↔ IsCause q.graph sp x) → b ≡ true
       → Finds q e (branch_parts sp.choice (Clash x)) None
-  clash_kept x y b named told is =
+  clash_kept x b told is =
       subst (λ ps. Finds q e ps None) (alone (Clash x) (λ c. refl))
       (none_next q e (Decided (record { choice = sp.choice; decision = Clash x })) []
-      (of_spread_has (λ s. IsCause q.graph s x) (subst (IsCause q.graph sp) named (told.0 is)), tt) (none_at_all q e))
+      (of_spread_has (λ s. IsCause q.graph s x) (told.0 is), tt) (none_at_all q e))
 
-  pub clash_refused : (x y : ClashCause) (b : Bool) → y ≡ x → (IsTrue b ↔ IsCause q.graph sp y) → b ≡ false
+  pub clash_refused : (x : ClashCause) (b : Bool) → (IsTrue b ↔ IsCause q.graph sp x) → b ≡ false
       → Finds q e (branch_parts sp.choice (Clash x)) (Some (record { part = 0; rule = 6 }))
-  clash_refused x y b named told is =
+  clash_refused x b told is =
       subst (λ ps. Finds q e ps (Some (record { part = 0; rule = 6 }))) (alone (Clash x) (λ c. refl))
       (found_first q e (Decided (record { choice = sp.choice; decision = Clash x })) []
       (record { part = 0; rule = 6 }) refl
-      (inl (
-        refl,
-        λ o. test_fails (IsCause q.graph sp y) b told is
-            (subst (IsCause q.graph sp) (sym named) (of_spread_is (λ s. IsCause q.graph s x) o)),
-      )))
+      (inl (refl, of_spread_fails (λ s. IsCause q.graph s x) b told is)))
 
   module _ (d f : ℕ) (m : Mark) where
     abbrev part : Part

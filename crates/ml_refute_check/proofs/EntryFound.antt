@@ -23,93 +23,95 @@ use Rattle.ml_refutation.specs.Refutation as plain
 use Rattle.ml_refutation.specs.Refutation.{IsRefutation, IsEntry, IsTraced}
 use Rattle.ml_refutation.specs.Acceptance as acceptance
 use Rattle.ml_refutation.specs.Acceptance.{entry_at, no_entry, parts, StandsIn, IsWellStarted}
-use Rattle.ml_refutation.specs.Views.{item_of, entry_of, of_parts}
+use Rattle.ml_refutation.specs.Views.{item_of}
 use Rattle.ml_refutation.specs.declared.refutation.Entry.{Entry}
 use Rattle.ml_refutation.specs.declared.refutation.Item.{Item}
+use Rattle.ml_refutation.specs.declared.refutation.Refutation as held
 use Rattle.ml_refute_check.specs.declared.finding.BadPart.{BadPart}
 use Rattle.ml_sequent.specs.declared.choice.Side.{Side}
 use Rattle.ml_sequent.specs.Spread.{SpreadList, IsSpreadOf, IsSpread}
-use Rattle.ml_refute_check.specs.private.Parts.{Question, Stands, KeepEach, FirstBadIn, Finds, IsEntryOf, front_parts, branch_parts}
+use Rattle.ml_refute_check.specs.private.Parts.{Question, question, plain_entry, Stands, KeepEach, FirstBadIn, Finds, IsEntryOf, front_parts, branch_parts}
 use Rattle.ml_refute_check.proofs.PartsFound.{keep_both, found_first, found_next, found_behind, found_before, none_next, none_behind, parts_are}
 
 module _ (q : Question) (e : ℕ) where
   abbrev sequent : List ℕ
   sequent = (entry_at q.refutation e).sequent
 
-  abbrev Stand : Item → Type 0
-  Stand a = StandsIn sequent (item_of a) q.graph
-
-  abbrev pub item_parts : List Item → List acceptance.Part
-  item_parts xs = map acceptance.Item (map item_of xs)
-
-  pub item_told : {entry : plain.Entry} {nodes odds : List ℕ} → IsEntryOf q e entry → (a : Item) (b : Bool)
-      → nodes ≡ entry.sequent
-      → odds ≡ odd_priorities q.graph
-      → (IsTrue b ↔ (IsMember a.node nodes × IsGuess odds a.odd))
-      → IsTrue b ↔ Stand a
-  item_told {nodes = nodes} is a b nodes_are odds_are told =
-      let same : nodes ≡ sequent = nodes_are ∙ sym (ap (λ (x : plain.Entry). x.sequent) is.is) in (
-        λ h. let both = told.0 h in record {
-          member = subst (IsMember a.node) same both.0;
-          occurs = subst (λ ds. IsGuess ds a.odd) odds_are both.1;
-        },
-        λ s. told.1 (
-          subst (IsMember a.node) (sym same) s.member,
-          subst (λ ds. IsGuess ds a.odd) (sym odds_are) s.occurs,
-        ),
-      )
-
-  one_item : (a : Item) → Stand a → KeepEach q e (item_parts (a ∷ []))
-  unfolding KeepEach
-  one_item a stands = ((stands, tt), tt)
-
   pub no_items : KeepEach q e []
   unfolding KeepEach
   no_items = tt
 
-  more_stand : (xs : List Item) (k : ℕ) (a : Item) → k < length xs → a ≡ get_or xs k a → Stand a
-      → KeepEach q e (item_parts (take k xs)) → KeepEach q e (item_parts (take (k + 1) xs))
-  more_stand xs k a low is stands keep =
-      subst (λ ys. KeepEach q e (item_parts ys)) (sym (take_more xs k a low))
-      (subst (KeepEach q e) (sym split)
-      (keep_both q e (item_parts (take k xs)) (item_parts (get_or xs k a ∷ [])) keep
-      (one_item (get_or xs k a) (subst Stand is stands))))
-    where
-      split : item_parts (take k xs ++ get_or xs k a ∷ []) ≡ item_parts (take k xs) ++ item_parts (get_or xs k a ∷ [])
-      split =
-          ap (map acceptance.Item) (map-append item_of (take k xs) (get_or xs k a ∷ []))
-          ∙ map-append acceptance.Item (map item_of (take k xs)) (map item_of (get_or xs k a ∷ []))
+  module _ (stacks : List (List ℕ)) where
+    abbrev Stand : Item → Type 0
+    Stand a = StandsIn sequent (item_of stacks a) q.graph
 
-  first_item : (xs : List Item) (k : ℕ) (a : Item) → k < length xs → a ≡ get_or xs k a → ¬ (Stand a)
-      → KeepEach q e (item_parts (take k xs)) → FirstBadIn q e (item_parts xs) k 4
-  unfolding FirstBadIn KeepEach
-  first_item [] k a low is fails keep = absurd (omega arith)
-  first_item (x ∷ xs) zero a low is fails keep = inl (refl, λ s. fails (subst Stand (sym is) s))
-  first_item (x ∷ xs) (suc k) a low is fails keep = (keep.0, first_item xs k a (omega arith) is fails keep.1)
+    abbrev pub item_parts : List Item → List acceptance.Part
+    item_parts xs = map acceptance.Item (map (item_of stacks) xs)
 
-  -- the next item of a list that is read as another one
-  module _ {xs ys : List Item} {a : Item} (k : ℕ) (same : ys ≡ xs) (low : k < length ys) (is : a ≡ get_or ys k a) where
-    abbrev here : k < length xs
-    here = subst (λ (zs : List Item). k < length zs) same low
+    pub item_told : {entry : plain.Entry} {nodes odds : List ℕ} → IsEntryOf q e entry → (a : Item) (b : Bool)
+        → nodes ≡ entry.sequent
+        → odds ≡ odd_priorities q.graph
+        → (IsTrue b ↔ (IsMember a.node nodes × IsGuess odds a.odd))
+        → IsTrue b ↔ Stand a
+    item_told {nodes = nodes} is a b nodes_are odds_are told =
+        let same : nodes ≡ sequent = nodes_are ∙ sym (ap (λ (x : plain.Entry). x.sequent) is.is) in (
+          λ h. let both = told.0 h in record {
+            member = subst (IsMember a.node) same both.0;
+            occurs = subst (λ ds. IsGuess ds a.odd) odds_are both.1;
+          },
+          λ s. told.1 (
+            subst (IsMember a.node) (sym same) s.member,
+            subst (λ ds. IsGuess ds a.odd) (sym odds_are) s.occurs,
+          ),
+        )
 
-    abbrev at_place : a ≡ get_or xs k a
-    at_place = is ∙ ap (λ (zs : List Item). get_or zs k a) same
+    one_item : (a : Item) → Stand a → KeepEach q e (item_parts (a ∷ []))
+    unfolding KeepEach
+    one_item a stands = ((stands, tt), tt)
 
-    pub items_more : Stand a → KeepEach q e (item_parts (take k xs)) → KeepEach q e (item_parts (take (k + 1) xs))
-    items_more stands keep = more_stand xs k a here at_place stands keep
+    more_stand : (xs : List Item) (k : ℕ) (a : Item) → k < length xs → a ≡ get_or xs k a → Stand a
+        → KeepEach q e (item_parts (take k xs)) → KeepEach q e (item_parts (take (k + 1) xs))
+    more_stand xs k a low is stands keep =
+        subst (λ ys. KeepEach q e (item_parts ys)) (sym (take_more xs k a low))
+        (subst (KeepEach q e) (sym split)
+        (keep_both q e (item_parts (take k xs)) (item_parts (get_or xs k a ∷ [])) keep
+        (one_item (get_or xs k a) (subst Stand is stands))))
+      where
+        split : item_parts (take k xs ++ get_or xs k a ∷ []) ≡ item_parts (take k xs) ++ item_parts (get_or xs k a ∷ [])
+        split =
+            ap (map acceptance.Item) (map-append (item_of stacks) (take k xs) (get_or xs k a ∷ []))
+            ∙ map-append acceptance.Item (map (item_of stacks) (take k xs)) (map (item_of stacks) (get_or xs k a ∷ []))
 
-    pub items_first : ¬ (Stand a)
+    first_item : (xs : List Item) (k : ℕ) (a : Item) → k < length xs → a ≡ get_or xs k a → ¬ (Stand a)
+        → KeepEach q e (item_parts (take k xs)) → FirstBadIn q e (item_parts xs) k 4
+    unfolding FirstBadIn KeepEach
+    first_item [] k a low is fails keep = absurd (omega arith)
+    first_item (x ∷ xs) zero a low is fails keep = inl (refl, λ s. fails (subst Stand (sym is) s))
+    first_item (x ∷ xs) (suc k) a low is fails keep = (keep.0, first_item xs k a (omega arith) is fails keep.1)
+
+    -- the next item of a list that is read as another one
+    module _ {xs ys : List Item} {a : Item} (k : ℕ) (same : ys ≡ xs) (low : k < length ys) (is : a ≡ get_or ys k a) where
+      abbrev here : k < length xs
+      here = subst (λ (zs : List Item). k < length zs) same low
+
+      abbrev at_place : a ≡ get_or xs k a
+      at_place = is ∙ ap (λ (zs : List Item). get_or zs k a) same
+
+      pub items_more : Stand a → KeepEach q e (item_parts (take k xs)) → KeepEach q e (item_parts (take (k + 1) xs))
+      items_more stands keep = more_stand xs k a here at_place stands keep
+
+      pub items_first : ¬ (Stand a)
+          → KeepEach q e (item_parts (take k xs))
+          → Finds q e (item_parts xs) (Some (record { part = k; rule = 4 }))
+      unfolding Finds
+      items_first fails keep = first_item xs k a here at_place fails keep
+
+    pub items_all : (xs : List Item) (k : ℕ)
+        → length xs ≤ k
         → KeepEach q e (item_parts (take k xs))
-        → Finds q e (item_parts xs) (Some (record { part = k; rule = 4 }))
+        → Finds q e (item_parts xs) None
     unfolding Finds
-    items_first fails keep = first_item xs k a here at_place fails keep
-
-  pub items_all : (xs : List Item) (k : ℕ)
-      → length xs ≤ k
-      → KeepEach q e (item_parts (take k xs))
-      → Finds q e (item_parts xs) None
-  unfolding Finds
-  items_all xs k past keep = subst (λ ys. KeepEach q e (item_parts ys)) (take_all k xs past) keep
+    items_all xs k past keep = subst (λ ys. KeepEach q e (item_parts ys)) (take_all k xs past) keep
 
   -- ---- the parts before the decision
 
@@ -129,14 +131,14 @@ module _ (q : Question) (e : ℕ) where
           λ w. told.1 (subst (All (λ n. n < size q.graph)) (sym same) w.in_graph, λ first. same ∙ w.starts first),
         )
 
-    pub live_told : (live : ℕ) (b : Bool) {items xs : List Item} → xs ≡ items
-        → entry.traces ≡ record { live = live; items = map item_of items }
-        → (IsTrue b ↔ EachNameStands (record { live = live; items = map item_of xs }))
+    pub live_told : (stacks : List (List ℕ)) (live : ℕ) (b : Bool) {items xs : List Item} → xs ≡ items
+        → entry.traces ≡ record { live = live; items = map (item_of stacks) items }
+        → (IsTrue b ↔ EachNameStands (record { live = live; items = map (item_of stacks) xs }))
         → IsTrue b ↔ EachNameStands (entry_at q.refutation e).traces
-    live_told live b same traces_are told =
+    live_told stacks live b same traces_are told =
         subst (λ (x : plain.Entry). IsTrue b ↔ EachNameStands x.traces) (sym is.is)
         (subst (λ t. IsTrue b ↔ EachNameStands t) (sym traces_are)
-        (subst (λ (ys : List Item). IsTrue b ↔ EachNameStands (record { live = live; items = map item_of ys })) same told))
+        (subst (λ (ys : List Item). IsTrue b ↔ EachNameStands (record { live = live; items = map (item_of stacks) ys })) same told))
 
     abbrev others : List acceptance.Part
     others = map acceptance.Item entry.traces.items
@@ -214,15 +216,15 @@ odds_ascend g odds is =
     subst IsAscending (sym is) (ascending-is (filter (λ d. d % 2 == 1) g.priorities))
 
 -- the names of an entry's items are in use
-pub live_low : (names live : ℕ) (items xs : List Item) → xs ≡ items
-    → IsTraced names (record { live = live; items = map item_of items })
-    → All (λ (a : Item). All (λ y. y < live) a.stack.value.items) xs
-live_low names live items xs same traced =
-    subst (All (λ (a : Item). All (λ y. y < live) a.stack.value.items)) (sym same)
+pub live_low : (stacks : List (List ℕ)) (names live : ℕ) (items xs : List Item) → xs ≡ items
+    → IsTraced names (record { live = live; items = map (item_of stacks) items })
+    → All (λ (a : Item). All (λ y. y < live) (get_or stacks a.stack [])) xs
+live_low stacks names live items xs same traced =
+    subst (All (λ (a : Item). All (λ y. y < live) (get_or stacks a.stack []))) (sym same)
     (λ k d low.
-    let is = get_or-map item_of items k d (item_of d) low in
+    let is = get_or-map (item_of stacks) items k d (item_of stacks d) low in
     subst (λ a. All (λ y. y < live) a.stack) is
-    (traced.are_items k (item_of d) (omega (arith, low, length-map items item_of))).is_stack.below)
+    (traced.are_items k (item_of stacks d) (omega (arith, low, length-map items (item_of stacks)))).is_stack.below)
 
 -- ---- the spread of an entry's sequent
 
@@ -252,17 +254,16 @@ start_stands q e entry nodes c sp h same is nodes_are low spread own = record {
 
 -- ---- an entry by its place
 
-pub entry_of_index : (g : Graph) (names : ℕ) (entries : Vec Entry) (place : ℕ) (x : Entry)
-    → IsRefutation (of_parts names entries)
-    → place < length entries.items
-    → x ≡ get_or entries.items place x
-    → IsEntryOf (record { graph = g; refutation = of_parts names entries }) place (entry_of x)
-entry_of_index g names entries place x is_refutation low is = record { is = here; is_entry = entry }
+pub entry_of_index : (g : Graph) (r : held.Refutation) (place : ℕ) (x : Entry)
+    → place < length r.entries.items
+    → x ≡ get_or r.entries.items place x
+    → IsEntryOf (question g r) place (plain_entry r x)
+entry_of_index g r place x low is = record { is = here; is_entry = entry }
   where
-    here : get_or (map entry_of entries.items) place no_entry ≡ entry_of x
-    here = get_or-map entry_of entries.items place x no_entry low ∙ ap entry_of (sym is)
+    here : get_or (map (plain_entry r) r.entries.items) place no_entry ≡ plain_entry r x
+    here = get_or-map (plain_entry r) r.entries.items place x no_entry low ∙ ap (plain_entry r) (sym is)
 
-    entry : IsEntry names (length (map entry_of entries.items)) (entry_of x)
+    entry : IsEntry r.names (length (map (plain_entry r) r.entries.items)) (plain_entry r x)
     entry =
-        subst (IsEntry names (length (map entry_of entries.items))) here
-        (is_refutation.are_entries place no_entry (omega (arith, length-map entries.items entry_of)))
+        subst (IsEntry r.names (length (map (plain_entry r) r.entries.items))) here
+        (r.is_refutation.are_entries place no_entry (omega (arith, length-map r.entries.items (plain_entry r))))

@@ -26,7 +26,7 @@ use Rattle.ml_sequent.specs.Step.{IsStep}
 use Rattle.ml_refutation.specs.declared.refutation.Item.{Item}
 use Rattle.ml_refutation.specs.Refutation.{AreAbove, guess_before}
 use Rattle.ml_refutation.specs.Views.{item_of}
-use Rattle.ml_refute_check.specs.private.Sources.{SourceAmong, HasSource, IsNameTraced, IsItemTraced, LeadInto, RiseByNode, led}
+use Rattle.ml_refute_check.specs.private.Sources.{stack_of, SourceAmong, HasSource, IsNameTraced, IsItemTraced, LeadInto, RiseByNode, led}
 
 -- ---- entries with one key
 
@@ -100,31 +100,31 @@ module _ {X : Type 0} where
 no_lower : (m n : ℕ) (guess : Bool) → (nat_lt m n || ((m == n) && guess)) ≡ true → m ≤ n
 no_lower m n guess is = grind (arith, nat_tests)
 
-rises : (before : Option AutomatonState) (items : List Item)
-    → AreAbove before (map (λ (a : traced.Item AutomatonState). a.state) (map item_of items))
+rises : (stacks : List (List ℕ)) (before : Option AutomatonState) (items : List Item)
+    → AreAbove before (map (λ (a : traced.Item AutomatonState). a.state) (map (item_of stacks) items))
     → (k : ℕ) (d : Item)
     → k + 1 < length items
     → (get_or items k d).node ≤ (get_or items (k + 1) d).node
-rises before [] above k d low = absurd (omega arith)
-rises before (a ∷ []) above k d low = absurd (omega arith)
-rises before (a ∷ b ∷ others) above zero d low = no_lower a.node b.node (guess_before a.odd b.odd) above.1.0
-rises before (a ∷ b ∷ others) above (suc k) d low =
+rises stacks before [] above k d low = absurd (omega arith)
+rises stacks before (a ∷ []) above k d low = absurd (omega arith)
+rises stacks before (a ∷ b ∷ others) above zero d low = no_lower a.node b.node (guess_before a.odd b.odd) above.1.0
+rises stacks before (a ∷ b ∷ others) above (suc k) d low =
     let next : suc (k + 1) ≡ suc k + 1 = omega arith in
     subst (λ (j : ℕ). (get_or (b ∷ others) k d).node ≤ (get_or (a ∷ b ∷ others) j d).node) next
-    (rises (Some (record { node = a.node; odd = a.odd })) (b ∷ others) above.1 k d (omega arith))
+    (rises stacks (Some (record { node = a.node; odd = a.odd })) (b ∷ others) above.1 k d (omega arith))
 
-pub rise_by_node : (items : List Item)
-    → AreAbove None (map (λ (a : traced.Item AutomatonState). a.state) (map item_of items))
+pub rise_by_node : (stacks : List (List ℕ)) (items : List Item)
+    → AreAbove None (map (λ (a : traced.Item AutomatonState). a.state) (map (item_of stacks) items))
     → RiseByNode items
-rise_by_node items above = IsNonDecreasingBy-from_all_adjacent (λ (a : Item). a.node) items (rises None items above)
+rise_by_node stacks items above = IsNonDecreasingBy-from_all_adjacent (λ (a : Item). a.node) items (rises stacks None items above)
 
 -- ---- sources among what is found
 
-module _ (odds : List ℕ) where
+module _ (stacks : List (List ℕ)) (odds : List ℕ) where
   pub among_at : (t : Triple) (y : ℕ) (progress : Bool) (items found : List Item) (behind : Item) (b : Bool)
       → ((a : Item) → IsMember a found ↔ (IsMember a items × (a.node ≡ t.from)))
-      → (IsTrue b ↔ SourceAmong odds t y progress found behind)
-      → IsTrue b ↔ SourceAmong odds t y progress items behind
+      → (IsTrue b ↔ SourceAmong stacks odds t y progress found behind)
+      → IsTrue b ↔ SourceAmong stacks odds t y progress items behind
   among_at t y progress items found behind b at told = (
     λ h. let s = told.0 h in record { item = s.item; member = ((at s.item).0 s.member).0; is_source = s.is_source },
     λ s. told.1 (record { item = s.item; member = (at s.item).1 (s.member, s.is_source.begins); is_source = s.is_source }),
@@ -132,38 +132,38 @@ module _ (odds : List ℕ) where
 
   module _ (traces found : List Triple) (items : List Item) (behind : Item)
       (at : (t : Triple) → IsMember t found ↔ (IsMember t traces × (t.to ≡ behind.node))) where
-    of_all : (y : ℕ) (progress : Bool) → HasSource odds traces y progress items behind
-        → HasSource odds found y progress items behind
+    of_all : (y : ℕ) (progress : Bool) → HasSource stacks odds traces y progress items behind
+        → HasSource stacks odds found y progress items behind
     of_all y progress s = record {
       trace = s.trace;
       member = (at s.trace).1 (s.member, sym s.among.is_source.ends);
       among = s.among;
     }
 
-    of_found : (y : ℕ) (progress : Bool) → HasSource odds found y progress items behind
-        → HasSource odds traces y progress items behind
+    of_found : (y : ℕ) (progress : Bool) → HasSource stacks odds found y progress items behind
+        → HasSource stacks odds traces y progress items behind
     of_found y progress s = record { trace = s.trace; member = ((at s.trace).0 s.member).0; among = s.among }
 
     module _ (bound : ℕ) (green : Option ℕ) where
-      name_of_all : (y : ℕ) → IsNameTraced odds traces bound green items y behind
-          → IsNameTraced odds found bound green items y behind
+      name_of_all : (y : ℕ) → IsNameTraced stacks odds traces bound green items y behind
+          → IsNameTraced stacks odds found bound green items y behind
       name_of_all y n = record {
         below = λ low. of_all y _ (n.below low);
         if_green = λ e. ((n.if_green e).0, of_all y true (n.if_green e).1);
       }
 
-      name_of_found : (y : ℕ) → IsNameTraced odds found bound green items y behind
-          → IsNameTraced odds traces bound green items y behind
+      name_of_found : (y : ℕ) → IsNameTraced stacks odds found bound green items y behind
+          → IsNameTraced stacks odds traces bound green items y behind
       name_of_found y n = record {
         below = λ low. of_found y _ (n.below low);
         if_green = λ e. ((n.if_green e).0, of_found y true (n.if_green e).1);
       }
 
-      pub traced_at : (b : Bool) → (IsTrue b ↔ IsItemTraced odds found bound green items behind)
-          → IsTrue b ↔ IsItemTraced odds traces bound green items behind
+      pub traced_at : (b : Bool) → (IsTrue b ↔ IsItemTraced stacks odds found bound green items behind)
+          → IsTrue b ↔ IsItemTraced stacks odds traces bound green items behind
       traced_at b told = (
-        λ h k z low. name_of_found (get_or behind.stack.value.items k z) (told.0 h k z low),
-        λ all. told.1 (λ k z low. name_of_all (get_or behind.stack.value.items k z) (all k z low)),
+        λ h k z low. name_of_found (get_or (stack_of stacks behind) k z) (told.0 h k z low),
+        λ all. told.1 (λ k z low. name_of_all (get_or (stack_of stacks behind) k z) (all k z low)),
       )
 
 -- the traces that lead to one of these nodes

@@ -48,5 +48,7 @@ pub mod AlikeGraphs
 pub mod OneVerdict
 -- checking a document finds something
 pub mod SomeVerdict
+-- branches that began with a sequent
+pub mod BegunBranches
 -- a side that was chosen on a branch is taken back
 pub mod TakenBack

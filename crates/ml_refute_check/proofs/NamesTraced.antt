@@ -21,7 +21,7 @@ use Rattle.ml_sequent.specs.Step.{IsTrace}
 use Rattle.ml_refutation.specs.declared.refutation.Item.{Item}
 use Rattle.ml_refutation.specs.Views.{item_of}
 use Rattle.ml_refutation.specs.GoStep.{GoStep, HasTransition}
-use Rattle.ml_refute_check.specs.private.Sources.{HasSource, IsNameTraced, IsItemTraced, AreInUse, LeadInto, green_of}
+use Rattle.ml_refute_check.specs.private.Sources.{stack_of, HasSource, IsNameTraced, IsItemTraced, AreInUse, LeadInto, green_of}
 use Rattle.ml_trace.proofs.Stacks.{has-member, member-has}
 
 green_is : (m : Mark) (x : ℕ) → green_of m ≡ Some x → m ≡ Green x
@@ -29,27 +29,27 @@ green_is (Red y) x e = absurd (cc)
 green_is (Green y) x e = ap Green (let names : y ≡ x = cc in names)
 green_is Neutral x e = absurd (cc)
 
-module _ (g : Graph) (step : GoStep) (traces : List Triple)
+module _ (stacks : List (List ℕ)) (g : Graph) (step : GoStep) (traces : List Triple)
     (given : (t : Triple)
     → IsMember t traces ↔ (IsTrace g step.sequent step.spread step.diamond t × IsMember t.to step.next))
     (live : ℕ) (items : List Item) where
   abbrev before : traced.Entry AutomatonState
-  before = record { live = live; items = map item_of items }
+  before = record { live = live; items = map (item_of stacks) items }
 
   abbrev odds : List ℕ
   odds = odd_priorities g
 
   abbrev Comes : ℕ → Item → Type 0
-  Comes y a = Predecessor (HasTransition g) step before y (item_of a)
+  Comes y a = Predecessor (HasTransition g) step before y (item_of stacks a)
 
   abbrev Gains : ℕ → Item → Type 0
-  Gains y a = Progress (HasTransition g) step before y (item_of a)
+  Gains y a = Progress (HasTransition g) step before y (item_of stacks a)
 
-  source_before : (y : ℕ) (p : Bool) (a : Item) → HasSource odds traces y p items a → Comes y a
+  source_before : (y : ℕ) (p : Bool) (a : Item) → HasSource stacks odds traces y p items a → Comes y a
   source_before y p a s = record {
-    item = item_of s.among.item;
+    item = item_of stacks s.among.item;
     accepting = s.among.is_source.accepting;
-    member = member-map item_of s.among.item items s.among.member;
+    member = member-map (item_of stacks) s.among.item items s.among.member;
     named = s.among.is_source.serves.0;
     transition = record {
       trace = s.trace;
@@ -61,16 +61,16 @@ module _ (g : Graph) (step : GoStep) (traces : List Triple)
     };
   }
 
-  source_gains : (y : ℕ) (a : Item) → HasSource odds traces y true items a → Gains y a
+  source_gains : (y : ℕ) (a : Item) → HasSource stacks odds traces y true items a → Gains y a
   unfolding source_before
   source_gains y a s = record { before = source_before y true a s; progress = s.among.is_source.serves.1 refl }
 
   before_source : (y : ℕ) (p : Bool) (a : Item) (h : Comes y a)
       → (p ≡ true → IsAdvanced y h.item.stack ⊎ (h.accepting ≡ true))
-      → HasSource odds traces y p items a
-  before_source y p a h progress = of_image (member-map_from item_of h.item items h.member)
+      → HasSource stacks odds traces y p items a
+  before_source y p a h progress = of_image (member-map_from (item_of stacks) h.item items h.member)
     where
-      of_image : Image item_of h.item items → HasSource odds traces y p items a
+      of_image : Image (item_of stacks) h.item items → HasSource stacks odds traces y p items a
       of_image i = record {
         trace = h.transition.trace;
         member = (given h.transition.trace).1 (h.transition.is_trace, h.transition.stays);
@@ -96,13 +96,13 @@ module _ (g : Graph) (step : GoStep) (traces : List Triple)
 
   module _ (m : Mark) (live_behind : ℕ) (items_behind : List Item) where
     abbrev behind : traced.Entry AutomatonState
-    behind = record { live = live_behind; items = map item_of items_behind }
+    behind = record { live = live_behind; items = map (item_of stacks) items_behind }
 
     abbrev Traced : Item → ℕ → Type 0
-    Traced a y = IsNameTraced odds traces (bound live m) (green_of m) items y a
+    Traced a y = IsNameTraced stacks odds traces (bound live m) (green_of m) items y a
 
     abbrev pub AllTraced : Type 0
-    AllTraced = All (λ (a : Item). All (Traced a) a.stack.value.items) items_behind
+    AllTraced = All (λ (a : Item). All (Traced a) (stack_of stacks a)) items_behind
 
     abbrev pub InUse : Type 0
     InUse =
@@ -114,67 +114,67 @@ module _ (g : Graph) (step : GoStep) (traces : List Triple)
 
     -- what holds of the items behind the step holds of their plain items
     of_items : (P : traced.Item AutomatonState → Type 0)
-        → ((i : Item) → IsMember i items_behind → P (item_of i))
+        → ((i : Item) → IsMember i items_behind → P (item_of stacks i))
         → (a : traced.Item AutomatonState)
-        → IsMember a (map item_of items_behind)
+        → IsMember a (map (item_of stacks) items_behind)
         → P a
     of_items P each a member =
-        let i = member-map_from item_of a items_behind member in subst P (sym i.holds) (each i.from i.member)
+        let i = member-map_from (item_of stacks) a items_behind member in subst P (sym i.holds) (each i.from i.member)
 
     pub condition_holds : InUse → AllTraced → Condition
     condition_holds in_force all = record {
       in_use = in_force.0;
       green_in_use = in_force.1;
       traced = λ y low. of_items (λ a. has y a.stack ≡ true → Predecessor (HasTransition g) step before y a)
-          (λ i member h. source_before y (not (ends_in y i.stack.value.items)) i ((name i member y h).below low));
+          (λ i member h. source_before y (not (ends_in y (stack_of stacks i))) i ((name i member y h).below low));
       advanced = λ y low. of_items (λ a. IsAdvanced y a.stack → Progress (HasTransition g) step before y a)
-          (λ i member h. source_gains y i (subst (λ p. HasSource odds traces y p items i) (ap not h.1) ((name i member y h.0).below low)));
+          (λ i member h. source_gains y i (subst (λ p. HasSource stacks odds traces y p items i) (ap not h.1) ((name i member y h.0).below low)));
       green_traced = λ x e. of_items (λ a. has x a.stack ≡ true → Progress (HasTransition g) step before x a)
           (λ i member h. source_gains x i ((name i member x h).if_green (ap green_of e)).1);
       green_reset = λ x e. of_items (λ a. IsAdvanced x a.stack → ⊥)
           (λ i member h. true≢false (sym ((name i member x h.0).if_green (ap green_of e)).0 ∙ h.1));
     }
       where
-        name : (i : Item) → IsMember i items_behind → (y : ℕ) → has y i.stack.value.items ≡ true → Traced i y
+        name : (i : Item) → IsMember i items_behind → (y : ℕ) → has y (stack_of stacks i) ≡ true → Traced i y
         name i member y h =
-            All-member (Traced i) i.stack.value.items
-            (All-member (λ (a : Item). All (Traced a) a.stack.value.items) items_behind all i member) y
-            (has-member y i.stack.value.items h)
+            All-member (Traced i) (stack_of stacks i)
+            (All-member (λ (a : Item). All (Traced a) (stack_of stacks a)) items_behind all i member) y
+            (has-member y (stack_of stacks i) h)
 
     pub condition_tells : Condition → InUse × AllTraced
     condition_tells n = (
       (n.in_use, n.green_in_use),
-      member-All (λ (a : Item). All (Traced a) a.stack.value.items) items_behind
-          (λ i member. member-All (Traced i) i.stack.value.items (λ y h. name i member y (member-has y i.stack.value.items h))),
+      member-All (λ (a : Item). All (Traced a) (stack_of stacks a)) items_behind
+          (λ i member. member-All (Traced i) (stack_of stacks i) (λ y h. name i member y (member-has y (stack_of stacks i) h))),
     )
       where
-        gains : (i : Item) (y : ℕ) → Gains y i → HasSource odds traces y true items i
+        gains : (i : Item) (y : ℕ) → Gains y i → HasSource stacks odds traces y true items i
         gains i y h = before_source y true i h.before (λ t. h.progress)
 
-        by_end : (i : Item) (member : IsMember i items_behind) (y : ℕ) → has y i.stack.value.items ≡ true → y < bound live m
-            → (ends_in y i.stack.value.items ≡ true) ⊎ (ends_in y i.stack.value.items ≡ false)
-            → HasSource odds traces y (not (ends_in y i.stack.value.items)) items i
+        by_end : (i : Item) (member : IsMember i items_behind) (y : ℕ) → has y (stack_of stacks i) ≡ true → y < bound live m
+            → (ends_in y (stack_of stacks i) ≡ true) ⊎ (ends_in y (stack_of stacks i) ≡ false)
+            → HasSource stacks odds traces y (not (ends_in y (stack_of stacks i))) items i
         by_end i member y h low (inl e) =
-            before_source y (not (ends_in y i.stack.value.items)) i
-            (n.traced y low (item_of i) (member-map item_of i items_behind member) h)
+            before_source y (not (ends_in y (stack_of stacks i))) i
+            (n.traced y low (item_of stacks i) (member-map (item_of stacks) i items_behind member) h)
             (λ t. absurd (true≢false (sym t ∙ ap not e)))
         by_end i member y h low (inr e) =
-            subst (λ p. HasSource odds traces y p items i) (sym (ap not e))
-            (gains i y (n.advanced y low (item_of i) (member-map item_of i items_behind member) (h, e)))
+            subst (λ p. HasSource stacks odds traces y p items i) (sym (ap not e))
+            (gains i y (n.advanced y low (item_of stacks i) (member-map (item_of stacks) i items_behind member) (h, e)))
 
-        is_last : (i : Item) (member : IsMember i items_behind) (y : ℕ) → has y i.stack.value.items ≡ true → m ≡ Green y
-            → (ends_in y i.stack.value.items ≡ true) ⊎ (ends_in y i.stack.value.items ≡ false)
-            → ends_in y i.stack.value.items ≡ true
+        is_last : (i : Item) (member : IsMember i items_behind) (y : ℕ) → has y (stack_of stacks i) ≡ true → m ≡ Green y
+            → (ends_in y (stack_of stacks i) ≡ true) ⊎ (ends_in y (stack_of stacks i) ≡ false)
+            → ends_in y (stack_of stacks i) ≡ true
         is_last i member y h e (inl t) = t
         is_last i member y h e (inr f) =
-            absurd (n.green_reset y e (item_of i) (member-map item_of i items_behind member) (h, f))
+            absurd (n.green_reset y e (item_of stacks i) (member-map (item_of stacks) i items_behind member) (h, f))
 
-        name : (i : Item) → IsMember i items_behind → (y : ℕ) → has y i.stack.value.items ≡ true → Traced i y
+        name : (i : Item) → IsMember i items_behind → (y : ℕ) → has y (stack_of stacks i) ≡ true → Traced i y
         name i member y h = record {
-          below = λ low. by_end i member y h low (cases_Bool (ends_in y i.stack.value.items));
+          below = λ low. by_end i member y h low (cases_Bool (ends_in y (stack_of stacks i)));
           if_green = λ e. (
-            is_last i member y h (green_is m y e) (cases_Bool (ends_in y i.stack.value.items)),
-            gains i y (n.green_traced y (green_is m y e) (item_of i) (member-map item_of i items_behind member) h),
+            is_last i member y h (green_is m y e) (cases_Bool (ends_in y (stack_of stacks i))),
+            gains i y (n.green_traced y (green_is m y e) (item_of stacks i) (member-map (item_of stacks) i items_behind member) h),
           );
         }
 
@@ -206,7 +206,7 @@ module _ (g : Graph) (step : GoStep) (traces : List Triple)
     step_refused used told not_used = not_in_use (λ h. true≢false (sym (told.1 (in_use_told h)) ∙ not_used))
 
 -- what the tests of a step tell, of the values that a program has
-pub kept_names : (g : Graph) (step : GoStep) (m : Mark) (odds next : List ℕ) (made traces ts : List Triple)
+pub kept_names : (stacks : List (List ℕ)) (g : Graph) (step : GoStep) (m : Mark) (odds next : List ℕ) (made traces ts : List Triple)
     (live live_behind low : ℕ) (green : Option ℕ) (items ins items_behind bs : List Item) (used b : Bool)
     → odds ≡ odd_priorities g
     → next ≡ step.next
@@ -219,13 +219,13 @@ pub kept_names : (g : Graph) (step : GoStep) (m : Mark) (odds next : List ℕ) (
     → green ≡ green_of m
     → (IsTrue used ↔ AreInUse low green live live_behind)
     → used ≡ true
-    → (IsTrue b ↔ All (IsItemTraced odds ts low green ins) bs)
+    → (IsTrue b ↔ All (IsItemTraced stacks odds ts low green ins) bs)
     → IsTrue b
-    ↔ NamesCondition (HasTransition g) step m (record { live = live; items = map item_of items })
-    (record { live = live_behind; items = map item_of items_behind })
-kept_names g step m odds next made traces ts live live_behind low green items ins items_behind bs used b odds_are
+    ↔ NamesCondition (HasTransition g) step m (record { live = live; items = map (item_of stacks) items })
+    (record { live = live_behind; items = map (item_of stacks) items_behind })
+kept_names stacks g step m odds next made traces ts live live_behind low green items ins items_behind bs used b odds_are
     next_is told into ts_are ins_are bs_are low_is green_is used_told is traced_told =
-    step_kept g step traces given live items m live_behind items_behind used b u2 is t6
+    step_kept stacks g step traces given live items m live_behind items_behind used b u2 is t6
   where
     given : (t : Triple)
         → IsMember t traces ↔ (IsTrace g step.sequent step.spread step.diamond t × IsMember t.to step.next)
@@ -240,14 +240,14 @@ kept_names g step m odds next made traces ts live live_behind low green items in
     u2 : IsTrue used ↔ AreInUse (bound live m) (green_of m) live live_behind
     u2 = subst (λ z. IsTrue used ↔ AreInUse (bound live m) z live live_behind) green_is u1
 
-    t3 : IsTrue b ↔ All (IsItemTraced odds traces low green items) items_behind
+    t3 : IsTrue b ↔ All (IsItemTraced stacks odds traces low green items) items_behind
     t3 =
-        subst (λ z. IsTrue b ↔ All (IsItemTraced odds z low green items) items_behind) ts_are
-        (subst (λ z. IsTrue b ↔ All (IsItemTraced odds ts low green z) items_behind) ins_are
-        (subst (λ z. IsTrue b ↔ All (IsItemTraced odds ts low green ins) z) bs_are traced_told))
+        subst (λ z. IsTrue b ↔ All (IsItemTraced stacks odds z low green items) items_behind) ts_are
+        (subst (λ z. IsTrue b ↔ All (IsItemTraced stacks odds ts low green z) items_behind) ins_are
+        (subst (λ z. IsTrue b ↔ All (IsItemTraced stacks odds ts low green ins) z) bs_are traced_told))
 
-    t6 : IsTrue b ↔ All (IsItemTraced (odd_priorities g) traces (bound live m) (green_of m) items) items_behind
+    t6 : IsTrue b ↔ All (IsItemTraced stacks (odd_priorities g) traces (bound live m) (green_of m) items) items_behind
     t6 =
-        subst (λ z. IsTrue b ↔ All (IsItemTraced z traces (bound live m) (green_of m) items) items_behind) odds_are
-        (subst (λ z. IsTrue b ↔ All (IsItemTraced odds traces (bound live m) z items) items_behind) green_is
-        (subst (λ z. IsTrue b ↔ All (IsItemTraced odds traces z green items) items_behind) low_is t3))
+        subst (λ z. IsTrue b ↔ All (IsItemTraced stacks z traces (bound live m) (green_of m) items) items_behind) odds_are
+        (subst (λ z. IsTrue b ↔ All (IsItemTraced stacks odds traces (bound live m) z items) items_behind) green_is
+        (subst (λ z. IsTrue b ↔ All (IsItemTraced stacks odds traces z green items) items_behind) low_is t3))

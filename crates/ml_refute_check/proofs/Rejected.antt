@@ -17,19 +17,19 @@ use Rattle.ml_front.specs.declared.problem.Problem.{Problem}
 use Rattle.ml_front.specs.declared.problem.TheConstants.{MOST_NODES}
 use Rattle.ml_refutation.specs.Refutation.{Entry}
 use Rattle.ml_refutation.specs.Acceptance.{entry_at, IsAccepted, IsFirstBad}
-use Rattle.ml_refutation.specs.Views.{of_parts, entry_of}
 use Rattle.ml_refutation.specs.declared.refutation.Refutation as held
 use Rattle.ml_refutation_text.specs.PartLines.{parts_from, entry_size}
 use Rattle.ml_refutation_text.specs.declared.lines.EntryLines.{EntryLines}
 use Rattle.ml_refutation_text.specs.declared.lines.Lines.{Lines}
 use Rattle.ml_refute_check.specs.Documents.{IsAcceptedDocument, IsDocument, IsMigrated, IsRejectedAt, document_of, formula_line, line_of}
+use Rattle.ml_refute_check.specs.private.Parts.{plain, plain_entry}
 use Rattle.ml_refute_check.specs.private.Shown.{IsShown}
 use Rattle.ml_front.proofs.Logics.{parsed_well}
 use Rattle.ml_refute_check.proofs.Accepted.{documents_read_back}
 
 pub document_of_shown : (text : List ℕ) (p : Problem) (r : held.Refutation) (lines : Lines)
     (shown : IsShown text p r lines)
-    → IsDocument text shown.version p (of_parts r.names r.entries)
+    → IsDocument text shown.version p (plain r)
 document_of_shown text p r lines shown = record {
   body = shown.body;
   has_head = shown.has_head;
@@ -47,20 +47,20 @@ length-parts v n (e ∷ es) = let rest = length-parts v (n + entry_size v e) es 
 pub as_many_lines : (text : List ℕ) (p : Problem) (r : held.Refutation) (lines : Lines) → IsShown text p r lines
     → length lines.entries.items ≡ length r.entries.items
 as_many_lines text p r lines shown =
-    ap length shown.are_lines.are_parts ∙ length-parts shown.version _ (map entry_of r.entries.items)
-    ∙ length-map r.entries.items entry_of
+    ap length shown.are_lines.are_parts ∙ length-parts shown.version _ (map (plain_entry r) r.entries.items)
+    ∙ length-map r.entries.items (plain_entry r)
 
 pub accepted_there : (text : List ℕ) (p : Problem) (r : held.Refutation) (lines : Lines)
     → IsShown text p r lines
     → (g : Graph)
     → IsGraphOf g p
     → IsClosed p
-    → IsAccepted g (of_parts r.names r.entries)
+    → IsAccepted g (plain r)
     → IsAcceptedDocument text
 accepted_there text p r lines shown g is_graph closed accepted = record {
   version = shown.version;
   problem = p;
-  refutation = of_parts r.names r.entries;
+  refutation = plain r;
   is_document = document_of_shown text p r lines shown;
   closed = closed;
   graph = g;
@@ -77,7 +77,7 @@ without_graph text p r lines shown large =
       record {
         version = shown.version;
         problem = p;
-        refutation = of_parts r.names r.entries;
+        refutation = plain r;
         is_document = document_of_shown text p r lines shown;
         has_large_closure = large;
       },
@@ -90,20 +90,20 @@ pub rejected_there : (text : List ℕ) (p : Problem) (r : held.Refutation) (line
     (g : Graph) (entry part number line : ℕ)
     → IsGraphOf g p
     → IsClosed p
-    → IsFirstBad g (of_parts r.names r.entries) entry part number
+    → IsFirstBad g (plain r) entry part number
     → ((at : EntryLines) → slice_get lines.entries.items entry ≡ Some at
-    → line ≡ line_of at (length (entry_at (of_parts r.names r.entries) entry).traces.items) part)
+    → line ≡ line_of at (length (entry_at (plain r) entry).traces.items) part)
     → IsRejectedAt text line number
 unfolding document_of_shown
 rejected_there text p r lines shown g entry part number line is_graph closed first told =
     let none : EntryLines = record { sequent = 0; live = 0; items = 0; heights = 0; decision = 0 } in
     let there =
     slice_get-get_or lines.entries.items entry none
-    (omega (arith, first.is_entry, as_many_lines text p r lines shown, length-map r.entries.items entry_of)) in
+    (omega (arith, first.is_entry, as_many_lines text p r lines shown, length-map r.entries.items (plain_entry r))) in
     inr (record {
       version = shown.version;
       problem = p;
-      refutation = of_parts r.names r.entries;
+      refutation = plain r;
       is_document = document_of_shown text p r lines shown;
       closed = closed;
       graph = g;
@@ -120,15 +120,15 @@ rejected_there text p r lines shown g entry part number line is_graph closed fir
 
 pub migrated : (text out : List ℕ) (p : Problem) (r : held.Refutation) (lines : Lines)
     → IsShown text p r lines
-    → out ≡ document_of p (of_parts r.names r.entries)
+    → out ≡ document_of p (plain r)
     → IsMigrated text out
 migrated text out p r lines shown is = record {
   version = shown.version;
   problem = p;
-  refutation = of_parts r.names r.entries;
+  refutation = plain r;
   is_document = document_of_shown text p r lines shown;
   is_written = is;
-  shows_the_same = subst (λ t. IsDocument t Two p (of_parts r.names r.entries)) (sym is)
-      (documents_read_back p (of_parts r.names r.entries)
+  shows_the_same = subst (λ t. IsDocument t Two p (plain r)) (sym is)
+      (documents_read_back p (plain r)
       (parsed_well shown.has_head.formula_text p.formula shown.has_head.is_parsed) r.is_refutation);
 }

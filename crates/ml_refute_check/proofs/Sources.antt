@@ -1,15 +1,21 @@
 -- Walks down a list, and what they have told so far.
 --
+--   no_item                                   == what is read where no item stands
 --   NoneBefore, none_more, none_at_all        == a search that has found nothing yet, one entry on, and at its end
 --   entry_member                              == what is read at a place is a member
 --   AllBefore, all_more, all_found, one_fails == a test of all entries that has passed so far, and one that fails
 --   KeptBefore, kept_more, kept_same, kept_all == the entries that are kept so far, one entry on, and at the end
-use Rattle.std.proofs.Common.{◌≡◌, ◌↔◌, ℕ, ◌+◌, ◌<◌, ◌≤◌, ◌⊎◌, inl, inr, Bool, true, false, List, [], ◌∷◌, ◌++◌, length, get_or, take, All, IsTrue, refl, sym, ◌∙◌, subst}
+use Rattle.std.proofs.Common.{◌≡◌, ◌↔◌, ℕ, ◌+◌, ◌<◌, ◌≤◌, ◌⊎◌, inl, inr, Bool, true, false, None, List, [], ◌∷◌, ◌++◌, length, get_or, take, All, IsTrue, refl, sym, ◌∙◌, subst}
 use Rattle.std.proofs.lemmas.Bool.{true≢false}
 use Rattle.std.proofs.lemmas.List.{take_all, take_more}
 use Rattle.ml_lists.specs.Member.{IsMember}
 use Rattle.ml_lists.proofs.Member.{All-member, place-member, member-append, member-append_left, member-append_right}
+use Rattle.ml_refutation.specs.declared.refutation.Item.{Item}
 use Rattle.ml_lists.proofs.Members.{All-more_read, All-read}
+
+-- what is read where no item stands
+abbrev pub no_item : Item
+no_item = record { node = 0; odd = None; stack = 0 }
 
 -- ---- a search down a list
 

@@ -3,12 +3,11 @@ ghost use Rattle.std.specs.Prelude.{◌≡◌, ◌↔◌, ◌<◌, ◌/◌, ◌*
 ghost use Rattle.ml_lists.specs.Ascending.{IsAscending};
 ghost use Rattle.ml_lists.specs.Member.{IsMember};
 ghost use Rattle.ml_parity.specs.HeightLists.{RowsFall};
-ghost use Rattle.ml_refutation.specs.Views.{mark_of};
 ghost use Rattle.ml_trace.specs.Automaton.{Leads};
 ghost use Rattle.ml_trace.specs.Marks.{priority};
 
 use crate::parts::has_number;
-use ml_refutation::Step;
+use ml_trace::Mark;
 
 /// Are all these nodes among the targets, which ascend?
 pub(crate) fn leads_within(targets: &[u32], next: &[u32]) -> bool
@@ -45,13 +44,13 @@ pub(crate) fn leads(
 }
 
 /// The priority of a mark, where neutral is above all names.
-pub(crate) fn mark_priority(names: u32, mark: Step) -> u64
-    ensures { result ≡ priority (2 * names) (mark_of mark) }
+pub(crate) fn mark_priority(names: u32, mark: Mark) -> u64
+    ensures { result ≡ priority (2 * names) mark }
 {
     match mark {
-        Step::Red(name) => 2 * u64::from(name),
-        Step::Green(name) => 2 * u64::from(name) + 1,
-        Step::Neutral => 2 * u64::from(names),
+        Mark::Red(name) => 2 * u64::from(name),
+        Mark::Green(name) => 2 * u64::from(name) + 1,
+        Mark::Neutral => 2 * u64::from(names),
     }
 }
 

@@ -26,10 +26,11 @@ pub fn check_refutation(
     graph: &ModalGraph,
     refutation: &Refutation,
 ) -> Result<Finding, NoMemory>
-    ensures { IfOk result (IsFinding graph.now (of_parts refutation.now.names refutation.now.entries)) }
+    ensures { IfOk result (IsFinding graph.now
+        (of_parts refutation.now.names refutation.now.sequents refutation.now.stacks refutation.now.entries)) }
 {
     let checker = Checker::new(alloc, graph, refutation)?;
-    let mut branch = KeptBranch::new(alloc, graph)?;
+    let mut branch = KeptBranch::new(alloc, graph, &refutation.sequents)?;
     for place in 0..refutation.entries.len() {
         match checker.check_entry(&mut branch, place)? {
             Some(bad) => return Ok(Finding::Rejected(Fault {

@@ -13,9 +13,9 @@ ghost use Rattle.ml_refutation.specs.Refutation.{IsDecided, IsMarkOf};
 ghost use Rattle.ml_sequent.specs.Choice.{with_side};
 ghost use Rattle.ml_sequent.specs.Spread.{SpreadList, IsOpenOr};
 ghost use Rattle.ml_sequent.specs.Step.{IsDiamondOf, IsStep};
-ghost use Rattle.ml_refutation.specs.Views.{cause_of, mark_of, decision_of, entry_of, item_of};
+ghost use Rattle.ml_refutation.specs.Views.{decision_of, item_of};
 ghost use Rattle.ml_refute_check.specs.private.Sources.{RiseByTarget};
-ghost use Rattle.ml_refute_check.specs.private.Parts.{Finds, Stands, IsEntryOf, Asks, question, front_parts, branch_parts, count_branches};
+ghost use Rattle.ml_refute_check.specs.private.Parts.{Finds, Stands, IsEntryOf, Asks, question, plain_entry, front_parts, branch_parts, count_branches};
 
 use crate::branches::{heights_fall, leads_within, mark_priority};
 use crate::finding::BadPart;
@@ -24,8 +24,9 @@ use crate::parts::{item_stands, names_stand, starts_well};
 use crate::stepping::{KeptBranch, KeptStep};
 use ml_base::NoMemory;
 use ml_graph::ModalGraph;
-use ml_refutation::{Cause, Decision, Entry, Refutation, Step};
+use ml_refutation::{Decision, Entry, Refutation};
 use ml_sequent::{ClashCause, Side};
+use ml_trace::Mark;
 use std::alloc::Global;
 
 /// A refutation that is checked in a graph, and the odd priorities of the graph.
@@ -61,9 +62,16 @@ impl<'a> Checker<'a> {
     /// An entry of the refutation.
     fn entry(&self, place: usize) -> &'a Entry
         requires { place < length self.now.refutation.now.entries.items }
-        ensures { IsEntryOf (question self.now.graph.now self.now.refutation.now) place (entry_of result.now) }
+        ensures { IsEntryOf (question self.now.graph.now self.now.refutation.now) place (plain_entry self.now.refutation.now result.now) }
     {
         &self.refutation.entries[place]
+    }
+
+    /// The sequent of an entry.
+    fn sequent(&self, entry: &Entry) -> &'a [u32]
+        ensures { result.now ≡ (plain_entry self.now.refutation.now entry.now).sequent }
+    {
+        self.refutation.sequents.at(entry.sequent)
     }
 
     /// The first bad part of an entry.
@@ -73,9 +81,11 @@ impl<'a> Checker<'a> {
         place: usize,
     ) -> Result<Option<BadPart>, NoMemory>
         requires asks { Asks self.now.graph.now self.now.odds.items }
-        requires graph { branch.old.graph ≡ self.now.graph.now }
+        requires graph { branch.old.on.graph ≡ self.now.graph.now }
+        requires sequents { branch.old.sequents ≡ self.now.refutation.now.sequents }
         requires place { place < length self.now.refutation.now.entries.items }
-        ensures graph { OnOk result (branch.new.graph ≡ branch.old.graph) }
+        ensures graph { OnOk result (branch.new.on.graph ≡ branch.old.on.graph) }
+        ensures sequents { OnOk result (branch.new.sequents ≡ branch.old.sequents) }
         ensures found { IfOk result (Finds (question self.now.graph.now self.now.refutation.now) place
             (parts (entry_at (question self.now.graph.now self.now.refutation.now).refutation place))) }
     {
@@ -92,14 +102,14 @@ impl<'a> Checker<'a> {
     /// The first bad one of the parts before the decision.
     fn check_front(&self, place: usize, entry: &Entry) -> Result<Option<BadPart>, NoMemory>
         requires asks { Asks self.now.graph.now self.now.odds.items }
-        requires entry { IsEntryOf (question self.now.graph.now self.now.refutation.now) place (entry_of entry.now) }
+        requires entry { IsEntryOf (question self.now.graph.now self.now.refutation.now) place (plain_entry self.now.refutation.now entry.now) }
         ensures { IfOk result (Finds (question self.now.graph.now self.now.refutation.now) place
-            (front_parts (entry_of entry.now))) }
+            (front_parts (plain_entry self.now.refutation.now entry.now))) }
     {
-        if !starts_well(self.graph, entry.sequent.as_slice(), place) {
+        if !starts_well(self.graph, self.sequent(entry), place) {
             return Ok(Some(BadPart { part: 0, rule: 2 }));
         }
-        if !names_stand(self.alloc, entry.live, &entry.items)? {
+        if !names_stand(self.alloc, &self.refutation.stacks, entry.live, &entry.items)? {
             return Ok(Some(BadPart { part: 1, rule: 3 }));
         }
         match self.check_items(place, entry) {
@@ -111,12 +121,12 @@ impl<'a> Checker<'a> {
     /// The first bad item.
     fn check_items(&self, place: usize, entry: &Entry) -> Option<BadPart>
         requires asks { Asks self.now.graph.now self.now.odds.items }
-        requires entry { IsEntryOf (question self.now.graph.now self.now.refutation.now) place (entry_of entry.now) }
+        requires entry { IsEntryOf (question self.now.graph.now self.now.refutation.now) place (plain_entry self.now.refutation.now entry.now) }
         ensures { Finds (question self.now.graph.now self.now.refutation.now) place
-            (map acceptance.Item (map item_of entry.now.items.items)) result }
+            (map acceptance.Item (map (item_of self.now.refutation.now.stacks) entry.now.items.items)) result }
     {
         for (k, item) in entry.items.iter().enumerate() {
-            if !item_stands(entry.sequent.as_slice(), &self.odds, item) {
+            if !item_stands(self.sequent(entry), &self.odds, item) {
                 return Some(BadPart { part: k, rule: 4 });
             }
         }
@@ -131,14 +141,16 @@ impl<'a> Checker<'a> {
         entry: &Entry,
     ) -> Result<Option<BadPart>, NoMemory>
         requires asks { Asks self.now.graph.now self.now.odds.items }
-        requires graph { branch.old.graph ≡ self.now.graph.now }
-        requires entry { IsEntryOf (question self.now.graph.now self.now.refutation.now) place (entry_of entry.now) }
-        requires low { All (λ n. n < size self.now.graph.now) entry.now.sequent.value.items }
-        ensures graph { OnOk result (branch.new.graph ≡ branch.old.graph) }
+        requires graph { branch.old.on.graph ≡ self.now.graph.now }
+        requires entry { IsEntryOf (question self.now.graph.now self.now.refutation.now) place (plain_entry self.now.refutation.now entry.now) }
+        requires sequents { branch.old.sequents ≡ self.now.refutation.now.sequents }
+        requires low { All (λ n. n < size self.now.graph.now) (plain_entry self.now.refutation.now entry.now).sequent }
+        ensures graph { OnOk result (branch.new.on.graph ≡ branch.old.on.graph) }
+        ensures sequents { OnOk result (branch.new.sequents ≡ branch.old.sequents) }
         ensures found { IfOk result (Finds (question self.now.graph.now self.now.refutation.now) place
             (branch_parts [] (decision_of entry.now.decision))) }
     {
-        branch.begin(entry.sequent.as_slice())?;
+        branch.begin(entry.sequent)?;
         self.check_decision(branch, place, entry, &entry.decision)
     }
 
@@ -152,14 +164,14 @@ impl<'a> Checker<'a> {
         decision: &Decision,
     ) -> Result<Option<BadPart>, NoMemory>
         requires asks { Asks self.now.graph.now self.now.odds.items }
-        requires graph { branch.old.graph ≡ self.now.graph.now }
-        requires entry { IsEntryOf (question self.now.graph.now self.now.refutation.now) place (entry_of entry.now) }
-        requires stands { Stands (question self.now.graph.now self.now.refutation.now) place branch.old.sequent branch.old.spread }
+        requires graph { branch.old.on.graph ≡ self.now.graph.now }
+        requires entry { IsEntryOf (question self.now.graph.now self.now.refutation.now) place (plain_entry self.now.refutation.now entry.now) }
+        requires stands { Stands (question self.now.graph.now self.now.refutation.now) place branch.old.on.sequent branch.old.on.spread }
         requires decided { IsDecided self.now.refutation.now.names
             (length self.now.refutation.now.entries.items) (decision_of decision.now) }
         ensures same { OnOk result (branch.new ≡ branch.old) }
         ensures found { IfOk result (Finds (question self.now.graph.now self.now.refutation.now) place
-            (branch_parts branch.old.spread.choice (decision_of decision.now))) }
+            (branch_parts branch.old.on.spread.choice (decision_of decision.now))) }
     {
         match decision {
             Decision::Split { node, left, right } => {
@@ -202,15 +214,15 @@ impl<'a> Checker<'a> {
         decision: &Decision,
     ) -> Result<Option<BadPart>, NoMemory>
         requires asks { Asks self.now.graph.now self.now.odds.items }
-        requires graph { branch.old.graph ≡ self.now.graph.now }
-        requires entry { IsEntryOf (question self.now.graph.now self.now.refutation.now) place (entry_of entry.now) }
-        requires stands { Stands (question self.now.graph.now self.now.refutation.now) place branch.old.sequent branch.old.spread }
-        requires open { IsOpenOr branch.old.graph branch.old.spread node }
+        requires graph { branch.old.on.graph ≡ self.now.graph.now }
+        requires entry { IsEntryOf (question self.now.graph.now self.now.refutation.now) place (plain_entry self.now.refutation.now entry.now) }
+        requires stands { Stands (question self.now.graph.now self.now.refutation.now) place branch.old.on.sequent branch.old.on.spread }
+        requires open { IsOpenOr branch.old.on.graph branch.old.on.spread node }
         requires decided { IsDecided self.now.refutation.now.names
             (length self.now.refutation.now.entries.items) (decision_of decision.now) }
         ensures same { OnOk result (branch.new ≡ branch.old) }
         ensures found { IfOk result (Finds (question self.now.graph.now self.now.refutation.now) place
-            (branch_parts (with_side branch.old.spread.choice node side) (decision_of decision.now))) }
+            (branch_parts (with_side branch.old.on.spread.choice node side) (decision_of decision.now))) }
     {
         branch.choose(node, side)?;
         let found = self.check_decision(branch, place, entry, decision)?;
@@ -223,16 +235,16 @@ impl<'a> Checker<'a> {
         &self,
         branch: &mut KeptBranch,
         place: usize,
-        cause: Cause,
+        cause: ClashCause,
     ) -> Result<Option<BadPart>, NoMemory>
         requires asks { Asks self.now.graph.now self.now.odds.items }
-        requires graph { branch.old.graph ≡ self.now.graph.now }
-        requires stands { Stands (question self.now.graph.now self.now.refutation.now) place branch.old.sequent branch.old.spread }
+        requires graph { branch.old.on.graph ≡ self.now.graph.now }
+        requires stands { Stands (question self.now.graph.now self.now.refutation.now) place branch.old.on.sequent branch.old.on.spread }
         ensures same { OnOk result (branch.new ≡ branch.old) }
         ensures found { IfOk result (Finds (question self.now.graph.now self.now.refutation.now) place
-            (branch_parts branch.old.spread.choice (plain.Clash (cause_of cause)))) }
+            (branch_parts branch.old.on.spread.choice (plain.Clash cause))) }
     {
-        if branch.is_cause(clash_cause(cause))? {
+        if branch.is_cause(cause)? {
             Ok(None)
         } else {
             Ok(Some(BadPart { part: 0, rule: 6 }))
@@ -247,17 +259,17 @@ impl<'a> Checker<'a> {
         entry: &Entry,
         diamond: u32,
         target: usize,
-        mark: Step,
+        mark: Mark,
     ) -> Result<Option<BadPart>, NoMemory>
         requires asks { Asks self.now.graph.now self.now.odds.items }
-        requires graph { branch.old.graph ≡ self.now.graph.now }
-        requires entry { IsEntryOf (question self.now.graph.now self.now.refutation.now) place (entry_of entry.now) }
-        requires stands { Stands (question self.now.graph.now self.now.refutation.now) place branch.old.sequent branch.old.spread }
+        requires graph { branch.old.on.graph ≡ self.now.graph.now }
+        requires entry { IsEntryOf (question self.now.graph.now self.now.refutation.now) place (plain_entry self.now.refutation.now entry.now) }
+        requires stands { Stands (question self.now.graph.now self.now.refutation.now) place branch.old.on.sequent branch.old.on.spread }
         requires target { target < length self.now.refutation.now.entries.items }
-        requires mark { IsMarkOf self.now.refutation.now.names (mark_of mark) }
+        requires mark { IsMarkOf self.now.refutation.now.names mark }
         ensures same { OnOk result (branch.new ≡ branch.old) }
         ensures found { IfOk result (Finds (question self.now.graph.now self.now.refutation.now) place
-            (branch_parts branch.old.spread.choice (plain.Go diamond target (mark_of mark)))) }
+            (branch_parts branch.old.on.spread.choice (plain.Go diamond target mark))) }
     {
         if !branch.has_diamond(diamond) {
             return Ok(Some(BadPart { part: 0, rule: 7 }));
@@ -275,28 +287,29 @@ impl<'a> Checker<'a> {
         entry: &Entry,
         step: &KeptStep,
         target: usize,
-        mark: Step,
+        mark: Mark,
     ) -> Option<BadPart>
         requires asks { Asks self.now.graph.now self.now.odds.items }
-        requires entry { IsEntryOf (question self.now.graph.now self.now.refutation.now) place (entry_of entry.now) }
+        requires entry { IsEntryOf (question self.now.graph.now self.now.refutation.now) place (plain_entry self.now.refutation.now entry.now) }
         requires target { target < length self.now.refutation.now.entries.items }
-        requires mark { IsMarkOf self.now.refutation.now.names (mark_of mark) }
+        requires mark { IsMarkOf self.now.refutation.now.names mark }
         requires rise { RiseByTarget step.now.traces.items }
         ensures { (nodes : List ℕ) (sp : SpreadList)
             → Stands (question self.now.graph.now self.now.refutation.now) place nodes sp
             → IsDiamondOf self.now.graph.now sp step.now.diamond
             → IsStep self.now.graph.now nodes sp step.now.diamond step.now.targets step.now.traces.items
             → Finds (question self.now.graph.now self.now.refutation.now) place
-            (branch_parts sp.choice (plain.Go step.now.diamond target (mark_of mark))) result }
+            (branch_parts sp.choice (plain.Go step.now.diamond target mark)) result }
     {
         let behind = self.entry(target);
-        if !leads_within(step.targets.values(), behind.sequent.as_slice()) {
+        if !leads_within(step.targets.values(), self.sequent(behind)) {
             return Some(BadPart { part: 0, rule: 8 });
         }
         if !keeps_names(
+            &self.refutation.stacks,
             &self.odds,
             &step.traces,
-            behind.sequent.as_slice(),
+            self.sequent(behind),
             mark,
             entry,
             behind,
@@ -311,17 +324,6 @@ impl<'a> Checker<'a> {
             return Some(BadPart { part: 0, rule: 10 });
         }
         None
-    }
-}
-
-/// The cause of a clash that a file names.
-fn clash_cause(cause: Cause) -> ClashCause
-    ensures { result ≡ cause_of cause }
-{
-    match cause {
-        Cause::False(node) => ClashCause::False(node),
-        Cause::Pair(positive, negative) => ClashCause::Pair(positive, negative),
-        Cause::Cycle(node) => ClashCause::Cycle(node),
     }
 }
 

@@ -2,9 +2,9 @@
 ghost use Rattle.std.specs.Prelude.{◌≡◌, ◌+◌, ◌<◌, Ok, Some, IfOk, IsErrOf, length, slice_get};
 ghost use Rattle.ml_base.specs.declared.doc_fault.DocFault.{DocFault};
 ghost use Rattle.ml_refutation.specs.Acceptance.{entry_at};
-ghost use Rattle.ml_refutation.specs.Views.{of_parts};
 ghost use Rattle.ml_refutation_text.specs.declared.lines.EntryLines.{EntryLines};
 ghost use Rattle.ml_refute_check.specs.Documents.{IsDocumentFault, IsMigrated, IsVerdict, HoldsNowhere, document_of, line_of};
+ghost use Rattle.ml_refute_check.specs.private.Parts.{plain};
 ghost use Rattle.ml_refute_check.specs.private.Shown.{IsShown};
 
 use crate::check_graph::check_refutation;
@@ -107,8 +107,7 @@ fn line_of_fault(shown: &Shown, fault: Fault) -> Result<u64, NoMemory>
     requires entry { fault.entry < length shown.now.refutation.entries.items }
     requires lines { length shown.now.lines.entries.items ≡ length shown.now.refutation.entries.items }
     ensures { IfOk result (λ line. (at : EntryLines) → slice_get shown.now.lines.entries.items fault.entry ≡ Some at
-        → line ≡ line_of at (length (entry_at (of_parts shown.now.refutation.names shown.now.refutation.entries)
-        fault.entry).traces.items) fault.part) }
+        → line ≡ line_of at (length (entry_at (plain shown.now.refutation) fault.entry).traces.items) fault.part) }
 {
     let at = shown.lines.entries[fault.entry];
     let items = shown.refutation.entries[fault.entry].items.as_slice();
@@ -163,7 +162,7 @@ pub fn migrate(alloc: Global, bytes: &[u8]) -> Result<Vec<u8>, DocRefusal>
 /// The version 2 document of what was read.
 fn write_document(alloc: Global, shown: &Shown) -> Result<Vec<u8>, NoMemory>
     ensures { IfOk result (λ text. text.items
-        ≡ document_of shown.now.problem (of_parts shown.now.refutation.names shown.now.refutation.entries)) }
+        ≡ document_of shown.now.problem (plain shown.now.refutation)) }
 {
     let mut text = write_head(alloc, &shown.problem, Answer::Unsatisfiable)?;
     append_refutation(alloc, &mut text, &shown.refutation, Version::Two)?;

@@ -6,7 +6,6 @@
 ghost use Rattle.std.specs.Prelude.{◌≡◌, ◌↔◌, ◌<◌, false, true, All, IsTrue};
 ghost use Rattle.ml_lists.specs.Ascending.{IsAscending};
 ghost use Rattle.ml_refute_check.specs.private.Sources.{IsSource, SourceAmong, HasSource, Serves, IsNameTraced, IsItemTraced, AreInUse, led, RiseByNode, RiseByTarget, green_of, traces_of};
-ghost use Rattle.ml_refutation.specs.Views.{mark_of};
 ghost use Rattle.ml_graph.specs.Graph.{Graph, odd_priorities};
 ghost use Rattle.ml_lists.specs.Member.{IsMember};
 ghost use Rattle.ml_refutation.specs.GoStep.{GoStep, HasTransition};
@@ -18,8 +17,8 @@ ghost use Rattle.ml_trace.specs.Stack.{has, ends_in};
 use crate::branches::leads;
 use crate::by_node::{items_at, traces_to};
 use crate::parts::has_number;
-use ml_refutation::{Entry, Item, Step};
-use ml_trace::Triple;
+use ml_refutation::{Entry, Item, Lists};
+use ml_trace::{Mark, Triple};
 
 /// Does the name stand in the stack?
 fn has(name: u32, stack: &[u32]) -> bool
@@ -52,6 +51,7 @@ fn serves(name: u32, progress: bool, stack: &[u32], accepting: bool) -> bool
 
 /// Does the trace lead from one item to another, so that the first one serves?
 fn is_source(
+    stacks: &Lists,
     odds: &[u32],
     trace: &Triple,
     name: u32,
@@ -60,19 +60,20 @@ fn is_source(
     behind: &Item,
 ) -> bool
     requires { IsAscending odds.now }
-    ensures { IsTrue result ↔ IsSource odds.now trace.now name progress item.now behind.now }
+    ensures { IsTrue result ↔ IsSource stacks.now odds.now trace.now name progress item.now behind.now }
 {
     if item.node != trace.from || behind.node != trace.to {
         return false;
     }
     match leads(odds, trace.lowest, item.odd, behind.odd) {
-        Some(accepting) => serves(name, progress, &item.stack, accepting),
+        Some(accepting) => serves(name, progress, stacks.at(item.stack), accepting),
         None => false,
     }
 }
 
 /// Does the trace lead to the item from one of these that serves?
 fn comes_along(
+    stacks: &Lists,
     odds: &[u32],
     trace: &Triple,
     name: u32,
@@ -81,10 +82,10 @@ fn comes_along(
     behind: &Item,
 ) -> bool
     requires { IsAscending odds.now }
-    ensures { IsTrue result ↔ SourceAmong odds.now trace.now name progress items.now behind.now }
+    ensures { IsTrue result ↔ SourceAmong stacks.now odds.now trace.now name progress items.now behind.now }
 {
     for item in items {
-        if is_source(odds, trace, name, progress, item, behind) {
+        if is_source(stacks, odds, trace, name, progress, item, behind) {
             return true;
         }
     }
@@ -93,6 +94,7 @@ fn comes_along(
 
 /// Does some trace lead to the item from one of these that serves?
 fn has_source(
+    stacks: &Lists,
     odds: &[u32],
     traces: &[Triple],
     name: u32,
@@ -102,10 +104,11 @@ fn has_source(
 ) -> bool
     requires odds { IsAscending odds.now }
     requires items { RiseByNode items.now }
-    ensures { IsTrue result ↔ HasSource odds.now traces.now name progress items.now behind.now }
+    ensures { IsTrue result ↔ HasSource stacks.now odds.now traces.now name progress items.now behind.now }
 {
     for trace in traces {
         if comes_along(
+            stacks,
             odds,
             trace,
             name,
@@ -121,6 +124,7 @@ fn has_source(
 
 /// Is the name of the item traced back, where it is below the bound or green?
 fn name_traced(
+    stacks: &Lists,
     odds: &[u32],
     traces: &[Triple],
     bound: u32,
@@ -131,21 +135,22 @@ fn name_traced(
 ) -> bool
     requires odds { IsAscending odds.now }
     requires items { RiseByNode items.now }
-    ensures { IsTrue result ↔ IsNameTraced odds.now traces.now bound green items.now name behind.now }
+    ensures { IsTrue result ↔ IsNameTraced stacks.now odds.now traces.now bound green items.now name behind.now }
 {
-    let is_last = ends_in(name, &behind.stack);
-    if name < bound && !has_source(odds, traces, name, !is_last, items, behind) {
+    let is_last = ends_in(name, stacks.at(behind.stack));
+    if name < bound && !has_source(stacks, odds, traces, name, !is_last, items, behind) {
         return false;
     }
     match green {
         Some(other) if other == name => is_last
-            && has_source(odds, traces, name, true, items, behind),
+            && has_source(stacks, odds, traces, name, true, items, behind),
         _ => true,
     }
 }
 
 /// Is each name of the item traced back, where it is below the bound or green?
 fn item_traced(
+    stacks: &Lists,
     odds: &[u32],
     traces: &[Triple],
     bound: u32,
@@ -155,10 +160,10 @@ fn item_traced(
 ) -> bool
     requires odds { IsAscending odds.now }
     requires items { RiseByNode items.now }
-    ensures { IsTrue result ↔ IsItemTraced odds.now traces.now bound green items.now behind.now }
+    ensures { IsTrue result ↔ IsItemTraced stacks.now odds.now traces.now bound green items.now behind.now }
 {
-    for name in behind.stack.as_slice() {
-        if !name_traced(odds, traces, bound, green, items, *name, behind) {
+    for name in stacks.at(behind.stack) {
+        if !name_traced(stacks, odds, traces, bound, green, items, *name, behind) {
             return false;
         }
     }
@@ -181,6 +186,7 @@ fn traces_into<'a>(traces: &'a [Triple], next: &[u32], node: u32) -> &'a [Triple
 /// Is each name of each item behind the step traced back along traces into these nodes, where it is below the bound or
 /// green?
 fn items_traced(
+    stacks: &Lists,
     odds: &[u32],
     traces: &[Triple],
     next: &[u32],
@@ -193,11 +199,11 @@ fn items_traced(
     requires traces { RiseByTarget traces.now }
     requires next { IsAscending next.now }
     requires items { RiseByNode items.now }
-    ensures { IsTrue result ↔ All (IsItemTraced odds.now (led next.now traces.now) bound green items.now) behind.now }
+    ensures { IsTrue result ↔ All (IsItemTraced stacks.now odds.now (led next.now traces.now) bound green items.now) behind.now }
 {
     for item in behind {
         let arriving = traces_into(traces, next, item.node);
-        if !item_traced(odds, arriving, bound, green, items, item) {
+        if !item_traced(stacks, odds, arriving, bound, green, items, item) {
             return false;
         }
     }
@@ -205,21 +211,21 @@ fn items_traced(
 }
 
 /// Below which names are traced.
-fn bound_of(live: u32, mark: Step) -> u32
-    ensures { result ≡ bound live (mark_of mark) }
+fn bound_of(live: u32, mark: Mark) -> u32
+    ensures { result ≡ bound live mark }
 {
     match mark {
-        Step::Red(name) | Step::Green(name) => name,
-        Step::Neutral => live,
+        Mark::Red(name) | Mark::Green(name) => name,
+        Mark::Neutral => live,
     }
 }
 
 /// The green name of the mark, if it has one.
-fn green_of(mark: Step) -> Option<u32>
-    ensures { result ≡ green_of (mark_of mark) }
+fn green_of(mark: Mark) -> Option<u32>
+    ensures { result ≡ green_of mark }
 {
     match mark {
-        Step::Green(name) => Some(name),
+        Mark::Green(name) => Some(name),
         _ => None,
     }
 }
@@ -242,10 +248,11 @@ fn are_in_use(bound: u32, green: Option<u32>, live: u32, live_behind: u32) -> bo
 /// Cost: for each item behind the step, the logarithm of the traces; and for each of its names the traces to its node up to
 /// one from an item that serves, each with a look-up of its node among the items before the step.
 pub(crate) fn keeps_names(
+    stacks: &Lists,
     odds: &[u32],
     made: &[Triple],
     next: &[u32],
-    mark: Step,
+    mark: Mark,
     before: &Entry,
     behind: &Entry,
 ) -> bool
@@ -258,12 +265,12 @@ pub(crate) fn keeps_names(
         → next.now ≡ step.next
         → ((t : Triple) → IsMember t made.now ↔ IsTrace g step.sequent step.spread step.diamond t)
         → IsTrue result
-        ↔ NamesCondition (HasTransition g) step (mark_of mark) (traces_of before.now) (traces_of behind.now) }
+        ↔ NamesCondition (HasTransition g) step mark (traces_of stacks.now before.now) (traces_of stacks.now behind.now) }
 {
     let bound = bound_of(before.live, mark);
     let green = green_of(mark);
     if !are_in_use(bound, green, before.live, behind.live) {
         return false;
     }
-    items_traced(odds, made, next, bound, green, &before.items, &behind.items)
+    items_traced(stacks, odds, made, next, bound, green, &before.items, &behind.items)
 }

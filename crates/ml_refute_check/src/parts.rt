@@ -10,7 +10,7 @@ ghost use Rattle.ml_trace.specs.Stack.{has};
 
 use ml_base::NoMemory;
 use ml_graph::ModalGraph;
-use ml_refutation::Item;
+use ml_refutation::{Item, Lists};
 use std::alloc::Global;
 
 /// Are these nodes of the graph, and those of the first entry the root alone?
@@ -44,14 +44,15 @@ fn is_one(numbers: &[u32], number: u32) -> bool
 }
 
 /// Does each name in use stand in some item? Items are looked at up to one with which all do.
-pub(crate) fn names_stand(alloc: Global, live: u32, items: &[Item]) -> Result<bool, NoMemory>
-    requires { All (λ a. All (λ y. y < live) a.stack.value.items) items.now }
-    ensures { IfOk result (λ b. IsTrue b ↔ EachNameStands (record { live = live; items = map item_of items.now })) }
+pub(crate) fn names_stand(alloc: Global, stacks: &Lists, live: u32, items: &[Item]) -> Result<bool, NoMemory>
+    requires { All (λ a. All (λ y. y < live) (slice_index_or stacks.now a.stack [])) items.now }
+    ensures { IfOk result (λ b. IsTrue b
+        ↔ EachNameStands (record { live = live; items = map (item_of stacks.now) items.now })) }
 {
     let mut stand = vec![in alloc; false; live as usize]?;
     let mut set = 0;
     for item in items {
-        note(&item.stack, &mut stand);
+        note(stacks.at(item.stack), &mut stand);
         set = set_front(&stand, set);
         if set == stand.len() {
             return Ok(true);

@@ -1,12 +1,13 @@
 // A branch that keeps what was made on it last.
 //
-// Entries with one sequent begin at one branch, and where nothing was chosen on it since, it needn't begin anew. So it
-// is with a step along a diamond, which serves each `go` along it, up to the next choice or sequent. Contracts see the
-// branch alone.
+// Entries with one sequent begin at one branch, and where each choice on it was taken back it needn't begin anew: two
+// entries have one sequent where they name the same place, and else where the lists there are equal. So it is with a step
+// along a diamond, which serves each `go` along it, up to the next choice or sequent. Contracts see the branch, and the
+// sequents.
 ghost use Rattle.std.specs.Prelude.{◌≡◌, ◌<◌, ◌↔◌, ℕ, List, [], ◌∷◌, All, IfOk, OnOk, IsTrue};
 ghost use Rattle.ml_graph.specs.Graph.{size};
 ghost use Rattle.ml_lists.specs.Ascending.{IsAscending};
-ghost use Rattle.ml_refute_check.specs.private.Stepping.{IsBegunWith, IsStepOn};
+ghost use Rattle.ml_refute_check.specs.private.Stepping.{IsBegun, IsStepOn, list_at};
 ghost use Rattle.ml_sequent.specs.Branch.{undone};
 ghost use Rattle.ml_sequent.specs.Choice.{with_side};
 ghost use Rattle.ml_sequent.specs.Spread.{IsSpread, IsSpreadOf, IsCause, IsOpenOr};
@@ -15,6 +16,7 @@ ghost use Rattle.ml_sequent.specs.Step.{IsDiamondOf};
 use crate::by_node::sort_by_target;
 use ml_base::NoMemory;
 use ml_graph::ModalGraph;
+use ml_refutation::Lists;
 use ml_sequent::{Branch, ClashCause, Sequent, Side};
 use ml_trace::Triple;
 use std::alloc::Global;
@@ -28,109 +30,129 @@ pub(crate) struct KeptStep {
     pub(crate) traces: Vec<Triple>,
 }
 
-/// A branch with the step that was made on it last.
+/// A branch of sequents of a refutation, with the step that was made on it last.
 #[derive(Drop)]
 pub(crate) struct KeptBranch<'a> {
     branch: Branch<'a>,
-    /// Is it known that no side was chosen since it began?
-    begun: bool,
+    sequents: &'a Lists,
+    /// The place of the sequent with which it began, if that is known.
+    place: Option<usize>,
     last: Option<KeptStep>,
     alloc: Global,
 }
 
 impl<'a> Model for KeptBranch<'a> {
     ghost use Rattle.std.specs.Prelude.{IfSome};
-    ghost use Rattle.ml_sequent.specs.Branch.{BranchList};
-    ghost use Rattle.ml_refute_check.specs.private.Stepping.{IsBegun, IsStepOn};
+    ghost use Rattle.ml_refute_check.specs.private.Stepping.{KeptList, IsBegun, IsStepOn};
 
-    ghost Value = { BranchList };
+    ghost Value = { KeptList };
 
-    ghost view = { λ a. a.branch };
+    ghost view = { λ a. record { on = a.branch; sequents = a.sequents.now } };
 
     ghost invariant = { λ a. record {
-      begun : IsBegun a.begun a.branch;
+      begun : IfSome a.place (IsBegun a.branch a.sequents.now);
       last : IfSome a.last (IsStepOn a.branch);
     } };
 }
 
 impl<'a> KeptBranch<'a> {
-    /// A branch of a graph, on which nothing was begun.
-    pub(crate) fn new(alloc: Global, graph: &'a ModalGraph) -> Result<KeptBranch<'a>, NoMemory>
-        ensures { IfOk result (λ branch. branch.graph ≡ graph.now) }
+    /// A branch in a graph of these sequents, with none of which it has begun.
+    pub(crate) fn new(
+        alloc: Global,
+        graph: &'a ModalGraph,
+        sequents: &'a Lists,
+    ) -> Result<KeptBranch<'a>, NoMemory>
+        ensures graph { IfOk result (λ branch. branch.on.graph ≡ graph.now) }
+        ensures sequents { IfOk result (λ branch. branch.sequents ≡ sequents.now) }
     {
         Ok(KeptBranch {
             branch: Branch::new(alloc, graph)?,
-            begun: false,
+            sequents,
+            place: None,
             last: None,
             alloc,
         })
     }
 
-    /// Begins with the sequent of these nodes and no side chosen, anew unless it stands there.
-    pub(crate) fn begin(&mut self, nodes: &[u32]) -> Result<(), NoMemory>
-        requires low { All (λ n. n < size self.old.graph) nodes.now }
-        requires ascends { IsAscending nodes.now }
-        ensures graph { self.new.graph ≡ self.old.graph }
-        ensures sequent { OnOk result (self.new.sequent ≡ nodes.now) }
-        ensures of { OnOk result (IsSpreadOf self.old.graph nodes.now [] self.new.spread) }
-        ensures is_spread { OnOk result (IsSpread self.old.graph self.new.spread) }
+    /// Begins with the sequent at a place and no side chosen, anew unless it stands there.
+    ///
+    /// Cost: constant where it stands there with the sequent at this very place.
+    pub(crate) fn begin(&mut self, place: usize) -> Result<(), NoMemory>
+        requires low { All (λ n. n < size self.old.on.graph) (list_at self.old.sequents place) }
+        requires ascends { IsAscending (list_at self.old.sequents place) }
+        ensures graph { self.new.on.graph ≡ self.old.on.graph }
+        ensures sequents { self.new.sequents ≡ self.old.sequents }
+        ensures sequent { OnOk result (self.new.on.sequent ≡ list_at self.old.sequents place) }
+        ensures of { OnOk result (IsSpreadOf self.old.on.graph (list_at self.old.sequents place) [] self.new.on.spread) }
+        ensures is_spread { OnOk result (IsSpread self.old.on.graph self.new.on.spread) }
     {
-        if self.stands_at(nodes) {
+        if self.stands_at(place) {
+            self.place = Some(place);
             return Ok(());
         }
-        self.begun = false;
+        self.place = None;
         self.last = None;
-        let sequent = Sequent::of(self.alloc, nodes)?;
+        let sequent = Sequent::of(self.alloc, self.sequents.at(place))?;
         self.branch.begin(sequent)?;
-        self.begun = true;
+        self.place = Some(place);
         Ok(())
     }
 
-    // is it known that it stands at the beginning, with the sequent of these nodes?
-    fn stands_at(&self, nodes: &[u32]) -> bool
-        ensures { IsTrue result → IsBegunWith self.now nodes.now }
+    // is it known that it stands at the beginning, with the sequent at this place?
+    fn stands_at(&self, place: usize) -> bool
+        ensures { IsTrue result → IsBegun self.now.on self.now.sequents place × (self.now.on.spread.choice ≡ []) }
     {
-        if !self.begun {
-            return false;
+        match self.place {
+            Some(other) => self.branch.choice().is_empty() && self.is_same(other, place),
+            None => false,
         }
-        self.branch.sequent().values() == nodes
+    }
+
+    // have these places one sequent?
+    fn is_same(&self, one: usize, other: usize) -> bool
+        ensures { IsTrue result → list_at self.now.sequents one ≡ list_at self.now.sequents other }
+    {
+        one == other || self.sequents.at(one) == self.sequents.at(other)
     }
 
     /// Chooses a side, as `Branch::choose` does.
     pub(crate) fn choose(&mut self, node: u32, side: Side) -> Result<(), NoMemory>
-        requires spread { IsSpread self.old.graph self.old.spread }
-        requires node { IsOpenOr self.old.graph self.old.spread node }
-        ensures graph { self.new.graph ≡ self.old.graph }
-        ensures sequent { self.new.sequent ≡ self.old.sequent }
-        ensures before { OnOk result (self.new.before ≡ self.old.spread ∷ self.old.before) }
-        ensures of { OnOk result ((C : List ℕ) → IsSpreadOf self.old.graph C self.old.spread.choice self.old.spread
-            → IsSpreadOf self.old.graph C (with_side self.old.spread.choice node side) self.new.spread) }
-        ensures is_spread { OnOk result (IsSpread self.old.graph self.new.spread) }
+        requires spread { IsSpread self.old.on.graph self.old.on.spread }
+        requires node { IsOpenOr self.old.on.graph self.old.on.spread node }
+        ensures graph { self.new.on.graph ≡ self.old.on.graph }
+        ensures sequents { self.new.sequents ≡ self.old.sequents }
+        ensures sequent { self.new.on.sequent ≡ self.old.on.sequent }
+        ensures before { OnOk result (self.new.on.before ≡ self.old.on.spread ∷ self.old.on.before) }
+        ensures of { OnOk result ((C : List ℕ) → IsSpreadOf self.old.on.graph C self.old.on.spread.choice self.old.on.spread
+            → IsSpreadOf self.old.on.graph C (with_side self.old.on.spread.choice node side) self.new.on.spread) }
+        ensures is_spread { OnOk result (IsSpread self.old.on.graph self.new.on.spread) }
     {
-        self.begun = false;
+        let place = self.place.take();
         self.last = None;
-        self.branch.choose(node, side)
+        self.branch.choose(node, side)?;
+        self.place = place;
+        Ok(())
     }
 
     /// Takes back the last choice, if one was made.
     pub(crate) fn undo(&mut self)
-        ensures { self.new ≡ undone self.old }
+        ensures branch { self.new.on ≡ undone self.old.on }
+        ensures sequents { self.new.sequents ≡ self.old.sequents }
     {
-        self.begun = false;
         self.last = None;
         self.branch.undo();
     }
 
     /// Is this an or-node of the spread, without a choice?
     pub(crate) fn is_open_or(&self, node: u32) -> bool
-        ensures { IsTrue result ↔ IsOpenOr self.now.graph self.now.spread node }
+        ensures { IsTrue result ↔ IsOpenOr self.now.on.graph self.now.on.spread node }
     {
         self.branch.is_open_or(node)
     }
 
     /// Is this a diamond of the spread?
     pub(crate) fn has_diamond(&self, node: u32) -> bool
-        ensures { IsTrue result ↔ IsDiamondOf self.now.graph self.now.spread node }
+        ensures { IsTrue result ↔ IsDiamondOf self.now.on.graph self.now.on.spread node }
     {
         self.branch.has_diamond(node)
     }
@@ -138,17 +160,17 @@ impl<'a> KeptBranch<'a> {
     /// Is this a cause of a clash in the spread?
     pub(crate) fn is_cause(&mut self, cause: ClashCause) -> Result<bool, NoMemory>
         ensures same { self.new ≡ self.old }
-        ensures cause { IfOk result (λ b. IsTrue b ↔ IsCause self.old.graph self.old.spread cause) }
+        ensures cause { IfOk result (λ b. IsTrue b ↔ IsCause self.old.on.graph self.old.on.spread cause) }
     {
         self.branch.is_cause(cause)
     }
 
     /// The step along a diamond, made unless it is the one that is kept, which is taken.
     pub(crate) fn take_step(&mut self, diamond: u32) -> Result<KeptStep, NoMemory>
-        requires spread { IsSpreadOf self.old.graph self.old.sequent self.old.spread.choice self.old.spread }
-        requires diamond { IsDiamondOf self.old.graph self.old.spread diamond }
+        requires spread { IsSpreadOf self.old.on.graph self.old.on.sequent self.old.on.spread.choice self.old.on.spread }
+        requires diamond { IsDiamondOf self.old.on.graph self.old.on.spread diamond }
         ensures same { self.new ≡ self.old }
-        ensures step { IfOk result (IsStepOn self.old) }
+        ensures step { IfOk result (IsStepOn self.old.on) }
         ensures diamond { IfOk result (λ step. step.diamond ≡ diamond) }
     {
         match self.last.take() {
@@ -159,10 +181,10 @@ impl<'a> KeptBranch<'a> {
 
     // the step along a diamond
     fn make_step(&mut self, diamond: u32) -> Result<KeptStep, NoMemory>
-        requires spread { IsSpreadOf self.old.graph self.old.sequent self.old.spread.choice self.old.spread }
-        requires diamond { IsDiamondOf self.old.graph self.old.spread diamond }
+        requires spread { IsSpreadOf self.old.on.graph self.old.on.sequent self.old.on.spread.choice self.old.on.spread }
+        requires diamond { IsDiamondOf self.old.on.graph self.old.on.spread diamond }
         ensures same { self.new ≡ self.old }
-        ensures step { IfOk result (IsStepOn self.old) }
+        ensures step { IfOk result (IsStepOn self.old.on) }
         ensures diamond { IfOk result (λ step. step.diamond ≡ diamond) }
     {
         let (targets, made) = self.branch.step(diamond)?;
@@ -177,7 +199,7 @@ impl<'a> KeptBranch<'a> {
 
     /// Keeps a step of this branch.
     pub(crate) fn keep(&mut self, step: KeptStep)
-        requires { IsStepOn self.old step }
+        requires { IsStepOn self.old.on step }
         ensures { self.new ≡ self.old }
     {
         self.last = Some(step);

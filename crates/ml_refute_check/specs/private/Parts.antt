@@ -1,7 +1,9 @@
 -- What checking parts in a row finds. (Private: nobody has to believe it.)
 --
+--   plain r              == the plain refutation that a refutation of the program stands for
 --   Question             == a graph, and a refutation that is checked in it
 --   question g r         == the question of a refutation as the program holds it
+--   plain_entry r e      == the plain entry that an entry of the refutation r stands for
 --   Asks g odds          == g is a graph, and odds are the odd priorities that occur there
 --   Keeps q e part       == the part of entry e keeps its rules
 --   KeepEach q e ps      == so does each of the parts ps
@@ -19,17 +21,26 @@ use Rattle.ml_graph.specs.Graph.{Graph, IsGraph, size, odd_priorities}
 use Rattle.ml_sequent.specs.declared.choice.Side.{Side}
 use Rattle.ml_sequent.specs.Spread.{SpreadList, IsSpreadOf, IsSpread}
 use Rattle.ml_refutation.specs.Refutation.{Refutation, Entry, Decision, Split, Clash, Go, IsEntry}
-use Rattle.ml_refutation.specs.Views.{of_parts}
+use Rattle.ml_refutation.specs.Views.{of_parts, entry_of}
 use Rattle.ml_refutation.specs.declared.refutation.Refutation as held
+use Rattle.ml_refutation.specs.declared.refutation.Entry as program
 use Rattle.ml_refutation.specs.Acceptance.{entry_at, Part, Sequent, Live, Item, Decided, branches, rules}
 use Rattle.ml_refute_check.specs.declared.finding.BadPart.{BadPart}
+
+-- the plain refutation
+abbrev pub plain : held.Refutation → Refutation
+plain r = of_parts r.names r.sequents r.stacks r.entries
 
 pub record Question : Type 0 where
   pub graph : Graph
   pub refutation : Refutation
 
 abbrev pub question : Graph → held.Refutation → Question
-question g r = record { graph = g; refutation = of_parts r.names r.entries }
+question g r = record { graph = g; refutation = plain r }
+
+-- the plain entry, by the lists of the refutation
+abbrev pub plain_entry : held.Refutation → program.Entry → Entry
+plain_entry r e = entry_of r.sequents r.stacks e
 
 -- what the checker knows of the graph, and the odd priorities that occur there
 pub record Asks (g : Graph) (odds : List ℕ) : Type 0 where

@@ -2,18 +2,19 @@
 --
 --   Serves y progress s acc     == y stands in the stack s; where progress is asked for, it isn't last there, or acc is
 --                                  true
---   IsSource odds t y p i a     == the trace t leads from the item i to the item a, and i serves for the name y
---   SourceAmong odds t y p is a == it leads so from some of the items is
---   HasSource odds ts y p is a  == some of the traces ts does
---   IsNameTraced odds ts b green is y a == the name y of a is traced back, where it is below the bound b or green
---   IsItemTraced odds ts b green is a == each name of a is
+--   stack_of ks a               == the stack of the item a, by the stacks ks
+--   IsSource ks odds t y p i a  == the trace t leads from the item i to the item a, and i serves for the name y
+--   SourceAmong ks odds t y p is a == it leads so from some of the items is
+--   HasSource ks odds ts y p is a == some of the traces ts does
+--   IsNameTraced ks odds ts b green is y a == the name y of a is traced back, where it is below the bound b or green
+--   IsItemTraced ks odds ts b green is a == each name of a is
 --   green_of m                  == the green name of the mark, if it has one
 --   AreInUse b green live behind == bound and green name are in use before and behind the step
---   traces_of e                 == the items and the names in use of an entry
+--   traces_of ks e              == the items and the names in use of an entry
 --   LeadInto next made ts       == ts are those of made that lead to one of the nodes next
 --   led next made               == those traces themselves
 --   RiseByNode is, RiseByTarget ts == the nodes of the items is, the targets of the traces ts don't descend
-use Rattle.std.specs.Prelude.{ℕ, ◌≡◌, ◌⊎◌, ◌↔◌, ◌<◌, ◌≤◌, nat_eq, Bool, true, not, List, Option, None, Some, All, map}
+use Rattle.std.specs.Prelude.{ℕ, ◌≡◌, ◌⊎◌, ◌↔◌, ◌<◌, ◌≤◌, nat_eq, Bool, true, not, List, [], Option, None, Some, All, map, slice_index_or}
 use Rattle.std.specs.List.{filter, list_any}
 use Rattle.std.specs.List.Sorted.{IsNonDecreasingBy}
 use Rattle.ml_lists.specs.Member.{IsMember}
@@ -32,35 +33,39 @@ abbrev pub Serves : ℕ → Bool → List ℕ → Bool → Type 0
 Serves y progress stack accepting =
     (has y stack ≡ true) × (progress ≡ true → IsAdvanced y stack ⊎ (accepting ≡ true))
 
-pub record IsSource (odds : List ℕ) (t : Triple) (y : ℕ) (progress : Bool) (item behind : Item) : Type 0 where
+-- the stack of an item, by the stacks that it names
+abbrev pub stack_of : List (List ℕ) → Item → List ℕ
+stack_of stacks a = slice_index_or stacks a.stack []
+
+pub record IsSource (stacks : List (List ℕ)) (odds : List ℕ) (t : Triple) (y : ℕ) (progress : Bool) (item behind : Item) : Type 0 where
   pub begins : item.node ≡ t.from
   pub ends : behind.node ≡ t.to
   pub accepting : Bool
   pub leads : Leads odds t.lowest item.odd behind.odd accepting
-  pub serves : Serves y progress item.stack.value.items accepting
+  pub serves : Serves y progress (stack_of stacks item) accepting
 
-pub record SourceAmong (odds : List ℕ) (t : Triple) (y : ℕ) (progress : Bool)
+pub record SourceAmong (stacks : List (List ℕ)) (odds : List ℕ) (t : Triple) (y : ℕ) (progress : Bool)
     (items : List Item) (behind : Item) : Type 0 where
   pub item : Item
   pub member : IsMember item items
-  pub is_source : IsSource odds t y progress item behind
+  pub is_source : IsSource stacks odds t y progress item behind
 
-pub record HasSource (odds : List ℕ) (traces : List Triple) (y : ℕ) (progress : Bool)
+pub record HasSource (stacks : List (List ℕ)) (odds : List ℕ) (traces : List Triple) (y : ℕ) (progress : Bool)
     (items : List Item) (behind : Item) : Type 0 where
   pub trace : Triple
   pub member : IsMember trace traces
-  pub among : SourceAmong odds trace y progress items behind
+  pub among : SourceAmong stacks odds trace y progress items behind
 
 -- below the bound a name comes from where it stands, with progress where it is advanced; a green one is the last of its
 -- stack, and comes with progress
-pub record IsNameTraced (odds : List ℕ) (traces : List Triple) (bound : ℕ) (green : Option ℕ)
+pub record IsNameTraced (stacks : List (List ℕ)) (odds : List ℕ) (traces : List Triple) (bound : ℕ) (green : Option ℕ)
     (items : List Item) (y : ℕ) (behind : Item) : Type 0 where
-  pub below : y < bound → HasSource odds traces y (not (ends_in y behind.stack.value.items)) items behind
-  pub if_green : green ≡ Some y → (ends_in y behind.stack.value.items ≡ true) × HasSource odds traces y true items behind
+  pub below : y < bound → HasSource stacks odds traces y (not (ends_in y (stack_of stacks behind))) items behind
+  pub if_green : green ≡ Some y → (ends_in y (stack_of stacks behind) ≡ true) × HasSource stacks odds traces y true items behind
 
-abbrev pub IsItemTraced : List ℕ → List Triple → ℕ → Option ℕ → List Item → Item → Type 0
-IsItemTraced odds traces bound green items behind =
-    All (λ y. IsNameTraced odds traces bound green items y behind) behind.stack.value.items
+abbrev pub IsItemTraced : List (List ℕ) → List ℕ → List Triple → ℕ → Option ℕ → List Item → Item → Type 0
+IsItemTraced stacks odds traces bound green items behind =
+    All (λ y. IsNameTraced stacks odds traces bound green items y behind) (stack_of stacks behind)
 
 -- the green name of a mark
 abbrev pub green_of : Mark → Option ℕ
@@ -88,5 +93,5 @@ abbrev pub RiseByTarget : List Triple → Type 0
 RiseByTarget traces = IsNonDecreasingBy (λ (t : Triple). t.to) traces
 
 -- the items and the names in use of an entry
-abbrev pub traces_of : Entry → traced.Entry AutomatonState
-traces_of e = record { live = e.live; items = map item_of e.items.items }
+abbrev pub traces_of : List (List ℕ) → Entry → traced.Entry AutomatonState
+traces_of stacks e = record { live = e.live; items = map (item_of stacks) e.items.items }

@@ -6,6 +6,7 @@ use Rattle.ml_refute_check.proofs.check_graph.check_refutation.Given as goal
 abbrev pub invariant-loop-place : goal.invariant-loop-place
 invariant-loop-place l =
     record {
-      same : l.branch.graph ≡ l.graph;
+      same : l.branch.on.graph ≡ l.graph;
+      sequents : l.branch.sequents ≡ l.refutation.sequents;
       kept : (d : ℕ) → d < l.place → EntryKept (question l.graph l.refutation) d;
     }

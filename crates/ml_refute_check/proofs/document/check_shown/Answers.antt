@@ -1,6 +1,6 @@
 use Rattle.std.proofs.Common.{subst}
-use Rattle.ml_refutation.specs.Views.{of_parts}
 use Rattle.ml_refute_check.specs.Findings.{IsFinding}
+use Rattle.ml_refute_check.specs.private.Parts.{plain}
 use Rattle.ml_refute_check.proofs.Rejected.{as_many_lines, rejected_there}
 use Rattle.ml_refute_check.proofs.document.check_shown.Goals as goal
 
@@ -15,6 +15,6 @@ returns c =
     let fault = c.in-Rejected.fault in
     rejected_there c.args._bytes.now shown.problem shown.refutation shown.lines c.requires c.in-Ok.graph fault.entry
     fault.part fault.rule c.in_ok-line-in-Rejected.line c.in-Ok.ensures.graph c.in-Ok.ensures.fits
-    (subst (IsFinding c.in-Ok.graph (of_parts shown.refutation.names shown.refutation.entries)) c.in-Rejected.is
+    (subst (IsFinding c.in-Ok.graph (plain shown.refutation)) c.in-Rejected.is
     c.in_ok-check_refutation.ensures)
     c.in_ok-line-in-Rejected.ensures

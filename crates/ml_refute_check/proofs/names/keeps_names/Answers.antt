@@ -1,5 +1,4 @@
 use Rattle.std.proofs.Common.{refl}
-use Rattle.ml_refutation.specs.Views.{mark_of}
 use Rattle.ml_refute_check.specs.private.Sources.{led}
 use Rattle.ml_refute_check.proofs.FoundByNode.{led_into}
 use Rattle.ml_refute_check.proofs.NamesTraced.{kept_names}
@@ -8,7 +7,7 @@ use Rattle.ml_refute_check.proofs.names.keeps_names.Goals as goal
 pub returns : goal.returns
 returns c g step odds_are next_is told =
     let into = led c.args.next.now c.args.made.now in
-    kept_names g step (mark_of c.args.mark) c.args.odds.now c.args.next.now c.args.made.now into into
+    kept_names c.args.stacks.now g step c.args.mark c.args.odds.now c.args.next.now c.args.made.now into into
     c.args.before.now.live c.args.behind.now.live c.bound_of-bound.result c.green_of-green.result
     c.args.before.now.items.items c.deref.result.now c.args.behind.now.items.items c.deref-2.result.now
     c.are_in_use.result c.items_traced.result odds_are next_is told (led_into c.args.next.now c.args.made.now) refl

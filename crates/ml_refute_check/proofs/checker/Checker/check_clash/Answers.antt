@@ -1,5 +1,4 @@
 use Rattle.std.proofs.Common.{◌↔◌, IsTrue, subst}
-use Rattle.ml_refutation.specs.Views.{cause_of}
 use Rattle.ml_sequent.specs.Spread.{IsCause}
 use Rattle.ml_refute_check.specs.private.Parts.{question}
 use Rattle.ml_refute_check.proofs.BranchesFound.{clash_kept, clash_refused}
@@ -8,17 +7,17 @@ use Rattle.ml_refute_check.proofs.checker.Checker.check_clash.Goals as goal
 pub returns-then-branch-clause-found : goal.returns-then-branch-clause-found
 returns-then-branch-clause-found c =
     let told =
-    subst (λ g. IsTrue c.in_ok-is_cause.field-0 ↔ IsCause g c.args.branch.now.spread c.clash_cause.result) c.requires.graph
+    subst (λ g. IsTrue c.in_ok-is_cause.field-0 ↔ IsCause g c.args.branch.now.on.spread c.args.cause) c.requires.graph
     c.in_ok-is_cause.ensures.cause in
-    clash_kept (question c.args.self.now.graph.now c.args.self.now.refutation.now) c.args.place c.args.branch.now.sequent
-    c.args.branch.now.spread c.requires.asks.is_graph c.requires.stands (cause_of c.args.cause) c.clash_cause.result
-    c.in_ok-is_cause.field-0 c.clash_cause.ensures told c.if-branch.true
+    clash_kept (question c.args.self.now.graph.now c.args.self.now.refutation.now) c.args.place c.args.branch.now.on.sequent
+    c.args.branch.now.on.spread c.requires.asks.is_graph c.requires.stands c.args.cause
+    c.in_ok-is_cause.field-0 told c.if-branch.true
 
 pub returns-else-branch-clause-found : goal.returns-else-branch-clause-found
 returns-else-branch-clause-found c =
     let told =
-    subst (λ g. IsTrue c.in_ok-is_cause.field-0 ↔ IsCause g c.args.branch.now.spread c.clash_cause.result) c.requires.graph
+    subst (λ g. IsTrue c.in_ok-is_cause.field-0 ↔ IsCause g c.args.branch.now.on.spread c.args.cause) c.requires.graph
     c.in_ok-is_cause.ensures.cause in
-    clash_refused (question c.args.self.now.graph.now c.args.self.now.refutation.now) c.args.place c.args.branch.now.sequent
-    c.args.branch.now.spread c.requires.asks.is_graph c.requires.stands (cause_of c.args.cause) c.clash_cause.result
-    c.in_ok-is_cause.field-0 c.clash_cause.ensures told c.if-branch.false
+    clash_refused (question c.args.self.now.graph.now c.args.self.now.refutation.now) c.args.place c.args.branch.now.on.sequent
+    c.args.branch.now.on.spread c.requires.asks.is_graph c.requires.stands c.args.cause
+    c.in_ok-is_cause.field-0 told c.if-branch.false

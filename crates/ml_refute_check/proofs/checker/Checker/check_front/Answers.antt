@@ -1,5 +1,4 @@
 use Rattle.std.proofs.Common.{refl, sym, subst, ℕ, ap, ◌∙◌}
-use Rattle.std.specs.Global.{Vec}
 use Rattle.ml_lists.specs.Ascending.{IsAscending}
 use Rattle.ml_refute_check.specs.private.Parts.{question}
 use Rattle.ml_refute_check.proofs.BranchesFound.{test_fails}
@@ -8,28 +7,28 @@ use Rattle.ml_refute_check.proofs.checker.Checker.check_front.Goals as goal
 
 pub starts_well-requires : goal.starts_well-requires
 starts_well-requires c =
-    subst IsAscending (sym (c.as_slice.ensures.value ∙ ap (λ (v : Vec ℕ). v.items) c.deref.ensures))
+    subst IsAscending (sym c.sequent.ensures)
     c.requires.entry.is_entry.ascends
 
 pub returns-then-not-starts_well : goal.returns-then-not-starts_well
 returns-then-not-starts_well c =
     let q = question c.args.self.now.graph.now c.args.self.now.refutation.now in
-    let told = start_told q _ _ c.requires.entry _ c.starts_well.result (c.as_slice.ensures.value ∙ ap (λ (v : Vec ℕ). v.items) c.deref.ensures) c.starts_well.ensures in
+    let told = start_told q _ _ c.requires.entry _ c.starts_well.result c.sequent.ensures c.starts_well.ensures in
     front_refused_2 q _ _ c.requires.entry (test_fails _ c.starts_well.result told c.if-not-starts_well.true)
 
 pub names_stand-requires : goal.names_stand-requires
 names_stand-requires c =
-    live_low c.args.self.now.refutation.now.names c.args.entry.now.live c.args.entry.now.items.items
-    c.deref-2.result.now
-    c.deref-2.ensures.value c.requires.entry.is_entry.is_traced
+    live_low c.args.self.now.refutation.now.stacks c.args.self.now.refutation.now.names c.args.entry.now.live c.args.entry.now.items.items
+    c.deref.result.now
+    c.deref.ensures.value c.requires.entry.is_entry.is_traced
 
 pub returns-then-not-branch : goal.returns-then-not-branch
 returns-then-not-branch c =
     let q = question c.args.self.now.graph.now c.args.self.now.refutation.now in
     let is = c.requires.entry in
-    let start = start_told q _ _ is _ c.starts_well.result (c.as_slice.ensures.value ∙ ap (λ (v : Vec ℕ). v.items) c.deref.ensures) c.starts_well.ensures in
+    let start = start_told q _ _ is _ c.starts_well.result c.sequent.ensures c.starts_well.ensures in
     let live =
-    live_told q _ _ is c.args.entry.now.live c.in_ok-names_stand.field-0 c.deref-2.ensures.value refl
+    live_told q _ _ is c.args.self.now.refutation.now.stacks c.args.entry.now.live c.in_ok-names_stand.field-0 c.deref.ensures.value refl
     c.in_ok-names_stand.ensures in
     front_refused_3 q _ _ is (start.0 c.if-not-starts_well.false)
     (test_fails _ c.in_ok-names_stand.field-0 live c.if-not-branch.true)
@@ -38,9 +37,9 @@ pub returns-in_ok-later-in-Some : goal.returns-in_ok-later-in-Some
 returns-in_ok-later-in-Some c =
     let q = question c.args.self.now.graph.now c.args.self.now.refutation.now in
     let is = c.requires.entry in
-    let start = start_told q _ _ is _ c.starts_well.result (c.as_slice.ensures.value ∙ ap (λ (v : Vec ℕ). v.items) c.deref.ensures) c.starts_well.ensures in
+    let start = start_told q _ _ is _ c.starts_well.result c.sequent.ensures c.starts_well.ensures in
     let live =
-    live_told q _ _ is c.args.entry.now.live c.in_ok-names_stand.field-0 c.deref-2.ensures.value refl
+    live_told q _ _ is c.args.self.now.refutation.now.stacks c.args.entry.now.live c.in_ok-names_stand.field-0 c.deref.ensures.value refl
     c.in_ok-names_stand.ensures in
     front_later q _ _ is c.in-Some.bad c.in_ok-later-in-Some.field-0
     (start.0 c.if-not-starts_well.false) (live.0 c.if-not-branch.false) c.in_ok-later-in-Some.ensures.part
@@ -50,9 +49,9 @@ pub returns-in-None : goal.returns-in-None
 returns-in-None c =
     let q = question c.args.self.now.graph.now c.args.self.now.refutation.now in
     let is = c.requires.entry in
-    let start = start_told q _ _ is _ c.starts_well.result (c.as_slice.ensures.value ∙ ap (λ (v : Vec ℕ). v.items) c.deref.ensures) c.starts_well.ensures in
+    let start = start_told q _ _ is _ c.starts_well.result c.sequent.ensures c.starts_well.ensures in
     let live =
-    live_told q _ _ is c.args.entry.now.live c.in_ok-names_stand.field-0 c.deref-2.ensures.value refl
+    live_told q _ _ is c.args.self.now.refutation.now.stacks c.args.entry.now.live c.in_ok-names_stand.field-0 c.deref.ensures.value refl
     c.in_ok-names_stand.ensures in
     front_kept q _ _ is (start.0 c.if-not-starts_well.false) (live.0 c.if-not-branch.false)
     c.in-None.ensures

@@ -7,4 +7,4 @@ use Rattle.ml_refute_check.proofs.checker.Checker.check_items.Given as goal
 abbrev pub invariant-loop-k : goal.invariant-loop-k
 invariant-loop-k l =
     KeepEach (question l.self.graph.now l.self.refutation.now) l.place
-    (map acceptance.Item (map item_of (take l.k l.entry.items.items)))
+    (map acceptance.Item (map (item_of l.self.refutation.now.stacks) (take l.k l.entry.items.items)))

@@ -1,6 +1,6 @@
 use Rattle.std.proofs.Common.{◌≡◌, ◌∙◌, ◌↔◌, List, subst}
 use Rattle.ml_lists.specs.Member.{IsMember}
-use Rattle.ml_sequent.specs.Branch.{BranchList}
+use Rattle.ml_refute_check.specs.private.Stepping.{KeptList}
 use Rattle.ml_sequent.specs.Step.{IsStep}
 use Rattle.ml_trace.specs.declared.letters.Triple.{Triple}
 use Rattle.ml_refute_check.proofs.FoundByNode.{step_sorted}
@@ -10,7 +10,7 @@ pub returns-clause-step : goal.returns-clause-step
 returns-clause-step c =
     let made : c.in_ok-traces.traces.items ≡ c.in_ok-targets.made = c.in_ok-traces.ensures.items ∙ c.triples.ensures in
     let step =
-    subst (λ (b : BranchList). IsStep b.graph b.sequent b.spread c.args.diamond c.in_ok-targets.targets c.in_ok-targets.made) c.self.view_is
+    subst (λ (b : KeptList). IsStep b.on.graph b.on.sequent b.on.spread c.args.diamond c.in_ok-targets.targets c.in_ok-targets.made) c.self.view_is
     c.in_ok-targets.ensures.step in
     record {
       step =
