@@ -20,9 +20,9 @@ accepted_is_true text a =
       problem = a.problem;
       body = a.is_document.body;
       has_head = head;
-      holds_nowhere = refuted_is_unsatisfiable a.problem a.graph a.refutation
+      holds_nowhere = refuted_is_unsatisfiable a.problem a.holds.graph a.refutation
           (meaningful a.problem.formula (parsed_well head.formula_text a.problem.formula head.is_parsed))
-          a.is_graph a.is_document.is_refutation a.is_accepted;
+          a.holds.is_graph a.is_document.is_refutation a.holds.holds;
     }
 
 pub documents_read_back : DocumentsReadBack

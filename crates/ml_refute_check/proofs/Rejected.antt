@@ -2,6 +2,7 @@
 --
 --   document_of_shown == what was read of a text, it shows
 --   as_many_lines     == as many entries begin at lines as there are
+--   shown_so          == what holds of what was read of a text, of this it shows
 --   accepted_there    == a text whose refutation is accepted
 --   rejected_there    == a text is rejected at the line of the first bad part
 --   without_graph     == or at the line of the formula
@@ -15,13 +16,14 @@ use Rattle.ml_graph.specs.Graph.{Graph}
 use Rattle.ml_front.specs.Graphs.{HasLargeClosure, IsGraphOf}
 use Rattle.ml_front.specs.declared.problem.Problem.{Problem}
 use Rattle.ml_front.specs.declared.problem.TheConstants.{MOST_NODES}
-use Rattle.ml_refutation.specs.Refutation.{Entry}
+use Rattle.ml_refutation.specs.Refutation.{Entry, Refutation}
 use Rattle.ml_refutation.specs.Acceptance.{entry_at, IsAccepted, IsFirstBad}
 use Rattle.ml_refutation.specs.declared.refutation.Refutation as held
 use Rattle.ml_refutation_text.specs.PartLines.{parts_from, entry_size}
 use Rattle.ml_refutation_text.specs.declared.lines.EntryLines.{EntryLines}
 use Rattle.ml_refutation_text.specs.declared.lines.Lines.{Lines}
-use Rattle.ml_refute_check.specs.Documents.{IsAcceptedDocument, IsDocument, IsMigrated, IsRejectedAt, document_of, formula_line, line_of}
+use Rattle.ml_refute_check.specs.Documents.{Finds, IsAcceptedDocument, IsDocument, IsMigrated, IsRejectedAt, Shows, document_of, formula_line, line_of}
+use Rattle.ml_refute_check.specs.declared.verdict.Verdict.TheVariants.{Accepted, Rejected}
 use Rattle.ml_refute_check.specs.private.Parts.{plain, plain_entry}
 use Rattle.ml_refute_check.specs.private.Shown.{IsShown}
 use Rattle.ml_front.proofs.Logics.{parsed_well}
@@ -50,6 +52,20 @@ as_many_lines text p r lines shown =
     ap length shown.are_lines.are_parts ∙ length-parts shown.version _ (map (plain_entry r) r.entries.items)
     ∙ length-map r.entries.items (plain_entry r)
 
+-- of what was read
+shown_so : (text : List ℕ) (p : Problem) (r : held.Refutation) (lines : Lines) (shown : IsShown text p r lines)
+    (P : Version → List ℕ → Problem → Refutation → Type 0)
+    → P shown.version shown.body p (plain r)
+    → Shows text P
+unfolding document_of_shown
+shown_so text p r lines shown P holds = record {
+  version = shown.version;
+  problem = p;
+  refutation = plain r;
+  is_document = document_of_shown text p r lines shown;
+  holds = holds;
+}
+
 pub accepted_there : (text : List ℕ) (p : Problem) (r : held.Refutation) (lines : Lines)
     → IsShown text p r lines
     → (g : Graph)
@@ -57,33 +73,16 @@ pub accepted_there : (text : List ℕ) (p : Problem) (r : held.Refutation) (line
     → IsClosed p
     → IsAccepted g (plain r)
     → IsAcceptedDocument text
-accepted_there text p r lines shown g is_graph closed accepted = record {
-  version = shown.version;
-  problem = p;
-  refutation = plain r;
-  is_document = document_of_shown text p r lines shown;
-  closed = closed;
-  graph = g;
-  is_graph = is_graph;
-  is_accepted = accepted;
-}
+accepted_there text p r lines shown g is_graph closed accepted =
+    shown_so text p r lines shown (Finds Accepted)
+    (record { closed = closed; graph = g; is_graph = is_graph; holds = accepted })
 
 pub without_graph : (text : List ℕ) (p : Problem) (r : held.Refutation) (lines : Lines)
     → IsShown text p r lines
     → HasLargeClosure p MOST_NODES
     → IsRejectedAt text formula_line 1
 without_graph text p r lines shown large =
-    inl (
-      record {
-        version = shown.version;
-        problem = p;
-        refutation = plain r;
-        is_document = document_of_shown text p r lines shown;
-        has_large_closure = large;
-      },
-      refl,
-      refl,
-    )
+    shown_so text p r lines shown (Finds (Rejected formula_line 1)) (inl (large, refl, refl))
 
 pub rejected_there : (text : List ℕ) (p : Problem) (r : held.Refutation) (lines : Lines)
     (shown : IsShown text p r lines)
@@ -94,41 +93,35 @@ pub rejected_there : (text : List ℕ) (p : Problem) (r : held.Refutation) (line
     → ((at : EntryLines) → slice_get lines.entries.items entry ≡ Some at
     → line ≡ line_of at (length (entry_at (plain r) entry).traces.items) part)
     → IsRejectedAt text line number
-unfolding document_of_shown
 rejected_there text p r lines shown g entry part number line is_graph closed first told =
     let none : EntryLines = record { sequent = 0; live = 0; items = 0; heights = 0; decision = 0 } in
     let there =
     slice_get-get_or lines.entries.items entry none
     (omega (arith, first.is_entry, as_many_lines text p r lines shown, length-map r.entries.items (plain_entry r))) in
-    inr (record {
-      version = shown.version;
-      problem = p;
-      refutation = plain r;
-      is_document = document_of_shown text p r lines shown;
+    shown_so text p r lines shown (Finds (Rejected line number)) (inr (record {
       closed = closed;
       graph = g;
       is_graph = is_graph;
-      entry = entry;
-      part = part;
-      is_first = first;
-      lines = lines.entries.items;
-      are_lines = shown.are_lines;
-      at = get_or lines.entries.items entry none;
-      of_entry = there;
-      is_line = told (get_or lines.entries.items entry none) there;
-    })
+      holds = record {
+        entry = entry;
+        part = part;
+        is_first = first;
+        lines = lines.entries.items;
+        are_lines = shown.are_lines;
+        at = get_or lines.entries.items entry none;
+        of_entry = there;
+        is_line = told (get_or lines.entries.items entry none) there;
+      };
+    }))
 
 pub migrated : (text out : List ℕ) (p : Problem) (r : held.Refutation) (lines : Lines)
     → IsShown text p r lines
     → out ≡ document_of p (plain r)
     → IsMigrated text out
-migrated text out p r lines shown is = record {
-  version = shown.version;
-  problem = p;
-  refutation = plain r;
-  is_document = document_of_shown text p r lines shown;
-  is_written = is;
-  shows_the_same = subst (λ t. IsDocument t Two p (plain r)) (sym is)
-      (documents_read_back p (plain r)
-      (parsed_well shown.has_head.formula_text p.formula shown.has_head.is_parsed) r.is_refutation);
-}
+migrated text out p r lines shown is =
+    shown_so text p r lines shown (λ v body q s. (out ≡ document_of q s) × IsDocument out Two q s) (
+      is,
+      subst (λ t. IsDocument t Two p (plain r)) (sym is)
+          (documents_read_back p (plain r)
+          (parsed_well shown.has_head.formula_text p.formula shown.has_head.is_parsed) r.is_refutation),
+    )

@@ -9,14 +9,15 @@
 --
 --   IsDocument text v p r == the text shows, in the version v, the refutation r for the problem p
 --   IsDocumentFault text f == f tells the first bad line of the text, and the lowest rule that it breaks
---   IsAcceptedDocument text == the text shows a refutation that is accepted in the graph of its problem
---   IsWithoutGraph text    == the text shows a refutation for a problem whose closure is too large
+--   Shows text P           == the text shows a refutation for a problem, and P holds of its version, its body and the two
+--   InGraph p P            == the closure of the problem p isn't too large, and P holds in its graph
 --   line_of at n k         == the line of part k of an entry with n items, whose parts begin at these lines
---   IsRejectedBy text entry part number line == the text shows a refutation whose first bad part is this one, with this
---                             lowest rule that it breaks, and which stands at this line
---   IsRejectedAt text line number == the text shows a refutation, and this is its first line with a broken rule, and
---                             the lowest one
---   IsVerdict text v       == v is what checking the text finds
+--   IsRejectedBy g v b r line number == the first bad part of r in g, with this lowest rule that it breaks, stands at this
+--                             line of a document with the body b in version v
+--   Finds x v b p r        == x is found of the refutation r for the problem p, which the body b in version v shows
+--   IsVerdict text x       == x is what checking the text finds
+--   IsAcceptedDocument text == that it is accepted
+--   IsRejectedAt text line number == or that this is its first line with a broken rule, and the lowest one
 --   HoldsNowhere text      == the text answers `unsatisfiable` about a problem, and that is true
 --   IsMigrated text other  == the text shows a refutation for a problem, and the other text is what is written of the
 --                             two
@@ -70,26 +71,22 @@ pub record IsFaultOfBody (text : List ℕ) (fault : DocFault) : Type 0 where
 abbrev pub IsDocumentFault : List ℕ → DocFault → Type 0
 IsDocumentFault text fault = IsHeadFault Unsatisfiable text fault ⊎ IsFaultOfBody text fault
 
+-- the text shows a refutation for a problem, and this holds of them, and of the version and the body
+pub record Shows (text : List ℕ) (P : Version → List ℕ → Problem → Refutation → Type 0) : Type 0 where
+  pub version : Version
+  pub problem : Problem
+  pub refutation : Refutation
+  pub is_document : IsDocument text version problem refutation
+  pub holds : P version is_document.body problem refutation
+
 -- ---- what checking it finds
 
--- the text shows a refutation that is accepted in the graph of its problem
-pub record IsAcceptedDocument (text : List ℕ) : Type 0 where
-  pub version : Version
-  pub problem : Problem
-  pub refutation : Refutation
-  pub is_document : IsDocument text version problem refutation
-  pub closed : ¬ (HasLargeClosure problem MOST_NODES)
+-- the closure of the problem isn't too large, and this holds in its graph
+pub record InGraph (p : Problem) (P : Graph → Type 0) : Type 0 where
+  pub closed : ¬ (HasLargeClosure p MOST_NODES)
   pub graph : Graph
-  pub is_graph : IsGraphOf graph problem
-  pub is_accepted : IsAccepted graph refutation
-
--- the text shows a refutation for a problem whose closure is too large
-pub record IsWithoutGraph (text : List ℕ) : Type 0 where
-  pub version : Version
-  pub problem : Problem
-  pub refutation : Refutation
-  pub is_document : IsDocument text version problem refutation
-  pub has_large_closure : HasLargeClosure problem MOST_NODES
+  pub is_graph : IsGraphOf graph p
+  pub holds : P graph
 
 -- first the sequent and the names in use, then the items, and last the branches of the decision
 abbrev pub line_of : EntryLines → ℕ → ℕ → ℕ
@@ -99,32 +96,33 @@ line_of at items part =
     else if nat_lt (part - 2) items then at.items + (part - 2)
     else at.decision + (part - 2 - items)
 
--- the text shows a refutation whose first bad part, with the lowest rule that it breaks, stands at this line
-pub record IsRejectedBy (text : List ℕ) (line number : ℕ) : Type 0 where
-  pub version : Version
-  pub problem : Problem
-  pub refutation : Refutation
-  pub is_document : IsDocument text version problem refutation
-  pub closed : ¬ (HasLargeClosure problem MOST_NODES)
-  pub graph : Graph
-  pub is_graph : IsGraphOf graph problem
+-- the first bad part of the refutation in the graph, with this lowest rule that it breaks, stands at this line
+pub record IsRejectedBy (g : Graph) (v : Version) (body : List ℕ) (r : Refutation) (line number : ℕ) : Type 0 where
   pub entry : ℕ
   pub part : ℕ
-  pub is_first : IsFirstBad graph refutation entry part number
+  pub is_first : IsFirstBad g r entry part number
   pub lines : List EntryLines
-  pub are_lines : AreLinesOf version is_document.body first_body_line refutation lines
+  pub are_lines : AreLinesOf v body first_body_line r lines
   pub at : EntryLines
   pub of_entry : slice_get lines entry ≡ Some at
-  pub is_line : line ≡ line_of at (length (entry_at refutation entry).traces.items) part
+  pub is_line : line ≡ line_of at (length (entry_at r entry).traces.items) part
+
+abbrev pub Finds : Verdict → Version → List ℕ → Problem → Refutation → Type 0
+Finds Accepted v body p r = InGraph p (λ g. IsAccepted g r)
+Finds (Rejected line number) v body p r =
+    (HasLargeClosure p MOST_NODES × (line ≡ formula_line) × (number ≡ 1))
+    ⊎ InGraph p (λ g. IsRejectedBy g v body r line number)
+Finds (Unreadable fault) v body p r = ⊥
+
+abbrev pub IsAcceptedDocument : List ℕ → Type 0
+IsAcceptedDocument text = Shows text (Finds Accepted)
 
 abbrev pub IsRejectedAt : List ℕ → ℕ → ℕ → Type 0
-IsRejectedAt text line number =
-    (IsWithoutGraph text × (line ≡ formula_line) × (number ≡ 1)) ⊎ IsRejectedBy text line number
+IsRejectedAt text line number = Shows text (Finds (Rejected line number))
 
 abbrev pub IsVerdict : List ℕ → Verdict → Type 0
-IsVerdict text Accepted = IsAcceptedDocument text
 IsVerdict text (Unreadable fault) = IsDocumentFault text fault
-IsVerdict text (Rejected line number) = IsRejectedAt text line number
+IsVerdict text v = Shows text (Finds v)
 
 -- ---- what it tells
 
@@ -142,10 +140,5 @@ abbrev pub document_of : Problem → Refutation → List ℕ
 document_of p r = text_of (head_lines Two Unsatisfiable p) ++ written_text Two r
 
 -- the text shows a refutation, and the other one is the document that is written of it, which shows the same
-pub record IsMigrated (text other : List ℕ) : Type 0 where
-  pub version : Version
-  pub problem : Problem
-  pub refutation : Refutation
-  pub is_document : IsDocument text version problem refutation
-  pub is_written : other ≡ document_of problem refutation
-  pub shows_the_same : IsDocument other Two problem refutation
+abbrev pub IsMigrated : (text other : List ℕ) → Type 0
+IsMigrated text other = Shows text (λ v body p r. (other ≡ document_of p r) × IsDocument other Two p r)

@@ -109,7 +109,12 @@ impl<'a> Checker<'a> {
         if !starts_well(self.graph, self.sequent(entry), place) {
             return Ok(Some(BadPart { part: 0, rule: 2 }));
         }
-        if !names_stand(self.alloc, &self.refutation.stacks, entry.live, &entry.items)? {
+        if !names_stand(
+            self.alloc,
+            &self.refutation.stacks,
+            entry.live,
+            &entry.items,
+        )? {
             return Ok(Some(BadPart { part: 1, rule: 3 }));
         }
         match self.check_items(place, entry) {

@@ -272,5 +272,14 @@ pub(crate) fn keeps_names(
     if !are_in_use(bound, green, before.live, behind.live) {
         return false;
     }
-    items_traced(stacks, odds, made, next, bound, green, &before.items, &behind.items)
+    items_traced(
+        stacks,
+        odds,
+        made,
+        next,
+        bound,
+        green,
+        &before.items,
+        &behind.items,
+    )
 }

@@ -44,7 +44,12 @@ fn is_one(numbers: &[u32], number: u32) -> bool
 }
 
 /// Does each name in use stand in some item? Items are looked at up to one with which all do.
-pub(crate) fn names_stand(alloc: Global, stacks: &Lists, live: u32, items: &[Item]) -> Result<bool, NoMemory>
+pub(crate) fn names_stand(
+    alloc: Global,
+    stacks: &Lists,
+    live: u32,
+    items: &[Item],
+) -> Result<bool, NoMemory>
     requires { All (λ a. All (λ y. y < live) (slice_index_or stacks.now a.stack [])) items.now }
     ensures { IfOk result (λ b. IsTrue b
         ↔ EachNameStands (record { live = live; items = map (item_of stacks.now) items.now })) }

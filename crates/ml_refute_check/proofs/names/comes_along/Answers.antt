@@ -10,16 +10,16 @@ pub returns-then-is_source : goal.returns-then-is_source
 returns-then-is_source c =
     let x : Item = get_or c.args.items.now c.loop-item.item-index no_item in
     let is = get_or_default c.args.items.now c.loop-item.item-index no_item x c.loop-item-test.true in (
-  λ t. record {
-    item = x;
-    member =
-        entry_member (λ (item : Item). IsSource c.args.stacks.now c.args.odds.now c.args.trace.now c.args.name c.args.progress item
-        c.args.behind.now)
-        c.args.items.now c.loop-item.item-index x c.loop-item-test.true is;
-    is_source = c.is_source.ensures.0 c.if-is_source.true;
-  },
-  λ h. refl,
-)
+      λ t. record {
+        item = x;
+        member =
+            entry_member (λ (item : Item). IsSource c.args.stacks.now c.args.odds.now c.args.trace.now c.args.name c.args.progress item
+            c.args.behind.now)
+            c.args.items.now c.loop-item.item-index x c.loop-item-test.true is;
+        is_source = c.is_source.ensures.0 c.if-is_source.true;
+      },
+      λ h. refl,
+    )
 
 pub returns : goal.returns
 returns c = (
