@@ -151,7 +151,7 @@ module _ (q : Question) (text : List ℕ) (p : Problem) (is_problem : IsProblem 
       → IsDocumentFor p (decision.Unsatisfiable r) out
       → Refuted q text out
   by_refutation r x written =
-      refuted x.graph (of_parts r.names r.entries) x.is_graph (shown_closed q.way q p _ x) r.is_refutation x.is_shown
+      refuted x.graph (of_parts r.names r.sequents r.stacks r.entries) x.is_graph (shown_closed q.way q p _ x) r.is_refutation x.is_shown
       written
 
   stays : (c : Cause) → StaysOpen (asked q.limit p) p c → StaysOpen q p c

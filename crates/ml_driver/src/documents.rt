@@ -54,7 +54,7 @@ fn unsatisfiable(
     refutation: &Refutation,
 ) -> Result<Vec<u8>, NoMemory>
     ensures { IfOk result (λ output.
-        output.items ≡ document_of problem.now (of_parts refutation.now.names refutation.now.entries)) }
+        output.items ≡ document_of problem.now (of_parts refutation.now.names refutation.now.sequents refutation.now.stacks refutation.now.entries)) }
 {
     let mut output = Vec::new(alloc);
     append_head(&mut output, problem, Answer::Unsatisfiable)?;

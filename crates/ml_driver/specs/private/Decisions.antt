@@ -44,13 +44,13 @@ pub record ShownIn (w : Way) (p : Problem) (n : ℕ) (IsShown : Graph → Type 0
 abbrev pub IsDecisionOf : Way → Problem → ℕ → Decision → Type 0
 IsDecisionOf w p n (decision.Satisfiable m) =
     ShownIn w p n (λ g. Extracted g m.structure m.start × IsOrdered m.structure × (m.structure.states < 2 ^ 32))
-IsDecisionOf w p n (decision.Unsatisfiable r) = ShownIn w p n (λ g. IsAccepted g (of_parts r.names r.entries))
+IsDecisionOf w p n (decision.Unsatisfiable r) = ShownIn w p n (λ g. IsAccepted g (of_parts r.names r.sequents r.stacks r.entries))
 IsDecisionOf w p n (decision.Undecided c) = StaysOpen (asked n p) p c
 
 abbrev pub IsDocumentFor : Problem → Decision → List ℕ → Type 0
 IsDocumentFor p (decision.Satisfiable m) out =
     (out ≡ satisfiable_document p m.structure m.start) × HasNames m.structure
-IsDocumentFor p (decision.Unsatisfiable r) out = out ≡ document_of p (of_parts r.names r.entries)
+IsDocumentFor p (decision.Unsatisfiable r) out = out ≡ document_of p (of_parts r.names r.sequents r.stacks r.entries)
 IsDocumentFor p (decision.Undecided c) out = out ≡ undecided_document p c
 
 abbrev pub status_in : Bool → Decision → Status
