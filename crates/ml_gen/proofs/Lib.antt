@@ -2,7 +2,8 @@
 pub mod Parts
 -- names with a number
 pub mod NumberedNames
--- texts of each logic, of any length
+-- conjunctions of any logic, and texts of each, of any length
+pub mod Chains
 pub mod MuChains
 pub mod LtlChains
 pub mod PdlSequences

@@ -7,7 +7,6 @@
 use Rattle.std.proofs.Common.{◌≡◌, ℕ, ◌+◌, ◌<◌, ◌≤◌, true, List, [], ◌∷◌, ◌++◌, map, codes, refl, sym, ap, subst, ◌∙◌, arith}
 use Rattle.std.specs.List.{AllByRecursion}
 use Rattle.ml_text.specs.declared.token.Operator.TheVariants as operator
-use Rattle.ml_text.specs.declared.token.Token.TheVariants as token
 use Rattle.ml_text.specs.declared.token.WordStart.TheVariants.{LowerCase}
 use Rattle.ml_text.specs.Tokens.{tokens}
 use Rattle.ml_text.specs.Refusals.{signs_of, most_occurrences}
@@ -31,10 +30,11 @@ use Rattle.ml_ctl.proofs.Counting.{counts, counted_items}
 use Rattle.ml_ctl.proofs.GrammarTables.{un_raised}
 use Rattle.ml_ctl.proofs.Sorts.{fits}
 use Rattle.ml_ctl.specs.Parsing.{IsParsedAs}
+use Rattle.ml_gen.proofs.Chains as chains
+use Rattle.ml_gen.proofs.Chains.{and_sign}
 
 abbrev pub chain : Formula → List Formula → Formula
-chain f [] = f
-chain f (g ∷ gs) = chain (Binary operator.And f g) gs
+chain = chains.chain (Binary operator.And)
 
 abbrev pub more_text : List Formula → List ℕ
 more_text [] = []
@@ -54,8 +54,7 @@ abbrev grouped : Formula → List Spelt → List Spelt
 grouped f ss = lone 40 ∷ tokens_onto f (lone 41 ∷ ss)
 
 abbrev more_tokens : List Formula → List Spelt
-more_tokens [] = []
-more_tokens (g ∷ gs) = (token.Operator operator.And, codes "&") ∷ grouped g (more_tokens gs)
+more_tokens = chains.more_tokens grouped
 
 scans_grouped : (f : Formula) → IsPart f → (rest : List ℕ) (ss : List Spelt)
     → Scans LowerCase rest ss
@@ -85,15 +84,19 @@ reads_more [] all f ts r = r
 reads_more (g ∷ gs) all f ts r =
     reads_more gs all.1 (Binary operator.And f g) ts (and r (pair_alone (reads_grouped g all.0 (more_tokens gs))))
 
+short_part : (g : Formula) (ss : List Spelt) → IsPart g → AllByRecursion IsShort ss → AllByRecursion IsShort (grouped g ss)
+short_part g ss part short = (refl, tokens_short g part.short (lone 41 ∷ ss) (refl, short))
+
 short_more : (gs : List Formula) → AllByRecursion IsPart gs → AllByRecursion IsShort (more_tokens gs)
-short_more [] all = tt
-short_more (g ∷ gs) all =
-    (refl, (refl, tokens_short g all.0.short (lone 41 ∷ more_tokens gs) (refl, short_more gs all.1)))
+short_more = chains.short_more grouped IsPart short_part
 
 -- a part opens one parenthesis more than its canonical text
+few_part : (f g : Formula) (ss : List Spelt)
+    → occurrences f + opens_of (and_sign ∷ grouped g ss) ≤ occurrences (Binary operator.And f g) + opens_of ss
+few_part f g ss = omega (arith, few_open g (lone 41 ∷ ss))
+
 few_more : (gs : List Formula) (f : Formula) → occurrences f + opens_of (more_tokens gs) ≤ occurrences (chain f gs)
-few_more [] f = omega arith
-few_more (g ∷ gs) f = omega (arith, few_open g (lone 41 ∷ more_tokens gs), few_more gs (Binary operator.And f g))
+few_more = chains.few_more grouped (Binary operator.And) occurrences opens_of refl few_part
 
 -- ---- the text
 

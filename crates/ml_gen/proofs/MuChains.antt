@@ -8,7 +8,6 @@ use Rattle.std.proofs.Common.{◌≡◌, ℕ, ◌+◌, ◌≤◌, true, false, L
 use Rattle.std.specs.List.{AllByRecursion}
 use Rattle.std.proofs.lemmas.Bool.{and_from}
 use Rattle.ml_text.specs.declared.token.Operator.TheVariants as operator
-use Rattle.ml_text.specs.declared.token.Token.TheVariants as token
 use Rattle.ml_text.specs.declared.token.WordStart.TheVariants.{AnyLetter}
 use Rattle.ml_text.specs.Tokens.{tokens}
 use Rattle.ml_text.specs.Refusals.{signs_of, most_occurrences}
@@ -33,10 +32,11 @@ use Rattle.ml_mu.proofs.CanonicalTexts.{reads_formula, scans_formula, sign_spelt
 use Rattle.ml_mu.proofs.Counting.{counts, counted_items}
 use Rattle.ml_mu.proofs.FaultFree.{well_fine}
 use Rattle.ml_mu.proofs.GrammarTables.{un_raised}
+use Rattle.ml_gen.proofs.Chains as chains
+use Rattle.ml_gen.proofs.Chains.{and_sign}
 
 abbrev pub chain : Formula → List Formula → Formula
-chain f [] = f
-chain f (g ∷ gs) = chain (Binary operator.And f g) gs
+chain = chains.chain (Binary operator.And)
 
 abbrev pub more_text : List Formula → List ℕ
 more_text [] = []
@@ -66,8 +66,7 @@ chain_part (g ∷ gs) f p all = chain_part gs (Binary operator.And f g) (both f 
 -- ---- the tokens
 
 abbrev more_tokens : List Formula → List Spelt
-more_tokens [] = []
-more_tokens (g ∷ gs) = (token.Operator operator.And, codes "&") ∷ tokens_onto g (more_tokens gs)
+more_tokens = chains.more_tokens tokens_onto
 
 stops : (gs : List Formula) → ends_word (more_text gs) ≡ true
 stops [] = refl
@@ -88,13 +87,18 @@ reads_more [] all f ts r = r
 reads_more (g ∷ gs) all f ts r =
     reads_more gs all.1 (Binary operator.And f g) ts (and r (reads_formula g all.0.spelled (more_tokens gs)))
 
+short_part : (g : Formula) (ss : List Spelt) → IsPart g → AllByRecursion IsShort ss → AllByRecursion IsShort (tokens_onto g ss)
+short_part g ss part short = tokens_short g part.short ss short
+
 short_more : (gs : List Formula) → AllByRecursion IsPart gs → AllByRecursion IsShort (more_tokens gs)
-short_more [] all = tt
-short_more (g ∷ gs) all = (refl, tokens_short g all.0.short (more_tokens gs) (short_more gs all.1))
+short_more = chains.short_more tokens_onto IsPart short_part
+
+few_part : (f g : Formula) (ss : List Spelt)
+    → occurrences f + opens_of (and_sign ∷ tokens_onto g ss) ≤ occurrences (Binary operator.And f g) + opens_of ss
+few_part f g ss = omega (arith, few_open g ss)
 
 few_more : (gs : List Formula) (f : Formula) → occurrences f + opens_of (more_tokens gs) ≤ occurrences (chain f gs)
-few_more [] f = omega arith
-few_more (g ∷ gs) f = omega (arith, few_open g (more_tokens gs), few_more gs (Binary operator.And f g))
+few_more = chains.few_more tokens_onto (Binary operator.And) occurrences opens_of refl few_part
 
 -- ---- the text
 
