@@ -38,3 +38,5 @@ pub mod SomeModel
 pub mod OnlyEdge
 -- lists put in order
 pub mod SortedLists
+-- labels and edges put in order
+pub mod BuiltStructures

@@ -7,29 +7,14 @@
 --   some_behind    == what the diamonds lead to from there
 --   some_numbers   == the states, numbered
 --   some_parts     == their labels and edges
---   some_structure == a structure that is built of these
 --   some_model     == the theorem
-use Rattle.std.proofs.Common.{◌≡◌, ◌↔◌, ℕ, zero, suc, ◌+◌, ◌<◌, ◌≤◌, nat_eq, List, [], ◌∷◌, ◌++◌, length, get_or, map, slice_get, Option}
-use Rattle.std.proofs.Common.{Some, None, Contains, Ordering, ⊎_elim, refl, sym, ap, ◌∙◌, subst, arith, length-append}
-use Rattle.std.specs.List.{range_with_len}
-use Rattle.std.specs.Ordering.{nat_cmp}
-use Rattle.std.specs.Cmp.{IsTotalOrder}
-use Rattle.std.specs.Cmp.Lexicographic.{slice_cmp}
-use Rattle.std.specs.declared.cmp.Ordering.TheVariants.{Equal}
+use Rattle.std.proofs.Common.{◌≡◌, ℕ, zero, suc, ◌+◌, ◌<◌, ◌≤◌, nat_eq, List, [], ◌∷◌, ◌++◌, length, get_or, map, slice_get, Option}
+use Rattle.std.proofs.Common.{Some, None, ⊎_elim, refl, sym, ap, ◌∙◌, subst, arith, length-append}
 use Rattle.std.proofs.lemmas.Bool.{cases_lt}
-use Rattle.std.proofs.lemmas.Cmp.{on_total, then_total, nat_cmp_total, nat_list_cmp_total}
 use Rattle.std.proofs.lemmas.List.{length-map}
 use Rattle.std.proofs.lemmas.Option.{slice_get_within, slice_get-get_or, get_or_from_slice_get}
-use Rattle.std.proofs.lemmas.Map.Lookups.{exact_unsigned, exact_bytes}
-use Rattle.ml_base.specs.EdgeOrder.{edge_cmp}
 use Rattle.ml_base.specs.declared.structure.Edge.{Edge}
-use Rattle.ml_base.specs.Structure.{Structure, IsStructure}
-use Rattle.ml_kripke.specs.Ordered.{IsOrdered, IsBuiltFrom, labels_at, first_bad_state}
-use Rattle.ml_kripke.proofs.Build as build
-use Rattle.ml_kripke.proofs.OneStructure.{edge_order}
-use Rattle.ml_kripke.proofs.RowOrder.{label_cmp}
-use Rattle.ml_lists.proofs.Members.{member_of_contains, contains_of_member}
-use Rattle.ml_lists.proofs.Orderings.{both_tied}
+use Rattle.ml_base.specs.Structure.{Structure}
 use Rattle.ml_graph.specs.Graph.{Graph, size}
 use Rattle.ml_parity.specs.declared.players.Player.{Player}
 use Rattle.ml_parity.specs.declared.players.Player.TheVariants.{Even, Odd}
@@ -48,10 +33,9 @@ use Rattle.ml_extract.specs.private.WonPositions.{AreBehind, IsChosenEnd, IsEnd,
 use Rattle.ml_extract.proofs.Board.{Board, board_of, even_moves}
 use Rattle.ml_extract.proofs.GatheredParts.{is_model, none_gathered, one_more}
 use Rattle.ml_extract.proofs.NumberedStates.{all_looked_at, begins, is_pending, looked_at, states_few}
-use Rattle.ml_extract.proofs.SortedLists.{Sorted, sorted}
+use Rattle.ml_extract.proofs.BuiltStructures.{BuiltStructure, some_structure}
 use Rattle.ml_extract.proofs.StateParts.{all_in_range, numbered_few, same_lengths, some_state}
 use Rattle.ml_extract.proofs.WonEnds.{behind_even, behind_odd, chosen_before, chosen_end, ends_at_odd, ends_past, goes_on}
-use Rattle.ml_base.proofs.Edges.{edges_exact}
 
 -- ---- where choices end
 
@@ -163,53 +147,6 @@ module _ (g : Graph) (a : Arena) (s : GameSolution) (fs ls : List ℕ) (n : AreN
             ),
           )
 
--- ---- a structure of these
-
-label_order : IsTotalOrder label_cmp
-label_order =
-    then_total (on_total (λ (x : ℕ × List ℕ). x.0) nat_cmp_total)
-    (on_total (λ (x : ℕ × List ℕ). x.1) nat_list_cmp_total)
-
-labels_exact : (x y : ℕ × List ℕ) → label_cmp x y ≡ Equal → x ≡ y
-labels_exact x y tied =
-    let both = both_tied (nat_cmp x.0 y.0) (slice_cmp nat_cmp x.1 y.1) tied in
-    let state = exact_unsigned x.0 y.0 both.0 in
-    let name = exact_bytes x.1 y.1 both.1 in
-    λ i. (state i, name i)
-
-record SomeStructure (n : ℕ) (labels : List (ℕ × List ℕ)) (edges : List Edge) : Type 0 where
-  pub structure : Structure
-  pub is_structure : IsStructure structure
-  pub is_ordered : IsOrdered structure
-  pub is_built : IsBuiltFrom n labels edges structure
-
-some_structure : (n : ℕ) (labels : List (ℕ × List ℕ)) (edges : List Edge)
-    → 0 < n
-    → first_bad_state n labels edges ≡ None
-    → SomeStructure n labels edges
-some_structure n labels edges some none =
-    of_sorted (sorted label_cmp label_order labels_exact labels) (sorted edge_cmp edge_order edges_exact edges)
-  where
-    same : {K : Type 0} (R : K → K → Ordering) (xs : List K) (s : Sorted R xs) (x : K)
-        → Contains s.list x ↔ Contains xs x
-    same R xs s x = (
-      (λ h. contains_of_member x xs (s.inside x (member_of_contains x s.list h))),
-      (λ h. contains_of_member x s.list (s.all x (member_of_contains x xs h))),
-    )
-
-    of_sorted : Sorted label_cmp labels → Sorted edge_cmp edges → SomeStructure n labels edges
-    of_sorted l e =
-        let rows = map (labels_at l.list) (range_with_len 0 n) in
-        let same_labels = same label_cmp labels l in
-        let same_edges = same edge_cmp edges e in
-        record {
-          structure = build.structure_of n labels l.list edges e.list none same_labels rows refl same_edges;
-          is_structure = build.is_structure n labels l.list edges e.list none same_labels rows refl same_edges some;
-          is_ordered =
-              build.is_ordered n labels l.list edges e.list none same_labels rows refl same_edges l.ascends e.ascends;
-          is_built = build.is_built n labels l.list edges e.list none same_labels rows refl same_edges;
-        }
-
 -- ---- the model
 
 abbrev Made : Graph → Arena → GameSolution → Type 0
@@ -221,7 +158,7 @@ some_model g a s even = of_numbers (some_numbers (board_of g a s even))
   where
     of_structure : (fs ls : List ℕ) (n : AreNumbered g a s fs ls) (labels : List (ℕ × List ℕ)) (edges : List Edge)
         → AreGathered g a n.states (length ls) labels edges
-        → SomeStructure (length ls) labels edges
+        → BuiltStructure (length ls) labels edges
         → Made g a s
     of_structure fs ls n labels edges gathered x = (
       x.structure,
