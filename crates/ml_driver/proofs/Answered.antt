@@ -4,15 +4,12 @@
 --   closure_fits       == of a problem that is closed the closure is small
 --   satisfied, refuted, left_open == a problem with what was found for it
 --   answered           == a decision with its document answers the question
---   refused_answered   == a refusal of the parser with its line does
-use Rattle.std.proofs.Common.{◌≡◌, ◌≤◌, ◌<◌, ◌^◌, ℕ, Bool, true, false, List, length, Some, inr}
-use Rattle.ml_base.specs.declared.parse_refusal.ParseRefusal.{ParseRefusal}
+use Rattle.std.proofs.Common.{◌≡◌, ◌<◌, ◌^◌, ℕ, List, refl}
 use Rattle.ml_base.specs.Structure.{Structure}
 use Rattle.ml_extract.specs.Extraction.{Extracted}
 use Rattle.ml_graph.specs.Graph.{Graph}
 use Rattle.ml_front.specs.Graphs.{HasLargeClosure, IsGraphOf}
 use Rattle.ml_front.specs.Laws.{HoldsWhere}
-use Rattle.ml_front.specs.Logics.{IsRefusedBy}
 use Rattle.ml_front.specs.declared.problem.Problem.{Problem}
 use Rattle.ml_front.specs.declared.problem.TheConstants.{MOST_NODES}
 use Rattle.ml_kripke.specs.Ordered.{HasNames, IsOrdered}
@@ -24,10 +21,8 @@ use Rattle.ml_refutation.specs.Views.{of_parts}
 use Rattle.ml_refutation.specs.declared.refutation.Refutation.{Refutation}
 use Rattle.ml_refute_check.proofs.Refuted.{refuted_is_unsatisfiable}
 use Rattle.ml_refute_check.specs.Documents.{document_of}
-use Rattle.ml_driver.specs.Bench.{asked}
-use Rattle.ml_driver.specs.Decision.{IsAnsweredIn, IsProblem, IsClosed, IsClosedBy, LeftOpen, PassesLimit, Refuted, Satisfied, StaysOpen}
+use Rattle.ml_driver.specs.Decision.{IsAnswered, IsProblem, IsClosed, LeftOpen, PassesLimit, Refuted, Satisfied, StaysOpen, if_open, if_refuted, if_satisfied}
 use Rattle.ml_driver.specs.Documents.{satisfiable_document, undecided_document}
-use Rattle.ml_driver.specs.Statuses.{longest_text, refusal_line}
 use Rattle.ml_driver.specs.declared.cause.Cause.{Cause}
 use Rattle.ml_driver.specs.declared.cause.Cause.TheVariants.{Positions, Closure}
 use Rattle.ml_driver.specs.declared.deciding.Decision.{Decision}
@@ -35,52 +30,41 @@ use Rattle.ml_driver.specs.declared.deciding.Decision.TheVariants as decision
 use Rattle.ml_driver.specs.declared.question.Question.{Question}
 use Rattle.ml_driver.specs.declared.question.Way.{Way}
 use Rattle.ml_driver.specs.declared.question.Way.TheVariants.{WholeGame, Search}
-use Rattle.ml_driver.specs.declared.status.Status.TheVariants as status
 use Rattle.ml_driver.specs.private.Decisions.{IsDecisionOf, IsDocumentFor, ShownIn, status_in}
 use Rattle.ml_front.proofs.Graphs.{meaningful}
 use Rattle.ml_front.proofs.Logics.{parsed_well}
 use Rattle.ml_driver.proofs.ProblemGraphs.{admitted, keeps_limit}
 
-closes : (q : Question) (p : Problem)
+closes : (n : ℕ) (p : Problem)
     → (HasLargeClosure p MOST_NODES → ⊥)
-    → (PassesLimit p q.limit → ⊥)
+    → (PassesLimit p n → ⊥)
     → (c : Cause)
-    → ¬ (StaysOpen q p c)
-closes q p fits keeps (Positions n) stays = keeps stays.2
-closes q p fits keeps Closure stays = fits stays
+    → ¬ (StaysOpen n p c)
+closes n p fits keeps (Positions m) stays = keeps stays.2
+closes n p fits keeps Closure stays = fits stays
 
-closed_by : (w : Way) (q : Question) (p : Problem)
+pub closed : (w : Way) (n : ℕ) (p : Problem)
     → (HasLargeClosure p MOST_NODES → ⊥)
-    → (PassesLimit p q.limit → ⊥)
-    → IsClosedBy w q p
-closed_by WholeGame q p fits keeps = closes q p fits keeps
-closed_by Search q p fits keeps = fits
+    → (PassesLimit p n → ⊥)
+    → IsClosed w n p
+closed WholeGame n p fits keeps = closes n p fits keeps
+closed Search n p fits keeps = fits
 
-pub closed : (q : Question) (p : Problem)
-    → (HasLargeClosure p MOST_NODES → ⊥)
-    → (PassesLimit p q.limit → ⊥)
-    → IsClosed q p
-closed q p fits keeps = closed_by q.way q p fits keeps
-
-fits_by : (w : Way) (q : Question) (p : Problem) → IsClosedBy w q p → HasLargeClosure p MOST_NODES → ⊥
-fits_by WholeGame q p is_closed = is_closed Closure
-fits_by Search q p is_closed = is_closed
-
-pub closure_fits : (q : Question) (p : Problem) → IsClosed q p → HasLargeClosure p MOST_NODES → ⊥
-closure_fits q p is_closed = fits_by q.way q p is_closed
+pub closure_fits : (w : Way) (n : ℕ) (p : Problem) → IsClosed w n p → HasLargeClosure p MOST_NODES → ⊥
+closure_fits WholeGame n p is_closed = is_closed Closure
+closure_fits Search n p is_closed = is_closed
 
 -- a graph for which something is shown tells that its problem is closed
-shown_closed : (w : Way) (q : Question) (p : Problem) (IsShown : Graph → Type 0) → ShownIn w p q.limit IsShown
-    → IsClosedBy w q p
-shown_closed WholeGame q p IsShown x = closes q p x.fits (keeps_limit p x.graph q.limit x.is_graph x.few)
-shown_closed Search q p IsShown x = x.fits
+shown_closed : (w : Way) (n : ℕ) (p : Problem) (IsShown : Graph → Type 0) → ShownIn w p n IsShown → IsClosed w n p
+shown_closed WholeGame n p IsShown x = closes n p x.fits (keeps_limit p x.graph n x.is_graph x.few)
+shown_closed Search n p IsShown x = x.fits
 
 module _ (q : Question) (text : List ℕ) (p : Problem) (is_problem : IsProblem q text p) (out : List ℕ) where
   -- a structure that was made for a graph of the problem
   pub satisfied : (g : Graph) (m : Structure) (start : ℕ)
       → IsGraphOf g p
       → HoldsWhere g p
-      → IsClosed q p
+      → IsClosed q.way q.limit p
       → Extracted g m start
       → IsOrdered m
       → m.states < 2 ^ 32
@@ -110,7 +94,7 @@ module _ (q : Question) (text : List ℕ) (p : Problem) (is_problem : IsProblem 
   -- a refutation that is accepted in a graph of the problem
   pub refuted : (g : Graph) (r : plain.Refutation)
       → IsGraphOf g p
-      → IsClosed q p
+      → IsClosed q.way q.limit p
       → IsRefutation r
       → IsAccepted g r
       → out ≡ document_of p r
@@ -131,45 +115,27 @@ module _ (q : Question) (text : List ℕ) (p : Problem) (is_problem : IsProblem 
         is_written = written;
       }
 
-  pub left_open : (c : Cause) → StaysOpen q p c → out ≡ undecided_document p c → LeftOpen q text out
+  pub left_open : (c : Cause) → StaysOpen q.limit p c → out ≡ undecided_document p c → LeftOpen q text out
   left_open c stays written =
       record { problem = p; cause = c; is_problem = is_problem; stays_open = stays; is_written = written }
-
-  pub open_in : (negated : Bool) → LeftOpen q text out → IsAnsweredIn negated q text status.Undecided out
-  open_in true left = left
-  open_in false left = left
 
   by_model : (m : Model) → IsDecisionOf q.way p q.limit (decision.Satisfiable m)
       → IsDocumentFor p (decision.Satisfiable m) out
       → Satisfied q text out
   by_model m x written =
       let (made, is_ordered, fits) = x.is_shown in
-      satisfied x.graph m.structure m.start x.is_graph x.agrees (shown_closed q.way q p _ x) made is_ordered fits
+      satisfied x.graph m.structure m.start x.is_graph x.agrees (shown_closed q.way q.limit p _ x) made is_ordered fits
       written.1 written.0
 
   by_refutation : (r : Refutation) → IsDecisionOf q.way p q.limit (decision.Unsatisfiable r)
       → IsDocumentFor p (decision.Unsatisfiable r) out
       → Refuted q text out
   by_refutation r x written =
-      refuted x.graph (of_parts r.names r.sequents r.stacks r.entries) x.is_graph (shown_closed q.way q p _ x) r.is_refutation x.is_shown
+      refuted x.graph (of_parts r.names r.sequents r.stacks r.entries) x.is_graph (shown_closed q.way q.limit p _ x) r.is_refutation x.is_shown
       written
 
-  stays : (c : Cause) → StaysOpen (asked q.limit p) p c → StaysOpen q p c
-  stays (Positions n) x = x
-  stays Closure x = x
-
-  pub answered : (negated : Bool) (d : Decision) → IsDecisionOf q.way p q.limit d → IsDocumentFor p d out
-      → IsAnsweredIn negated q text (status_in negated d) out
-  answered false (decision.Satisfiable m) x written = by_model m x written
-  answered true (decision.Satisfiable m) x written = by_model m x written
-  answered false (decision.Unsatisfiable r) x written = by_refutation r x written
-  answered true (decision.Unsatisfiable r) x written = by_refutation r x written
-  answered negated (decision.Undecided c) x written = open_in negated (left_open c (stays c x) written)
-
-pub refused_answered : (negated : Bool) (q : Question) (text out : List ℕ) (e : ParseRefusal)
-    → length text ≤ longest_text
-    → IsRefusedBy q.logic text e → Some out ≡ refusal_line e → IsAnsweredIn negated q text status.Text out
-refused_answered true q text out e short refused written =
-    inr (record { refusal = e; is_short = short; is_refused = refused; is_written = written })
-refused_answered false q text out e short refused written =
-    inr (record { refusal = e; is_short = short; is_refused = refused; is_written = written })
+  pub answered : (d : Decision) → IsDecisionOf q.way p q.limit d → IsDocumentFor p d out
+      → IsAnswered q text (status_in q.negated d) out
+  answered (decision.Satisfiable m) x written = if_satisfied refl (by_model m x written)
+  answered (decision.Unsatisfiable r) x written = if_refuted refl (by_refutation r x written)
+  answered (decision.Undecided c) x written = if_open refl (left_open c x written)

@@ -1,12 +1,12 @@
--- What is due for `determinise`: exactly one status with exactly one output, and one automaton is written of a text,
+-- What is the answer to `determinise`: exactly one status with exactly one output, and one automaton is written of a text,
 -- whatever the limit.
 --
 --   one_written    == of a text one automaton is written
---   one_determinised == one status is due at most, and one output
---   on_automaton   == some status is due, with some output
+--   one_automaton_answer == one status is the answer at most, with one output
+--   one_determinised == so one is due
+--   on_automaton   == some status is the answer, with some output
 --   written_words  == what is written accepts the words that the text's automaton accepts
-use Rattle.std.proofs.Common.{◌≡◌, ◌≢◌, ℕ, ◌+◌, ◌*◌, ◌<◌, ◌≤◌, List, length, Some, None, refl, sym, ap, subst, ◌∙◌, inl, inr, ⊎_elim, arith}
-use Rattle.std.proofs.lemmas.Bool.{cases_lt}
+use Rattle.std.proofs.Common.{◌≡◌, ◌≢◌, ℕ, ◌+◌, ◌*◌, List, length, Some, None, refl, sym, ap, subst, ◌∙◌, ⊎_elim, arith}
 use Rattle.std.proofs.lemmas.List.{length-map}
 use Rattle.ml_trace.specs.Stack.{Item}
 use Rattle.ml_hoa.specs.Automaton.{Automaton}
@@ -21,22 +21,34 @@ use Rattle.ml_buchi.specs.Deterministic.{Deterministic, IsDeterminised}
 use Rattle.ml_buchi.specs.Valuations.{letters_of}
 use Rattle.ml_buchi.specs.WrittenText.{automaton_text}
 use Rattle.ml_buchi.proofs.SameWords.{one_automaton as one_deterministic, same_words}
-use Rattle.ml_driver.specs.Automata.{IsRefusedAsAutomaton, IsWrittenFor, PassesLimit, StandsForOne, automaton_refusal_line, passed_line}
+use Rattle.ml_driver.specs.Automata.{IsRefusedAutomaton, IsWrittenFor, PassesLimit, StandsForOne, automaton_refusal_line, passed_line}
+use Rattle.ml_driver.proofs.InputLimits.{SomeAnswer, alike_due, answer_due}
 use Rattle.ml_driver.specs.Laws.{OneAutomatonDue, OneAutomatonWritten, WrittenAcceptsTheSame}
-use Rattle.ml_driver.specs.Run.{IsDue}
-use Rattle.ml_driver.specs.Statuses.{longest_automaton, refused_length}
+use Rattle.ml_driver.specs.Run.{IsAnswer}
+use Rattle.ml_driver.specs.Statuses.{code_of}
 use Rattle.ml_driver.specs.declared.command.Command.TheVariants.{Determinise}
 use Rattle.ml_driver.specs.declared.status.Status.{Status}
 use Rattle.ml_driver.specs.declared.status.Status.TheVariants.{Yes, Undecided, Text}
 
 -- ---- one automaton
 
-pub one_written : OneAutomatonWritten
-one_written n m text out more x y =
+written_alike : (n m : ℕ) (text out more : List ℕ)
+    → StandsForOne text (λ a. IsWrittenFor a n out)
+    → StandsForOne text (λ a. IsWrittenFor a m more)
+    → out ≡ more
+written_alike n m text out more x y =
     let same = one_automaton text y.automaton x.automaton y.is_read x.is_read in
     let other = subst (λ a. IsDeterminised a y.is_so.deterministic) same y.is_so.is_determinised in
     let d = one_deterministic x.automaton x.is_so.deterministic y.is_so.deterministic x.is_so.is_determinised other in
     x.is_so.is_written ∙ ap automaton_text d ∙ sym y.is_so.is_written
+
+yes_kept : Yes ≢ Text
+yes_kept is = omega (arith, ap code_of is)
+
+pub one_written : OneAutomatonWritten
+one_written n m text out more x y =
+    written_alike n m text out more (answer_due (Determinise n) text Yes out yes_kept x)
+    (answer_due (Determinise m) text Yes more yes_kept y)
 
 -- ---- one status
 
@@ -50,32 +62,14 @@ written_or_passed a n out more x y =
     (record { is_numbering = hs.is_numbering; few = omega (arith, as_many, long, low) })
     y.has_more
 
--- what comes of a text
-data Determinises (n : ℕ) (text out : List ℕ) : Status → Type 0 where
-  too_long : longest_automaton < length text → out ≡ refused_length → Determinises n text out Text
-  refused : (r : IsRefusedAsAutomaton text out) → r.refusal ≢ cause.NoMemory → Determinises n text out Text
-  written : StandsForOne text (λ a. IsWrittenFor a n out) → Determinises n text out Yes
-  passed : StandsForOne text (λ a. PassesLimit a n out) → Determinises n text out Undecided
-
 -- want of memory has no line
 told_cause : (e : HoaRefusal) (out : List ℕ) → Some out ≡ automaton_refusal_line e → e ≢ cause.NoMemory
 told_cause e out line is = let none : Some out ≡ None = line ∙ ap automaton_refusal_line is in absurd (cc)
 
-determinises : (n : ℕ) (text : List ℕ) (s : Status) (out : List ℕ) → IsDue (Some (Determinise n)) text s out
-    → Determinises n text out s
-determinises n text Yes out due = written due
-determinises n text Undecided out due = passed due
-determinises n text Text out due =
-    ⊎_elim
-    (λ (long : (longest_automaton < length text) × (out ≡ refused_length)). too_long long.0 long.1)
-    (λ (r : IsRefusedAsAutomaton text out). refused r (told_cause r.refusal out r.is_written))
-    due
-determinises n text _ out due = absurd due
-
 -- a text isn't read and refused
-read_or_refused : (text out : List ℕ) (IsSo : Automaton → Type 0) (x : StandsForOne text IsSo) (r : IsRefusedAsAutomaton text out)
-    → r.refusal ≢ cause.NoMemory → ⊥
-read_or_refused text out IsSo x r told = told (never_both text x.automaton r.refusal x.is_read r.is_refused)
+read_or_refused : (text out : List ℕ) (IsSo : Automaton → Type 0) → StandsForOne text IsSo → IsRefusedAutomaton text out → ⊥
+read_or_refused text out IsSo x r =
+    told_cause r.refusal out r.is_written (never_both text x.automaton r.refusal x.is_read r.is_refused)
 
 one_made : (n : ℕ) (text out more : List ℕ) → StandsForOne text (λ a. IsWrittenFor a n out)
     → StandsForOne text (λ a. PassesLimit a n more) → ⊥
@@ -83,35 +77,36 @@ one_made n text out more x y =
     let same = one_automaton text y.automaton x.automaton y.is_read x.is_read in
     written_or_passed x.automaton n out more x.is_so (subst (λ a. PassesLimit a n more) same y.is_so)
 
-same_line : (text out more : List ℕ) (r : IsRefusedAsAutomaton text out) (q : IsRefusedAsAutomaton text more)
-    → r.refusal ≢ cause.NoMemory → q.refusal ≢ cause.NoMemory → out ≡ more
-same_line text out more r q told known =
+same_line : (text out more : List ℕ) → IsRefusedAutomaton text out → IsRefusedAutomaton text more → out ≡ more
+same_line text out more r q =
+    let told = told_cause r.refusal out r.is_written in
+    let known = told_cause q.refusal more q.is_written in
     let same = one_refusal text r.refusal q.refusal told known r.is_refused q.is_refused in
     let line = r.is_written ∙ ap automaton_refusal_line same ∙ sym q.is_written in
     cc
 
-same_way : (n : ℕ) (text out more : List ℕ) (s t : Status) → Determinises n text out s → Determinises n text more t
+pub one_automaton_answer : (n : ℕ) (text : List ℕ) (s t : Status) (out more : List ℕ)
+    → IsAnswer (Determinise n) text s out
+    → IsAnswer (Determinise n) text t more
     → (s ≡ t) × (out ≡ more)
-same_way n text out more s t (too_long long is) (too_long also line) = (refl, is ∙ sym line)
-same_way n text out more s t (too_long long is) (refused r told) = absurd (omega (arith, long, r.is_short))
-same_way n text out more s t (too_long long is) (written x) = absurd (omega (arith, long, x.is_short))
-same_way n text out more s t (too_long long is) (passed x) = absurd (omega (arith, long, x.is_short))
-same_way n text out more s t (refused r told) (too_long long is) = absurd (omega (arith, long, r.is_short))
-same_way n text out more s t (refused r told) (refused q known) = (refl, same_line text out more r q told known)
-same_way n text out more s t (refused r told) (written x) = absurd (read_or_refused text out _ x r told)
-same_way n text out more s t (refused r told) (passed x) = absurd (read_or_refused text out _ x r told)
-same_way n text out more s t (written x) (too_long long is) = absurd (omega (arith, long, x.is_short))
-same_way n text out more s t (written x) (refused r told) = absurd (read_or_refused text more _ x r told)
-same_way n text out more s t (written x) (written y) = (refl, one_written n n text out more x y)
-same_way n text out more s t (written x) (passed y) = absurd (one_made n text out more x y)
-same_way n text out more s t (passed x) (too_long long is) = absurd (omega (arith, long, x.is_short))
-same_way n text out more s t (passed x) (refused r told) = absurd (read_or_refused text more _ x r told)
-same_way n text out more s t (passed x) (written y) = absurd (one_made n text more out y x)
-same_way n text out more s t (passed x) (passed y) = (refl, x.is_so.is_written ∙ sym y.is_so.is_written)
+one_automaton_answer n text Yes Yes out more x y = (refl, written_alike n n text out more x y)
+one_automaton_answer n text Yes Undecided out more x y = absurd (one_made n text out more x y)
+one_automaton_answer n text Yes Text out more x y = absurd (read_or_refused text more _ x y)
+one_automaton_answer n text Undecided Yes out more x y = absurd (one_made n text more out y x)
+one_automaton_answer n text Undecided Undecided out more x y = (refl, x.is_so.is_written ∙ sym y.is_so.is_written)
+one_automaton_answer n text Undecided Text out more x y = absurd (read_or_refused text more _ x y)
+one_automaton_answer n text Text Yes out more x y = absurd (read_or_refused text out _ y x)
+one_automaton_answer n text Text Undecided out more x y = absurd (read_or_refused text out _ y x)
+one_automaton_answer n text Text Text out more x y = (refl, same_line text out more x y)
+one_automaton_answer n text Yes _ out more x y = absurd y
+one_automaton_answer n text Undecided _ out more x y = absurd y
+one_automaton_answer n text Text _ out more x y = absurd y
+one_automaton_answer n text _ t out more x y = absurd x
 
 pub one_determinised : OneAutomatonDue
 one_determinised n text s t out more x y =
-    same_way n text out more s t (determinises n text s out x) (determinises n text t more y)
+    alike_due (Determinise n) text s t out more ((s ≡ t) × (out ≡ more)) (λ same line. (same, line))
+    (one_automaton_answer n text s t out more) x y
 
 -- ---- some status
 
@@ -121,9 +116,6 @@ automaton_line (cause.Syntax at) told = (_, refl)
 automaton_line (cause.Range at) told = (_, refl)
 automaton_line (cause.TooMany at) told = (_, refl)
 automaton_line cause.NoMemory told = absurd (told refl)
-
-abbrev Due : ℕ → List ℕ → Type 0
-Due n text = (s : Status) × ((out : List ℕ) × IsDue (Some (Determinise n)) text s out)
 
 -- the deterministic automaton of a numbering
 abbrev determinised : Automaton → List (List (Item ℕ)) → Deterministic
@@ -149,46 +141,30 @@ few_written n a hs within =
       is_written = refl;
     }
 
-on_read : (n : ℕ) (text : List ℕ) (a : Automaton) → length text ≤ longest_automaton → IsReadAs text a → Due n text
-on_read n text a short is =
+on_read : (n : ℕ) (text : List ℕ) (a : Automaton) → IsReadAs text a → SomeAnswer (Determinise n) text
+on_read n text a is =
     ⊎_elim
     (λ (few : (hs : List (List (Item ℕ))) × IsNumberingWithin (letters_of a) a.start n hs). (
       Yes,
       (
         automaton_text (determinised a few.0),
-        record { automaton = a; is_short = short; is_read = is; is_so = few_written n a few.0 few.1 },
+        record { automaton = a; is_read = is; is_so = few_written n a few.0 few.1 },
       ),
     ))
     (λ (many : HasMoreThan (letters_of a) a.start n). (
       Undecided,
-      (
-        passed_line n,
-        record {
-          automaton = a;
-          is_short = short;
-          is_read = is;
-          is_so = record { has_more = many; is_written = refl };
-        },
-      ),
+      (passed_line n, record { automaton = a; is_read = is; is_so = record { has_more = many; is_written = refl } }),
     ))
     (some_numbering (letters_of a) a.start n)
 
-on_refused : (n : ℕ) (text : List ℕ) (e : HoaRefusal) → length text ≤ longest_automaton → e ≢ cause.NoMemory
-    → IsRefusedBy text e → Due n text
-on_refused n text e short told is =
-    let line = automaton_line e told in
-    (Text, (line.0, inr (record { refusal = e; is_short = short; is_refused = is; is_written = line.1 })))
-
-pub on_automaton : (n : ℕ) (text : List ℕ) → Due n text
+pub on_automaton : (n : ℕ) (text : List ℕ) → SomeAnswer (Determinise n) text
 on_automaton n text =
     ⊎_elim
-    (λ (long : longest_automaton < length text). (Text, (refused_length, inl (long, refl))))
-    (λ (short : length text ≤ longest_automaton).
-    ⊎_elim
-    (λ (read : (a : Automaton) × IsReadAs text a). on_read n text read.0 short read.1)
-    (λ (bad : (e : HoaRefusal) × (e ≢ cause.NoMemory) × IsRefusedBy text e). on_refused n text bad.0 short bad.1 bad.2)
-    (some_answer text))
-    (cases_lt longest_automaton (length text))
+    (λ (read : (a : Automaton) × IsReadAs text a). on_read n text read.0 read.1)
+    (λ (bad : (e : HoaRefusal) × (e ≢ cause.NoMemory) × IsRefusedBy text e).
+    let line = automaton_line bad.0 bad.1 in
+    (Text, (line.0, record { refusal = bad.0; is_refused = bad.2; is_written = line.1 })))
+    (some_answer text)
 
 -- ---- the words
 

@@ -1,95 +1,94 @@
 -- How a call of `run` ends, from what was read and what was due.
 --
+--   calm_due       == what is due is never a fault or want of memory
 --   ended_written  == a status that is due, with its output written or partly written, ends the call as it should
 --   ended_with     == the same, where the words are a command
 --   too_long_due   == an input past the limit of its command is refused by its length
 --   given_past     == and was read, as far as it was given
 --   unread         == how a call ends that lacks memory before anything is read
-use Rattle.std.proofs.Common.{◌≡◌, ℕ, ◌+◌, ◌<◌, ◌≤◌, length, List, [], Option, Some, None, refl, sym, ap, subst, inl, inr, ⊎_elim, arith}
+use Rattle.std.proofs.Common.{◌≡◌, ℕ, ◌+◌, ◌<◌, ◌≤◌, Bool, true, false, length, List, [], Option, Some, None, IfSome, if◌then◌else◌, refl, sym, ap, subst, inl, inr, ⊎_elim, arith}
 use Rattle.std.specs.Io.KnownBytes.{append_known, prepend_known}
 use Rattle.ml_base.specs.Faults.{Rose}
 use Rattle.ml_base.specs.Whole.{AppendsPart}
 use Rattle.ml_front.specs.declared.answer.Answer.{Answer}
-use Rattle.ml_front.specs.declared.answer.Answer.TheVariants as answer
+use Rattle.ml_lines.specs.Lines.{line_text}
+use Rattle.ml_model_check.specs.declared.checked.Checked.{Checked}
+use Rattle.ml_refute_check.specs.declared.verdict.Verdict.{Verdict}
+use Rattle.ml_driver.specs.Decision.{IsAnswered, if_open, if_refused, if_refuted, if_satisfied}
+use Rattle.ml_driver.specs.Tasks.{IsTaskAnswered}
+use Rattle.ml_driver.specs.declared.question.Question.{Question}
+use Rattle.ml_driver.specs.declared.question.Way.TheVariants.{WholeGame, Search}
 use Rattle.ml_driver.specs.declared.command.Command.{Command}
 use Rattle.ml_driver.specs.declared.command.Command.TheVariants.{Decide, Valid, Find, Prove, CheckModel, CheckRefutation, Migrate, Quotient, SolveGame, Determinise, Realize, Gen, Bench}
 use Rattle.ml_driver.specs.declared.status.Status.{Status}
-use Rattle.ml_driver.specs.declared.status.Status.TheVariants.{Yes, No, Undecided, Words, Text, ReadFault, WriteFault, NoMemory}
+use Rattle.ml_driver.specs.declared.status.Status.TheVariants.{Yes, No, Undecided, Text, ReadFault, WriteFault, NoMemory}
 use Rattle.ml_driver.specs.Bench.{answer_of, status_of}
-use Rattle.ml_driver.specs.Statuses.{code_of, longest_automaton, longest_document, longest_game, longest_input, longest_task, longest_text, refused_length}
-use Rattle.ml_driver.specs.Run.{as_document, document_by_length, input_limit, GaveUpTo, IsCalm, IsDue, IsTooLong, LackedMemory}
-use Rattle.ml_driver.specs.Run.{World, WasGiven, WasRead, IsWhole, Answered, FailedToWrite, Ended, Wrote}
+use Rattle.ml_driver.specs.Statuses.{code_of, length_refused, longest_input, model_said, refutation_said}
+use Rattle.ml_driver.specs.Run.{asked, input_limit, GaveUpTo, IsAnswer, IsCalm, IsDue, LackedMemory}
+use Rattle.ml_driver.specs.Run.{World, WasGiven, IsWhole, Answered, FailedToWrite, Ended, Wrote}
 
--- the status of an answer is none of the later ones
-calm_status : (a : Answer) (s : Status) → s ≡ status_of a → code_of s ≤ 2
-calm_status answer.Satisfiable s is = omega (arith, ap code_of is)
-calm_status answer.Unsatisfiable s is = omega (arith, ap code_of is)
-calm_status answer.Undecided s is = omega (arith, ap code_of is)
+-- ---- statuses
 
--- what is due is never a fault or want of memory
-no_fault_due : (c : Option Command) (text output : List ℕ) → IsDue c text ReadFault output → ⊥
-no_fault_due None text output due = due
-no_fault_due (Some (Decide l n)) text output due = due
-no_fault_due (Some (Valid l n)) text output due = due
-no_fault_due (Some (Find l n)) text output due = due
-no_fault_due (Some (Prove l n)) text output due = due
-no_fault_due (Some CheckModel) text output due = due
-no_fault_due (Some CheckRefutation) text output due = due
-no_fault_due (Some Migrate) text output due = due
-no_fault_due (Some Quotient) text output due = due
-no_fault_due (Some (SolveGame e)) text output due = due
-no_fault_due (Some (Determinise n)) text output due = due
-no_fault_due (Some (Realize n)) text output due = due.is_so
-no_fault_due (Some (Gen f n)) text output due = due
-no_fault_due (Some (Bench f n)) text output due =
-    absurd (omega (arith, calm_status (answer_of due.finding) ReadFault due.status_is))
+calm_status : (a : Answer) (s : Status) → s ≡ status_of a → code_of s ≤ 4
+calm_status _ s is = omega (arith, ap code_of is)
 
-no_write_fault_due : (c : Option Command) (text output : List ℕ) → IsDue c text WriteFault output → ⊥
-no_write_fault_due None text output due = due
-no_write_fault_due (Some (Decide l n)) text output due = due
-no_write_fault_due (Some (Valid l n)) text output due = due
-no_write_fault_due (Some (Find l n)) text output due = due
-no_write_fault_due (Some (Prove l n)) text output due = due
-no_write_fault_due (Some CheckModel) text output due = due
-no_write_fault_due (Some CheckRefutation) text output due = due
-no_write_fault_due (Some Migrate) text output due = due
-no_write_fault_due (Some Quotient) text output due = due
-no_write_fault_due (Some (SolveGame e)) text output due = due
-no_write_fault_due (Some (Determinise n)) text output due = due
-no_write_fault_due (Some (Realize n)) text output due = due.is_so
-no_write_fault_due (Some (Gen f n)) text output due = due
-no_write_fault_due (Some (Bench f n)) text output due =
-    absurd (omega (arith, calm_status (answer_of due.finding) WriteFault due.status_is))
+calm_check : (c : Checked) (s : Status) → s ≡ (model_said c).0 → code_of s ≤ 4
+calm_check _ s is = omega (arith, ap code_of is)
 
-no_want_due : (c : Option Command) (text output : List ℕ) → IsDue c text NoMemory output → ⊥
-no_want_due None text output due = due
-no_want_due (Some (Decide l n)) text output due = due
-no_want_due (Some (Valid l n)) text output due = due
-no_want_due (Some (Find l n)) text output due = due
-no_want_due (Some (Prove l n)) text output due = due
-no_want_due (Some CheckModel) text output due = due
-no_want_due (Some CheckRefutation) text output due = due
-no_want_due (Some Migrate) text output due = due
-no_want_due (Some Quotient) text output due = due
-no_want_due (Some (SolveGame e)) text output due = due
-no_want_due (Some (Determinise n)) text output due = due
-no_want_due (Some (Realize n)) text output due = due.is_so
-no_want_due (Some (Gen f n)) text output due = due
-no_want_due (Some (Bench f n)) text output due =
-    absurd (omega (arith, calm_status (answer_of due.finding) NoMemory due.status_is))
+calm_verdict : (v : Verdict) (s : Status) → s ≡ (refutation_said v).0 → code_of s ≤ 4
+calm_verdict _ s is = omega (arith, ap code_of is)
+
+yes_or_no : (b : Bool) (s t u : Status) → code_of t ≤ 4 → code_of u ≤ 4 → s ≡ (if b then t else u) → code_of s ≤ 4
+yes_or_no true s t u low also is = omega (arith, low, ap code_of is)
+yes_or_no false s t u low also is = omega (arith, also, ap code_of is)
+
+calm_answered : (q : Question) (text : List ℕ) (s : Status) (out : List ℕ) → IsAnswered q text s out → code_of s ≤ 4
+calm_answered q text s out (if_satisfied is x) = yes_or_no q.negated s No Yes (omega arith) (omega arith) is
+calm_answered q text s out (if_refuted is x) = yes_or_no q.negated s Yes No (omega arith) (omega arith) is
+calm_answered q text s out (if_open is x) = omega (arith, ap code_of is)
+calm_answered q text s out (if_refused is x) = omega (arith, ap code_of is)
+
+calm_task : (n : ℕ) (text : List ℕ) (s : Status) (out : List ℕ) → IsTaskAnswered n text s out → code_of s ≤ 4
+calm_task n text Yes out x = omega arith
+calm_task n text No out x = omega arith
+calm_task n text Undecided out x = omega arith
+calm_task n text Text out x = omega arith
+calm_task n text _ out x = absurd x.is_so
+
+-- what is answered is never a fault or want of memory
+calm_answer : (c : Command) (text : List ℕ) (s : Status) (out : List ℕ) → IsAnswer c text s out → code_of s ≤ 4
+calm_answer (Decide l n) text s out x = calm_answered (asked false WholeGame l n) text s out x
+calm_answer (Valid l n) text s out x = calm_answered (asked true WholeGame l n) text s out x
+calm_answer (Find l n) text s out x = calm_answered (asked false Search l n) text s out x
+calm_answer (Prove l n) text s out x = calm_answered (asked true Search l n) text s out x
+calm_answer CheckModel text s out x = calm_check x.finding s x.is_said.0
+calm_answer CheckRefutation text s out x = calm_verdict x.finding s x.is_said.0
+calm_answer (Realize n) text s out x = calm_task n text s out x
+calm_answer (Bench f n) text s out x = calm_status (answer_of x.finding) s x.status_is
+calm_answer c text Yes out x = omega arith
+calm_answer c text Undecided out x = omega arith
+calm_answer c text Text out x = omega arith
+calm_answer Migrate text _ out x = absurd x
+calm_answer Quotient text _ out x = absurd x
+calm_answer (SolveGame e) text _ out x = absurd x
+calm_answer (Determinise n) text _ out x = absurd x
+calm_answer (Gen f n) text _ out x = absurd x
+
+calm_due : (c : Option Command) (text : List ℕ) (s : Status) (out : List ℕ) → IsDue c text s out → code_of s ≤ 4
+calm_due None text s out due = omega (arith, ap code_of due.0)
+calm_due (Some c) text s out (inl x) = calm_answer c text s out x.1
+calm_due (Some c) text s out (inr x) = omega (arith, ap code_of x.1.0)
 
 answered_ended : (c : Option Command) (w : World) (status : Status) → Answered c w status → Ended c w status
-answered_ended c w Yes answered = answered
-answered_ended c w No answered = answered
-answered_ended c w Undecided answered = answered
-answered_ended c w Words answered = answered
-answered_ended c w Text answered = answered
-answered_ended c w ReadFault answered = absurd (no_fault_due c answered.text answered.output answered.is_due)
-answered_ended c w WriteFault answered = absurd (no_write_fault_due c answered.text answered.output answered.is_due)
-answered_ended c w NoMemory answered = absurd (no_want_due c answered.text answered.output answered.is_due)
+answered_ended c w ReadFault x = absurd (omega (arith, calm_due c x.text ReadFault x.output x.is_due))
+answered_ended c w WriteFault x = absurd (omega (arith, calm_due c x.text WriteFault x.output x.is_due))
+answered_ended c w NoMemory x = absurd (omega (arith, calm_due c x.text NoMemory x.output x.is_due))
+answered_ended c w _ x = x
+
+-- ---- ways to end
 
 pub ended_written : (c : Option Command) (w : World) (text : List ℕ) (due : Status) (output : List ℕ) (status : Status)
-    → WasRead c w text
+    → WasGiven (input_limit c) w.left_before w.left_after text
     → w.source_faults_after ≡ w.source_faults_before
     → IsDue c text due output
     → IsWhole output
@@ -130,31 +129,14 @@ ended_written c w text due output status read calm is_due whole_output wrote =
 pub ended_with : (c d : Option Command) (w : World) (status : Status) → d ≡ c → Ended c w status → Ended d w status
 ended_with c d w status same ended = subst (λ k. Ended k w status) (sym same) ended
 
-past_limit : (longest k : ℕ) (text : List ℕ)
-    → Some longest ≡ Some k
-    → k < length text
-    → IsTooLong longest text refused_length
-past_limit longest k text is long = let same : longest ≡ k = cc in (omega (arith, same, long), refl)
-
 -- an input past the limit of its command is refused by its length
 pub too_long_due : (c : Command) (k : ℕ) (text : List ℕ)
     → longest_input c ≡ Some k
     → k < length text
-    → IsDue (Some c) text Text refused_length
-too_long_due (Decide l n) k text is long = inl (past_limit longest_text k text is long)
-too_long_due (Valid l n) k text is long = inl (past_limit longest_text k text is long)
-too_long_due (Find l n) k text is long = inl (past_limit longest_text k text is long)
-too_long_due (Prove l n) k text is long = inl (past_limit longest_text k text is long)
-too_long_due CheckModel k text is long =
-    as_document (document_by_length (past_limit longest_document k text is long))
-too_long_due CheckRefutation k text is long = document_by_length (past_limit longest_document k text is long)
-too_long_due Migrate k text is long = document_by_length (past_limit longest_document k text is long)
-too_long_due Quotient k text is long = document_by_length (past_limit longest_document k text is long)
-too_long_due (SolveGame e) k text is long = inl (past_limit longest_game k text is long)
-too_long_due (Determinise n) k text is long = inl (past_limit longest_automaton k text is long)
-too_long_due (Realize n) k text is long = inl (past_limit longest_task k text is long)
-too_long_due (Gen f n) k text is long = absurd (cc)
-too_long_due (Bench f n) k text is long = absurd (cc)
+    → IsDue (Some c) text length_refused.0 (line_text length_refused.1)
+too_long_due c k text is long =
+    let past : length text ≤ k → ⊥ = λ short. absurd (omega (arith, long, short)) in
+    inr ((λ within. past (subst (λ o. IfSome o (λ n. length text ≤ n)) is within)), (refl, refl))
 
 -- ---- what was given
 

@@ -6,21 +6,21 @@
 use Rattle.std.proofs.Common.{◌≡◌, ℕ, true, false, List, ap₂, refl, sym, subst, ◌∙◌}
 use Rattle.ml_base.specs.declared.parse_refusal.ParseRefusal.{ParseRefusal}
 use Rattle.ml_base.specs.declared.parse_refusal.ParseRefusal.TheVariants as refusal
-use Rattle.ml_front.specs.Logics.{IsParsedAs, IsRefusedBy, logic_of}
+use Rattle.ml_front.specs.Logics.{IsParsedAs, IsRefusedBy, logic_of, some_logic}
 use Rattle.ml_front.specs.declared.logic.Logic.{Logic}
 use Rattle.ml_front.specs.declared.problem.AnyFormula.{AnyFormula}
 use Rattle.ml_front.specs.declared.problem.AnyFormula.TheVariants.{Mu, Pdl, Ltl}
 use Rattle.ml_front.specs.declared.problem.Problem.{Problem}
 use Rattle.ml_front.proofs.Logics.{formula_once, formula_or_refused}
-use Rattle.ml_gen.specs.Families.{formula_text, is_in_range}
+use Rattle.ml_gen.specs.Families.{formula_text, is_in_range, logic_name}
 use Rattle.ml_gen.specs.Formulas.{and_formula, fair_formula, loop_formula, or_formula, step_formula}
 use Rattle.ml_gen.specs.declared.family.Family.{Family}
 use Rattle.ml_gen.specs.declared.family.Family.TheVariants.{And, Or, Step, Fair, Loop}
 use Rattle.ml_gen.proofs.FamilyTexts.{are_parsed}
-use Rattle.ml_driver.specs.Bench.{IsMeant, logic_for}
+use Rattle.ml_driver.specs.Bench.{IsMeant}
 
 meant : (f : Family) (n : ℕ) (formula : AnyFormula)
-    → logic_of formula ≡ logic_for f
+    → logic_of formula ≡ some_logic (logic_name f)
     → IsParsedAs (formula_text f n) formula
     → (p : Problem) × IsMeant f n p
 meant f n formula of_logic parsed =
@@ -40,7 +40,7 @@ one_family_problem f n p r x y =
 
 pub family_not_refused : (f : Family) (n : ℕ) (l : Logic) (text : List ℕ) (e : ParseRefusal)
     → is_in_range f n ≡ true
-    → l ≡ logic_for f
+    → l ≡ some_logic (logic_name f)
     → text ≡ formula_text f n
     → IsRefusedBy l text e
     → e ≡ refusal.NoMemory

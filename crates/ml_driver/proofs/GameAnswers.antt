@@ -1,11 +1,9 @@
--- What is due for `solve-game`: exactly one status, and by both engines the same winners.
+-- What is the answer to `solve-game`: exactly one status, and by both engines the same winners.
 --
---   Solves       == the text is too long, read as a game, or refused
---   one_solved   == one status is due at most
---   on_game      == some status is due, with some output
+--   one_solved   == one status is the answer at most
+--   on_game      == some status is, with some output
 --   same_winners == both engines name the same game and the same winners
-use Rattle.std.proofs.Common.{◌≡◌, ◌≢◌, ℕ, ◌<◌, ◌≤◌, List, length, Some, None, refl, sym, ap, subst, ◌∙◌, inl, inr, ⊎_elim, arith}
-use Rattle.std.proofs.lemmas.Bool.{cases_lt}
+use Rattle.std.proofs.Common.{◌≡◌, ◌≢◌, ℕ, List, Some, None, refl, sym, ap, subst, ◌∙◌, ⊎_elim}
 use Rattle.ml_parity.specs.Game.{ParityGame, IsGame}
 use Rattle.ml_parity.specs.Solution.{GameSolution, IsSolution}
 use Rattle.ml_parity.proofs.SolutionFacts.{solutions_agree}
@@ -17,11 +15,11 @@ use Rattle.ml_pgsolver.specs.declared.refusal.GameTextRefusal.TheVariants as cau
 use Rattle.ml_pgsolver.proofs.OneAnswers.{never_both, one_game_of_text}
 use Rattle.ml_pgsolver.proofs.SomeAnswers.{some_answer}
 use Rattle.ml_product.proofs.SomeSolution.{some_solution}
+use Rattle.ml_driver.proofs.InputLimits.{SomeAnswer}
 use Rattle.ml_progress.proofs.SomeMeasures.{some_measures}
-use Rattle.ml_driver.specs.Games.{IsMadeBy, IsRefusedAsGame, IsRefusedGame, game_refusal_line}
+use Rattle.ml_driver.specs.Games.{IsMadeBy, IsRefusedGame, IsSolved, game_refusal_line}
 use Rattle.ml_driver.specs.Laws.{SameWinners}
-use Rattle.ml_driver.specs.Run.{IsDue}
-use Rattle.ml_driver.specs.Statuses.{longest_game, refused_length}
+use Rattle.ml_driver.specs.Run.{IsAnswer}
 use Rattle.ml_driver.specs.declared.command.Command.TheVariants.{SolveGame}
 use Rattle.ml_driver.specs.declared.engine.Engine.{Engine}
 use Rattle.ml_driver.specs.declared.engine.Engine.TheVariants.{Recursive, Measures}
@@ -30,43 +28,25 @@ use Rattle.ml_driver.specs.declared.status.Status.TheVariants.{Yes, Text}
 
 -- ---- one status
 
-data Solves (text : List ℕ) : Status → Type 0 where
-  too_long_game : longest_game < length text → Solves text Text
-  read_game : (g : NamedGame) → length text ≤ longest_game → IsReadAs text g → Solves text Yes
-  refused_game : (e : GameTextRefusal) → length text ≤ longest_game → e ≢ cause.NoMemory → IsRefusedBy text e → Solves text Text
-
 -- want of memory has no line
 told_cause : (e : GameTextRefusal) (out : List ℕ) → Some out ≡ game_refusal_line e → e ≢ cause.NoMemory
 told_cause e out line is = let none : Some out ≡ None = line ∙ ap game_refusal_line is in absurd (cc)
 
-refused_as_game : (text out : List ℕ) → IsRefusedGame text out → Solves text Text
-refused_as_game text out refused =
-    ⊎_elim
-    (λ (long : (longest_game < length text) × (out ≡ refused_length)). too_long_game long.0)
-    (λ (r : IsRefusedAsGame text out). refused_game r.refusal r.is_short (told_cause r.refusal out r.is_written) r.is_refused)
-    refused
-
-solves : (e : Engine) (text : List ℕ) (s : Status) (out : List ℕ) → IsDue (Some (SolveGame e)) text s out → Solves text s
-solves e text Yes out due = read_game due.named due.is_short due.is_read
-solves e text Text out due = refused_as_game text out due
-solves e text _ out due = absurd due
-
-same_way : (text : List ℕ) (s t : Status) → Solves text s → Solves text t → s ≡ t
-same_way text s t (too_long_game long) (too_long_game more) = refl
-same_way text s t (too_long_game long) (read_game g short is) = absurd (omega (arith, long, short))
-same_way text s t (too_long_game long) (refused_game e short told is) = refl
-same_way text s t (read_game g short is) (too_long_game long) = absurd (omega (arith, long, short))
-same_way text s t (read_game g short is) (read_game h fits also) = refl
-same_way text s t (read_game g short is) (refused_game e fits told also) = absurd (told (never_both text g e is also))
-same_way text s t (refused_game e short told is) (too_long_game long) = refl
-same_way text s t (refused_game e short told is) (read_game g fits also) = absurd (told (never_both text g e also is))
-same_way text s t (refused_game e short told is) (refused_game d fits known also) = refl
+read_or_refused : (e : Engine) (text out more : List ℕ) → IsSolved e text out → IsRefusedGame text more → ⊥
+read_or_refused e text out more x r =
+    told_cause r.refusal more r.is_written (never_both text x.named r.refusal x.is_read r.is_refused)
 
 pub one_solved : (e : Engine) (text : List ℕ) (s t : Status) (out more : List ℕ)
-    → IsDue (Some (SolveGame e)) text s out
-    → IsDue (Some (SolveGame e)) text t more
+    → IsAnswer (SolveGame e) text s out
+    → IsAnswer (SolveGame e) text t more
     → s ≡ t
-one_solved e text s t out more x y = same_way text s t (solves e text s out x) (solves e text t more y)
+one_solved e text Yes Yes out more x y = refl
+one_solved e text Yes Text out more x y = absurd (read_or_refused e text out more x y)
+one_solved e text Text Yes out more x y = absurd (read_or_refused e text more out y x)
+one_solved e text Text Text out more x y = refl
+one_solved e text Yes _ out more x y = absurd y
+one_solved e text Text _ out more x y = absurd y
+one_solved e text _ t out more x y = absurd x
 
 -- ---- some status
 
@@ -85,11 +65,8 @@ solution_by Measures g ok =
     let m = some_measures g ok in
     (m.0.solution, m.1.solution, record { measured = m.0; is_measured = m.1; is_solution = refl })
 
-pub on_game : (e : Engine) (text : List ℕ) → (s : Status) × ((out : List ℕ) × IsDue (Some (SolveGame e)) text s out)
+pub on_game : (e : Engine) (text : List ℕ) → SomeAnswer (SolveGame e) text
 on_game e text =
-    ⊎_elim
-    (λ (long : longest_game < length text). (Text, (refused_length, inl (long, refl))))
-    (λ (short : length text ≤ longest_game).
     ⊎_elim
     (λ (read : (g : NamedGame) × IsReadAs text g).
     let s = solution_by e read.0.game read.1.stands.is_game.is_named.game in (
@@ -99,7 +76,6 @@ on_game e text =
         record {
           named = read.0;
           solution = s.0;
-          is_short = short;
           is_read = read.1;
           is_solution = s.1;
           is_made = s.2;
@@ -108,20 +84,9 @@ on_game e text =
       ),
     ))
     (λ (refused : (d : GameTextRefusal) × (d ≢ cause.NoMemory) × IsRefusedBy text d).
-    let line = game_line refused.0 refused.1 in (
-      Text,
-      (
-        line.0,
-        inr (record {
-          refusal = refused.0;
-          is_short = short;
-          is_refused = refused.2;
-          is_written = line.1;
-        }),
-      ),
-    ))
-    (some_answer text))
-    (cases_lt longest_game (length text))
+    let line = game_line refused.0 refused.1 in
+    (Text, (line.0, record { refusal = refused.0; is_refused = refused.2; is_written = line.1 })))
+    (some_answer text)
 
 -- ---- both engines
 

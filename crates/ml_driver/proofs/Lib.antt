@@ -1,3 +1,5 @@
+-- inputs within the limit of their command, and past it
+pub mod InputLimits
 -- how a call ends
 pub mod Endings
 -- the decision games of graphs that differ in the numbers of names have the same positions
@@ -28,6 +30,8 @@ pub mod ReadBack
 pub mod SomeDue
 -- words worked out by hand
 pub mod WorkedWords
+-- the members of a list that have a property
+pub mod SievedLists
 -- something is done at each position
 pub mod SomeTurn
 -- the decision game has an arena, or passes the limit

@@ -6,10 +6,11 @@
 --   one_size, one_count == the graphs of a problem have as many nodes, and their games as many positions
 --   one_finding      == so one thing is found of it at most
 --   some_finding     == and something is
-use Rattle.std.proofs.Common.{◌≡◌, ℕ, ◌<◌, ◌≤◌, ◌^◌, ◌⊎◌, Bool, true, false, length, refl, sym, ap, ap₂, ◌∙◌, inl, inr, ⊎_elim, arith}
+use Rattle.std.proofs.Common.{◌≡◌, ℕ, ◌<◌, ◌≤◌, ◌^◌, ◌⊎◌, ◌↔◌, Bool, true, false, IsTrue, length, refl, sym, ap, ap₂, ◌∙◌, inl, inr, ⊎_elim, arith}
 use Rattle.std.proofs.lemmas.Bool.{cases_lt}
 use Rattle.ml_front.specs.Graphs.{HasLargeClosure, IsGraphOf}
 use Rattle.ml_front.specs.Logics.{IsWellFormed}
+use Rattle.ml_front.specs.Problems.{IsSatisfiable}
 use Rattle.ml_front.specs.declared.problem.Problem.{Problem}
 use Rattle.ml_front.specs.declared.problem.TheConstants.{MOST_NODES}
 use Rattle.ml_front.proofs.Graphs.{graph_is, graph_small, graphs_agree, graphs_alike, meaningful}
@@ -21,10 +22,11 @@ use Rattle.ml_product.specs.Arena.{Arena, IsArenaOf, game_of}
 use Rattle.ml_product.specs.DecisionGame.{HasMoreThan}
 use Rattle.ml_product.proofs.ArenaGame.{is_game}
 use Rattle.ml_product.proofs.SomeSolution.{some_solution}
-use Rattle.ml_driver.specs.Bench.{HasNodes, HasPositions, IsFinding, IsSatisfiableOrNot, asked}
+use Rattle.ml_driver.specs.Bench.{HasNodes, HasPositions, IsFinding}
 use Rattle.ml_driver.specs.declared.cause.Cause.TheVariants.{Positions, Closure}
 use Rattle.ml_driver.specs.declared.finding.Finding.{Finding}
 use Rattle.ml_driver.specs.declared.finding.Finding.TheVariants.{Decided, GamePassed, ClosurePassed}
+use Rattle.ml_driver.specs.declared.question.Way.TheVariants.{WholeGame}
 use Rattle.ml_driver.specs.declared.stages.SolvedGame.{SolvedGame}
 use Rattle.ml_driver.specs.declared.stages.Stage.{Stage}
 use Rattle.ml_driver.specs.declared.stages.Stage.TheVariants as stage
@@ -44,6 +46,12 @@ has_more g a n arena more = record {
   are_more = more;
 }
 
+fewer_than : (g : Graph) (a : Arena) (n : ℕ) → IsArenaOf g a → HasMoreThan g n → n < length a.positions
+fewer_than g a n arena more =
+    ⊎_elim (λ (less : n < length a.positions). less)
+    (λ (few : length a.positions ≤ n). absurd (few_positions g a n arena few more))
+    (cases_lt n (length a.positions))
+
 -- ---- at a stage
 
 -- the positions are counted by any arena
@@ -51,25 +59,28 @@ pub counted : (p : Problem) (g : Graph) (a : Arena) → IsGraphOf g p → IsAren
 counted p g a is_graph arena = record {
   graph = g;
   is_graph = is_graph;
-  are_no_more = few_positions g a (length a.positions) arena (omega arith);
-  are_no_fewer = λ n less. has_more g a n arena less;
+  are_so_many = λ n. (λ more. fewer_than g a n arena more, λ less. has_more g a n arena less);
 }
 
 module _ (p : Problem) (n : ℕ) (small : n < 2 ^ 32) (well : IsWellFormed p.formula) where
   told : (x : SolvedGame) (w : Player) → IsSolvedFor p n x → winner_at x.solution.winner 0 ≡ w
-      → IsSatisfiableOrNot (is_even w) p
+      → IsTrue (is_even w) ↔ IsSatisfiable p
   told x Even solved is =
+      let satisfiable =
       even_wins p well solved.translated.fits x.graph solved.translated.is_graph_of x.arena solved.is_arena x.solution
-      solved.is_solution is
+      solved.is_solution is in
+      (λ even. satisfiable, λ holds. refl)
   told x Odd solved is =
+      let excluded =
       odd_wins p well solved.translated.fits x.graph solved.translated.is_graph_of x.arena solved.is_arena x.solution
-      solved.is_solution (omega (arith, small, solved.within)) is
+      solved.is_solution (omega (arith, small, solved.within)) is in
+      (λ (even : false ≡ true). absurd (cc), λ holds. absurd (excluded holds))
 
   pub found_of : (x : Stage) → IsStageOf p n x → IsFinding n p (finding_at x)
   found_of (stage.Solved x) solved =
       let is_graph = solved.translated.is_graph_of in
       let few = few_positions x.graph x.arena n solved.is_arena solved.within in (
-        closed (asked n p) p solved.translated.fits (keeps_limit p x.graph n is_graph few),
+        closed WholeGame n p solved.translated.fits (keeps_limit p x.graph n is_graph few),
         record { graph = x.graph; is_graph = is_graph; are_so_many = refl },
         counted p x.graph x.arena is_graph solved.is_arena,
         told x (winner_at x.solution.winner 0) solved refl,
@@ -91,17 +102,18 @@ module _ (p : Problem) where
   no_more j k x y =
       ⊎_elim
       (λ (more : k < j).
-      absurd (y.are_no_more (same_positions p x.graph y.graph k x.is_graph y.is_graph (x.are_no_fewer k more))))
+      let also = (y.are_so_many k).0 (same_positions p x.graph y.graph k x.is_graph y.is_graph ((x.are_so_many k).1 more)) in
+      absurd (omega (arith, also)))
       (λ (le : j ≤ k). le)
       (cases_lt k j)
 
   one_count : (j k : ℕ) → HasPositions p j → HasPositions p k → j ≡ k
   one_count j k x y = omega (arith, no_more j k x y, no_more k j y x)
 
-  one_answer : (b c : Bool) → IsSatisfiableOrNot b p → IsSatisfiableOrNot c p → b ≡ c
+  one_answer : (b c : Bool) → IsTrue b ↔ IsSatisfiable p → IsTrue c ↔ IsSatisfiable p → b ≡ c
   one_answer true true x y = refl
-  one_answer true false x y = absurd (y x)
-  one_answer false true x y = absurd (x y)
+  one_answer true false x y = sym (y.1 (x.0 refl))
+  one_answer false true x y = x.1 (y.0 refl)
   one_answer false false x y = refl
 
   pub one_finding : (n : ℕ) (x y : Finding) → IsFinding n p x → IsFinding n p y → x ≡ y

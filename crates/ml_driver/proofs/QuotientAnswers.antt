@@ -1,6 +1,6 @@
 -- What is due for `quotient`: exactly one status with exactly one output, which says of the problem what was said before.
 --
---   Reduces            == the text is too long, or refused, or a document of which this is written
+--   one_quotient_answer == one status is the answer at most, with one output
 --   one_quotient_due   == one status is due at most, and one output
 --   on_structure       == some status is due, with some output
 --   named_quotient     == the names of a quotient are those of the structure
@@ -8,14 +8,14 @@
 --   written_holds_the_same == it holds at the start exactly where it held
 --   carried            == so checking finds the same
 --   quotients_are_checked_alike == and `check-model` answers the same
-use Rattle.std.proofs.Common.{◌≡◌, ℕ, ◌<◌, ◌≤◌, ◌⊎◌, ◌↔◌, List, [], length, All, Contains, Some, inl, inr, refl, sym, ap, subst, ◌∙◌, ⊎_elim, arith}
-use Rattle.std.proofs.lemmas.Bool.{cases_lt}
+use Rattle.std.proofs.Common.{◌≡◌, ℕ, ◌<◌, ◌⊎◌, ◌↔◌, List, [], All, Contains, Some, inl, inr, refl, sym, ap, subst, ◌∙◌, arith}
 use Rattle.std.proofs.lemmas.List.Elements.{All-contains, All-from_get_or}
 use Rattle.ml_base.specs.Name.{IsName, IsAction}
 use Rattle.ml_base.specs.Structure.{Structure, IsStructure}
 use Rattle.ml_base.specs.declared.structure.Edge.{Edge}
 use Rattle.ml_base.specs.declared.version.Version.TheVariants.{Two}
 use Rattle.ml_lists.proofs.Member.{member-All}
+use Rattle.ml_lines.specs.Lines.{line_text}
 use Rattle.ml_lists.proofs.Members.{contains_of_member}
 use Rattle.ml_kripke.specs.ModelText.{IsWritten}
 use Rattle.ml_kripke.specs.Ordered.{HasNames}
@@ -30,7 +30,7 @@ use Rattle.ml_front.specs.Problems.{HoldsAt}
 use Rattle.ml_front.specs.declared.problem.Problem.{Problem}
 use Rattle.ml_front.proofs.Graphs.{meaningful, never_both}
 use Rattle.ml_front.proofs.Logics.{parsed_well}
-use Rattle.ml_model_check.specs.Checked.{Finds, IsDocument, IsDocumentFault, Shows, SpeaksOf}
+use Rattle.ml_model_check.specs.Checked.{Finds, IsCheckedAs, IsDocument, IsDocumentFault, Shows, SpeaksOf}
 use Rattle.ml_model_check.specs.declared.checked.Checked.{Checked}
 use Rattle.ml_model_check.specs.declared.checked.Checked.TheVariants as checked
 use Rattle.ml_model_check.proofs.OneCheck.{SomeDocument, SomeFault, document_fault, document_or_fault, one_document, one_fault}
@@ -38,29 +38,15 @@ use Rattle.ml_model_check.proofs.ReadBack.{documents_read_back}
 use Rattle.ml_driver.specs.Documents.{satisfiable_document}
 use Rattle.ml_driver.specs.Laws.{OneQuotientDue, QuotientsAreCheckedAlike, QuotientsAreRead, WrittenHoldsTheSame}
 use Rattle.ml_driver.specs.Quotients.{IsReduced}
-use Rattle.ml_driver.specs.Run.{IsDue, IsRefusedDocument, IsRefusedModel, IsUnreadable, IsWhole, as_document, by_deadlock, by_fork, document_by_length, by_line}
-use Rattle.ml_driver.specs.Statuses.{longest_document, refused_document, refused_length}
+use Rattle.ml_driver.specs.Run.{IsAnswer, IsDue, IsWhole}
+use Rattle.ml_driver.specs.Statuses.{IsUnreadable, refused_document}
 use Rattle.ml_driver.specs.declared.command.Command.TheVariants.{CheckModel, Quotient}
 use Rattle.ml_driver.specs.declared.status.Status.{Status}
-use Rattle.ml_driver.specs.declared.status.Status.TheVariants.{Yes, No, Undecided, Text}
+use Rattle.ml_driver.specs.declared.status.Status.TheVariants.{Yes, Text}
+use Rattle.ml_driver.proofs.InputLimits.{SomeAnswer, alike_due}
 use Rattle.ml_driver.proofs.SomeQuotient.{some_quotient}
 
 -- ---- one status, one output
-
--- what comes of a text
-data Reduces (text out : List ℕ) : Status → Type 0 where
-  past_length : longest_document < length text → out ≡ refused_length → Reduces text out Text
-  unreadable : length text ≤ longest_document → IsUnreadable (IsDocumentFault text) out → Reduces text out Text
-  reduced : length text ≤ longest_document → IsReduced text out → Reduces text out Yes
-
-refused : (text out : List ℕ) → IsRefusedDocument (IsDocumentFault text) text out → Reduces text out Text
-refused text out (document_by_length long) = past_length long.0 long.1
-refused text out (by_line short r) = unreadable short r
-
-reduces : (text : List ℕ) (s : Status) (out : List ℕ) → IsDue (Some Quotient) text s out → Reduces text out s
-reduces text Yes out due = reduced due.0 due.1
-reduces text Text out due = refused text out due
-reduces text _ out due = absurd due
 
 read_or_refused : (text out more : List ℕ) → IsReduced text out → IsUnreadable (IsDocumentFault text) more → ⊥
 read_or_refused text out more x r =
@@ -69,7 +55,7 @@ read_or_refused text out more x r =
 one_line : (text out more : List ℕ) (r : IsUnreadable (IsDocumentFault text) out)
     (w : IsUnreadable (IsDocumentFault text) more) → out ≡ more
 one_line text out more r w =
-    r.is_written ∙ ap refused_document (one_fault text r.fault w.fault r.is_fault w.is_fault) ∙ sym w.is_written
+    r.is_written ∙ ap (λ f. line_text (refused_document f)) (one_fault text r.fault w.fault r.is_fault w.is_fault) ∙ sym w.is_written
 
 one_reduced : (text out more : List ℕ) → IsReduced text out → IsReduced text more → out ≡ more
 one_reduced text out more x y =
@@ -84,60 +70,52 @@ one_reduced text out more x y =
     ∙ ap (satisfiable_document y.problem y.quotient) start
     ∙ sym y.is_written
 
-same_way : (text out more : List ℕ) (s t : Status) → Reduces text out s → Reduces text more t → (s ≡ t) × (out ≡ more)
-same_way text out more s t (past_length long is) (past_length also line) = (refl, is ∙ sym line)
-same_way text out more s t (past_length long is) (unreadable short r) = absurd (omega (arith, long, short))
-same_way text out more s t (past_length long is) (reduced short y) = absurd (omega (arith, long, short))
-same_way text out more s t (unreadable short r) (past_length long is) = absurd (omega (arith, long, short))
-same_way text out more s t (unreadable short r) (unreadable fits w) = (refl, one_line text out more r w)
-same_way text out more s t (unreadable short r) (reduced fits y) = absurd (read_or_refused text more out y r)
-same_way text out more s t (reduced short x) (past_length long is) = absurd (omega (arith, long, short))
-same_way text out more s t (reduced short x) (unreadable fits w) = absurd (read_or_refused text out more x w)
-same_way text out more s t (reduced short x) (reduced fits y) = (refl, one_reduced text out more x y)
+pub one_quotient_answer : (text : List ℕ) (s t : Status) (out more : List ℕ)
+    → IsAnswer Quotient text s out
+    → IsAnswer Quotient text t more
+    → (s ≡ t) × (out ≡ more)
+one_quotient_answer text Yes Yes out more x y = (refl, one_reduced text out more x y)
+one_quotient_answer text Yes Text out more x y = absurd (read_or_refused text out more x y)
+one_quotient_answer text Text Yes out more x y = absurd (read_or_refused text more out y x)
+one_quotient_answer text Text Text out more x y = (refl, one_line text out more x y)
+one_quotient_answer text Yes _ out more x y = absurd y
+one_quotient_answer text Text _ out more x y = absurd y
+one_quotient_answer text _ t out more x y = absurd x
 
 pub one_quotient_due : OneQuotientDue
-one_quotient_due text s t out more x y = same_way text out more s t (reduces text s out x) (reduces text t more y)
+one_quotient_due text s t out more x y =
+    alike_due Quotient text s t out more ((s ≡ t) × (out ≡ more)) (λ same line. (same, line))
+    (one_quotient_answer text s t out more) x y
 
 -- ---- some status
 
-abbrev Due : List ℕ → Type 0
-Due text = (s : Status) × ((out : List ℕ) × IsDue (Some Quotient) text s out)
-
-of_document : (text : List ℕ) (p : Problem) (m : Structure) (start : ℕ) → length text ≤ longest_document
-    → IsDocument text p m start
-    → Due text
-of_document text p m start short is =
+of_document : (text : List ℕ) (p : Problem) (m : Structure) (start : ℕ) → IsDocument text p m start
+    → SomeAnswer Quotient text
+of_document text p m start is =
     let q = some_quotient m is.is_written.is_structure in (
       Yes,
       (
         satisfiable_document p q.structure (class_of q.class start),
-        (
-          short,
-          record {
-            problem = p;
-            structure = m;
-            start = start;
-            quotient = q.structure;
-            class = q.class;
-            is_document = is;
-            is_quotient = q.is_quotient;
-            is_written = refl;
-          },
-        ),
+        record {
+          problem = p;
+          structure = m;
+          start = start;
+          quotient = q.structure;
+          class = q.class;
+          is_document = is;
+          is_quotient = q.is_quotient;
+          is_written = refl;
+        },
       ),
     )
 
-pub on_structure : (text : List ℕ) → Due text
-on_structure text =
-    ⊎_elim
-    (λ (long : longest_document < length text). (Text, (refused_length, document_by_length (long, refl))))
-    (λ (short : length text ≤ longest_document). by_reading short (document_or_fault text))
-    (cases_lt longest_document (length text))
+pub on_structure : (text : List ℕ) → SomeAnswer Quotient text
+on_structure text = by_reading (document_or_fault text)
   where
-    by_reading : length text ≤ longest_document → SomeDocument text ⊎ SomeFault text → Due text
-    by_reading short (inl (p, m, s, is)) = of_document text p m s short is
-    by_reading short (inr (fault, found)) =
-        (Text, (refused_document fault, by_line short (record { fault = fault; is_fault = found; is_written = refl })))
+    by_reading : SomeDocument text ⊎ SomeFault text → SomeAnswer Quotient text
+    by_reading (inl (p, m, s, is)) = of_document text p m s is
+    by_reading (inr (fault, found)) =
+        (Text, (line_text (refused_document fault), record { fault = fault; is_fault = found; is_written = refl }))
 
 -- ---- names
 
@@ -229,25 +207,21 @@ module _ (text out : List ℕ) (x : IsReduced text out) where
       finds = found c (finds_here c shows);
     }
 
-    -- `check-model` doesn't refuse the document
-    not_refused : (line : List ℕ) → length text ≤ longest_document → IsRefusedModel text line → ⊥
-    not_refused line short (as_document (document_by_length long)) = absurd (omega (arith, short, long.0))
-    not_refused line short (as_document (by_line fits r)) = read_or_refused text out line x r
-    not_refused line short (by_deadlock fits d) =
-        never_both (logic_of x.problem.formula) x.structure d.state speaks
-        (inl (finds_here (checked.NotTotal d.state) d.is_deadlock))
-    not_refused line short (by_fork fits d) =
-        never_both (logic_of x.problem.formula) x.structure d.state speaks
-        (inr (finds_here (checked.NotAWord d.state) d.is_fork))
+    carried_as : (c : Checked) → IsCheckedAs text c → IsCheckedAs out c
+    carried_as (checked.Unreadable fault) is =
+        absurd (document_fault text x.problem x.structure x.start fault x.is_document is)
+    carried_as checked.Holds shows = carried checked.Holds shows
+    carried_as checked.Fails shows = carried checked.Fails shows
+    carried_as checked.ClosureTooLarge shows = carried checked.ClosureTooLarge shows
+    carried_as (checked.NotTotal state) shows = carried (checked.NotTotal state) shows
+    carried_as (checked.NotAWord state) shows = carried (checked.NotAWord state) shows
 
-    alike : length text ≤ longest_document → IsWhole out → (s : Status) (line : List ℕ)
+    alike : IsWhole text → IsWhole out → (s : Status) (line : List ℕ)
         → IsDue (Some CheckModel) text s line
         → IsDue (Some CheckModel) out s line
-    alike short whole Yes line due = (whole, (carried checked.Holds due.1.0, due.1.1))
-    alike short whole No line due = (whole, (carried checked.Fails due.1.0, due.1.1))
-    alike short whole Undecided line due = (whole, (carried checked.ClosureTooLarge due.1.0, due.1.1))
-    alike short whole Text line due = absurd (not_refused line short due)
-    alike short whole _ line due = absurd due
+    alike short whole s line (inl (within, y)) =
+        inl (whole, record { finding = y.finding; is_found = carried_as y.finding y.is_found; is_said = y.is_said })
+    alike short whole s line (inr y) = absurd (y.0 short)
 
 pub quotients_are_read : QuotientsAreRead
 quotients_are_read text out x = read_back text out x
@@ -256,4 +230,4 @@ pub written_holds_the_same : WrittenHoldsTheSame
 written_holds_the_same text out x speaks = (speaks_too text out x speaks, same_there text out x speaks)
 
 pub quotients_are_checked_alike : QuotientsAreCheckedAlike
-quotients_are_checked_alike text out x speaks whole s line due = alike text out x.1 speaks x.0 whole s line due
+quotients_are_checked_alike text out x speaks short whole s line due = alike text out x speaks short whole s line due

@@ -1,6 +1,5 @@
 -- At each position whose sequent has nodes of the graph something is done: there is a spread, a verdict and moves.
 --
---   Kept, kept  == the members of a list with a property that is decided of each
 --   any_cause   == whether a spread clashes is decided
 --   follow      == the step along a diamond leads to some position
 --   some_turn   == a position has a turn
@@ -27,36 +26,9 @@ use Rattle.ml_sequent.specs.Step.{LeadsOut, IsTarget, IsTrace}
 use Rattle.ml_product.specs.Position.{Position, Follows, neutral}
 use Rattle.ml_product.specs.DecisionGame.{Clashing, Open, Leading, Settled, Target, To, Lost, Won, Turn, AreSteps, IsResolved, diamonds_of}
 use Rattle.ml_lists.proofs.Deciding.{Having, some_member, sieve}
+use Rattle.ml_driver.proofs.SievedLists.{sieved_list}
 use Rattle.ml_refute_check.proofs.DecidedSpreads.{Within, SomeSpread, some_spread, decided_cause, decided_open_or, decided_target, decided_trace}
 use Rattle.ml_refute_check.proofs.DecidedWalks.{lowest_occurs}
-
--- ---- members with a property
-
-record Kept {X : Type 0} (P : X → Type 0) (xs : List X) : Type 0 where
-  pub list : List X
-  pub holds : (x : X) → IsMember x list → P x
-  pub all : (x : X) → IsMember x xs → P x → IsMember x list
-
-module _ {X : Type 0} (P : X → Type 0) where
-  kept : (xs : List X) → ((x : X) → Decided (P x)) → Kept P xs
-  kept [] decide = record { list = []; holds = λ x m. absurd m; all = λ x m p. absurd m }
-  kept (x ∷ xs) decide = more (decide x) (kept xs decide)
-    where
-      more : Decided (P x) → Kept P xs → Kept P (x ∷ xs)
-      more (inl p) k = record { list = x ∷ k.list; holds = holds; all = all }
-        where
-          holds : (y : X) → (y ≡ x) ⊎ IsMember y k.list → P y
-          holds y (inl same) = subst P (sym same) p
-          holds y (inr m) = k.holds y m
-
-          all : (y : X) → (y ≡ x) ⊎ IsMember y xs → P y → (y ≡ x) ⊎ IsMember y k.list
-          all y (inl same) h = inl same
-          all y (inr m) h = inr (k.all y m h)
-      more (inr none) k = record { list = k.list; holds = k.holds; all = all }
-        where
-          all : (y : X) → (y ≡ x) ⊎ IsMember y xs → P y → IsMember y k.list
-          all y (inl same) h = absurd (none (subst P same h))
-          all y (inr m) h = k.all y m h
 
 module _ (g : Graph) (ok : IsGraph g) (p : Position) (low : (n : ℕ) → IsMember n p.sequent → n < size g) where
   within : Within g p.sequent
@@ -133,7 +105,7 @@ module _ (g : Graph) (ok : IsGraph g) (p : Position) (low : (n : ℕ) → IsMemb
     follow : (d : ℕ) → IsMember d sp.nodes → (q : Position) × Follows g p sp d q
     follow d inside =
         let next = sieve (IsTarget g sp d) (size g) (λ m m_low. decided_target g sp d m) in
-        let traces = kept (IsTrace g p.sequent sp d) (triples next.list)
+        let traces = sieved_list (IsTrace g p.sequent sp d) (triples next.list)
         (λ t. decided_trace g sp ok p.sequent within d t) in
         let letter = moves_of (odd_priorities g) traces.list (length traces.list) in (
           record {

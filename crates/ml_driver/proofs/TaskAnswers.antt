@@ -1,12 +1,12 @@
--- What is due for `realize`: exactly one status.
+-- What is the answer to `realize`: exactly one status.
 --
 --   told_of        == what is found is told
---   told_due       == what is told of the task of a text is due
---   one_told       == one status is due at most
---   on_task        == some status is due, with some output
-use Rattle.std.proofs.Common.{◌≡◌, ℕ, ◌<◌, ◌≤◌, ◌⊎◌, true, List, length, Some, refl, sym, subst, inl, inr, ⊎_elim, arith}
-use Rattle.std.proofs.lemmas.Bool.{cases_lt}
+--   told_answered  == what is told of the task of a text is the answer
+--   one_told       == one status is the answer at most
+--   on_task        == some status is, with some output
+use Rattle.std.proofs.Common.{◌≡◌, ℕ, ◌⊎◌, true, List, refl, subst, ⊎_elim, arith}
 use Rattle.ml_base.specs.declared.doc_fault.DocFault.{DocFault}
+use Rattle.ml_lines.specs.Lines.{line_text}
 use Rattle.ml_realize.specs.Laws.{OneSize}
 use Rattle.ml_realize.specs.Realizing.{IsRight}
 use Rattle.ml_realize.specs.TaskGame.{IsFound, IsLarge, PassesLimit, most_nodes}
@@ -23,8 +23,8 @@ use Rattle.ml_task.specs.Task.{IsTask, Task}
 use Rattle.ml_task.specs.TaskText.{IsTaskFault, IsTaskText}
 use Rattle.ml_task.proofs.OneAnswer.{one_task, some_answer, task_or_fault}
 use Rattle.ml_word_automaton.proofs.BlockGraphs.{one_size}
-use Rattle.ml_driver.specs.Statuses.{longest_task, refused_document, refused_length}
-use Rattle.ml_driver.specs.Tasks.{IsDefeated, IsLeftOpen, IsOpenFor, IsRealized, IsRefusedAsTask, IsTaskAnswered, IsTold, StandsForTask}
+use Rattle.ml_driver.specs.Statuses.{IsUnreadable, refused_document}
+use Rattle.ml_driver.specs.Tasks.{IsDefeated, IsLeftOpen, IsOpenFor, IsRealized, IsTaskAnswered, IsTold, StandsForTask}
 use Rattle.ml_driver.specs.private.Outcomes.{status_of}
 use Rattle.ml_driver.specs.declared.status.Status.{Status}
 use Rattle.ml_driver.specs.declared.status.Status.TheVariants.{Yes, No, Undecided, Words, Text, ReadFault, WriteFault, NoMemory}
@@ -41,35 +41,26 @@ told_of t n (Made m) out right is written =
 told_of t n (Defeated e) out right is written =
     record { environment = e; defeats = right; is_found = is; is_written = written }
 
--- ---- what is told is due
+-- ---- what is told is the answer
 
-pub told_due : (n : ℕ) (text : List ℕ) (t : Task) (s : Status) (out : List ℕ)
-    → length text ≤ longest_task
+pub told_answered : (n : ℕ) (text : List ℕ) (t : Task) (s : Status) (out : List ℕ)
     → IsTaskText text t
     → IsTold t n s out
     → IsTaskAnswered n text s out
-told_due n text t Yes out short is so = record { task = t; is_short = short; is_text = is; is_so = so }
-told_due n text t No out short is so = record { task = t; is_short = short; is_text = is; is_so = so }
-told_due n text t Undecided out short is so = record { task = t; is_short = short; is_text = is; is_so = so }
-told_due n text t _ out short is so = absurd so
+told_answered n text t Yes out is so = record { task = t; is_text = is; is_so = so }
+told_answered n text t No out is so = record { task = t; is_text = is; is_so = so }
+told_answered n text t Undecided out is so = record { task = t; is_text = is; is_so = so }
+told_answered n text t _ out is so = absurd so
 
 -- ---- one status
 
 -- what comes of a text
 data Tells (n : ℕ) (text out : List ℕ) : Status → Type 0 where
-  too_long : longest_task < length text → Tells n text out Text
-  refused : IsRefusedAsTask text out → Tells n text out Text
+  refused : IsUnreadable (IsTaskFault text) out → Tells n text out Text
   told : (s : Status) → StandsForTask text (λ t. IsTold t n s out) → Tells n text out s
 
 tells : (n : ℕ) (text : List ℕ) (s : Status) (out : List ℕ) → IsTaskAnswered n text s out → Tells n text out s
-tells n text Yes out due = told Yes due
-tells n text No out due = told No due
-tells n text Undecided out due = told Undecided due
-tells n text Text out due =
-    ⊎_elim
-    (λ (long : (longest_task < length text) × (out ≡ refused_length)). too_long long.0)
-    (λ (r : IsRefusedAsTask text out). refused r)
-    due
+tells n text Text out due = refused due
 tells n text s out due = told s due
 
 -- a task is large exactly where the graph of a reading is
@@ -99,17 +90,12 @@ one_answer t n Undecided _ out more x y = absurd y
 one_answer t n _ u out more x y = absurd x
 
 told_refused : (n : ℕ) (text out more : List ℕ) (s : Status) → StandsForTask text (λ t. IsTold t n s out)
-    → IsRefusedAsTask text more → ⊥
+    → IsUnreadable (IsTaskFault text) more → ⊥
 told_refused n text out more s x r = task_or_fault text x.task r.fault x.is_text r.is_fault
 
 one_way : (n : ℕ) (text out more : List ℕ) (s u : Status) → Tells n text out s → Tells n text more u → s ≡ u
-one_way n text out more s u (too_long long) (too_long also) = refl
-one_way n text out more s u (too_long long) (refused r) = refl
-one_way n text out more s u (too_long long) (told v y) = absurd (omega (arith, long, y.is_short))
-one_way n text out more s u (refused r) (too_long long) = refl
 one_way n text out more s u (refused r) (refused q) = refl
 one_way n text out more s u (refused r) (told v y) = absurd (told_refused n text more out v y r)
-one_way n text out more s u (told v x) (too_long long) = absurd (omega (arith, long, x.is_short))
 one_way n text out more s u (told v x) (refused r) = absurd (told_refused n text out more v x r)
 one_way n text out more s u (told v x) (told w y) =
     one_answer x.task n v w out more x.is_so
@@ -141,27 +127,12 @@ some_told t n ok =
     (λ (r : (r : Outcome) × IsFound t n r). found_told t n r.0 ok r.1))
     (some_outcome t n)
 
-abbrev Due : ℕ → List ℕ → Type 0
-Due n text = (s : Status) × ((out : List ℕ) × IsTaskAnswered n text s out)
-
-on_read : (n : ℕ) (text : List ℕ) (t : Task) → length text ≤ longest_task → IsTaskText text t → Due n text
-on_read n text t short is =
-    let x = some_told t n is.is_task in
-    (x.0, (x.1.0, told_due n text t x.0 x.1.0 short is x.1.1))
-
-pub on_task : (n : ℕ) (text : List ℕ) → Due n text
+pub on_task : (n : ℕ) (text : List ℕ) → (s : Status) × ((out : List ℕ) × IsTaskAnswered n text s out)
 on_task n text =
     ⊎_elim
-    (λ (long : longest_task < length text). (Text, (refused_length, inl (long, refl))))
-    (λ (short : length text ≤ longest_task).
-    ⊎_elim
-    (λ (read : (t : Task) × IsTaskText text t). on_read n text read.0 short read.1)
-    (λ (bad : (fault : DocFault) × IsTaskFault text fault). (
-      Text,
-      (
-        refused_document bad.0,
-        inr (record { fault = bad.0; is_short = short; is_fault = bad.1; is_written = refl }),
-      ),
-    ))
-    (some_answer text))
-    (cases_lt longest_task (length text))
+    (λ (read : (t : Task) × IsTaskText text t).
+    let x = some_told read.0 n read.1.is_task in
+    (x.0, (x.1.0, told_answered n text read.0 x.0 x.1.0 read.1 x.1.1)))
+    (λ (bad : (fault : DocFault) × IsTaskFault text fault).
+    (Text, (line_text (refused_document bad.0), record { fault = bad.0; is_fault = bad.1; is_written = refl })))
+    (some_answer text)

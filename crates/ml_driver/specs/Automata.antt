@@ -4,13 +4,13 @@
 -- of its deterministic parity automaton, whose states are the histories that these letters reach; but if they are more than
 -- the limit, that alone is said.
 --
---   StandsForOne text P    == the text is short enough and stands for an automaton, and P is true of it
+--   StandsForOne text P    == the text stands for an automaton, and P is true of it
 --   IsWrittenFor a n out   == out is the text of the deterministic automaton of a, which has at most n states
 --   passed_line n          == the line for an automaton of which more than n histories are reached
 --   PassesLimit a n out    == a is such an automaton, and out is this line
 --   automaton_refusal_line r == the line for a text that is refused: the number of the cause, and the byte
---   IsRefusedAutomaton text out == out says why the text is refused: by its length, or at a byte
-use Rattle.std.specs.Prelude.{ℕ, ◌≡◌, ◌<◌, ◌≤◌, ◌⊎◌, List, [], ◌∷◌, length, Option, Some, None, codes}
+--   IsRefusedAutomaton text out == out says why the text is refused, and at which byte
+use Rattle.std.specs.Prelude.{ℕ, ◌≡◌, ◌≤◌, List, [], ◌∷◌, length, Option, Some, None, codes}
 use Rattle.ml_lines.specs.Lines.{line_text, number}
 use Rattle.ml_hoa.specs.Automaton.{Automaton}
 use Rattle.ml_hoa.specs.Refusals.{IsReadAs, IsRefusedBy}
@@ -20,13 +20,12 @@ use Rattle.ml_determinise.specs.Numbering.{HasMoreThan}
 use Rattle.ml_buchi.specs.Deterministic.{Deterministic, IsDeterminised}
 use Rattle.ml_buchi.specs.Valuations.{letters_of}
 use Rattle.ml_buchi.specs.WrittenText.{automaton_text}
-use Rattle.ml_driver.specs.Statuses.{longest_automaton, refused_length}
+use Rattle.ml_driver.specs.Statuses.{refused_at}
 
 -- ---- automata that are made deterministic
 
 pub record StandsForOne (text : List ℕ) (IsSo : Automaton → Type 0) : Type 0 where
   pub automaton : Automaton
-  pub is_short : length text ≤ longest_automaton
   pub is_read : IsReadAs text automaton
   pub is_so : IsSo automaton
 
@@ -45,23 +44,14 @@ pub record PassesLimit (a : Automaton) (limit : ℕ) (out : List ℕ) : Type 0 w
 
 -- ---- texts that are refused
 
-abbrev pub automaton_refused_at : ℕ → ℕ → Option (List ℕ)
-automaton_refused_at rule at =
-    Some (line_text (codes "refused" ∷ codes "automaton" ∷ codes "rule" ∷ number rule ∷ codes "at" ∷ number at ∷ []))
-
 -- want of memory is no refusal of the text
 abbrev pub automaton_refusal_line : HoaRefusal → Option (List ℕ)
-automaton_refusal_line (cause.Syntax at) = automaton_refused_at 1 at
-automaton_refusal_line (cause.Range at) = automaton_refused_at 2 at
-automaton_refusal_line (cause.TooMany at) = automaton_refused_at 3 at
+automaton_refusal_line (cause.Syntax at) = refused_at (codes "automaton") 1 at
+automaton_refusal_line (cause.Range at) = refused_at (codes "automaton") 2 at
+automaton_refusal_line (cause.TooMany at) = refused_at (codes "automaton") 3 at
 automaton_refusal_line cause.NoMemory = None
 
-pub record IsRefusedAsAutomaton (text out : List ℕ) : Type 0 where
+pub record IsRefusedAutomaton (text out : List ℕ) : Type 0 where
   pub refusal : HoaRefusal
-  pub is_short : length text ≤ longest_automaton
   pub is_refused : IsRefusedBy text refusal
   pub is_written : Some out ≡ automaton_refusal_line refusal
-
-abbrev pub IsRefusedAutomaton : List ℕ → List ℕ → Type 0
-IsRefusedAutomaton text out =
-    ((longest_automaton < length text) × (out ≡ refused_length)) ⊎ IsRefusedAsAutomaton text out

@@ -4,22 +4,19 @@
 -- Each number is told by definitions alone: the problem is the one that the family's text stands for; its graphs all have
 -- as many nodes, and their games as many positions. Nothing is told of what comes behind a limit that is passed.
 --
---   logic_for f          == the logic of the formulas of the family f
 --   IsMeant f n p        == p is the problem of the text of the family f for n
 --   occurrences_of f     == how many occurrences the formula f has, by its logic
 --   Finding              == what was found of a problem: all, or what came before the limit that was passed
 --   HasNodes p k         == a graph of the problem p has k nodes
 --   HasPositions p k     == the decision game of a graph of p has k positions
---   IsSatisfiableOrNot b p == b tells whether p is satisfiable
---   asked n p            == the question whose problem is p, where the game may have n positions
 --   IsFinding n p x      == x is what is found of p, where the game may have n positions
 --   answer_of x          == satisfiable, unsatisfiable or undecided
 --   status_of a          == the status that goes with this answer
 --   gen_text f n         == the family's text for n, as a line
---   request_line, nodes_line, positions_line == the first, third and fourth line of five
+--   found_lines x        == the lines for the nodes and the positions; where there is no graph there is no game
 --   bench_text f n k x   == the five lines about a formula with k occurrences of which x is found
 --   IsBenched f n s out  == this status and this output are due for `bench f n`
-use Rattle.std.specs.Prelude.{ℕ, ◌≡◌, ◌<◌, Bool, true, false, List, [], ◌∷◌, codes}
+use Rattle.std.specs.Prelude.{ℕ, ◌≡◌, ◌<◌, ◌↔◌, true, false, List, [], ◌∷◌, ◌++◌, codes, IsTrue}
 use Rattle.ml_ctl.specs.Formula as ctl
 use Rattle.ml_front.specs.Graphs.{IsGraphOf}
 use Rattle.ml_front.specs.Head.{answer_line}
@@ -27,7 +24,6 @@ use Rattle.ml_front.specs.Logics.{logic_of, some_logic, IsParsedAs}
 use Rattle.ml_front.specs.Problems.{IsSatisfiable}
 use Rattle.ml_front.specs.declared.answer.Answer.{Answer}
 use Rattle.ml_front.specs.declared.answer.Answer.TheVariants.{Satisfiable, Unsatisfiable, Undecided}
-use Rattle.ml_front.specs.declared.logic.Logic.{Logic}
 use Rattle.ml_front.specs.declared.problem.AnyFormula.{AnyFormula}
 use Rattle.ml_front.specs.declared.problem.AnyFormula.TheVariants.{Mu, Pdl, Ctl, Ltl, Word}
 use Rattle.ml_front.specs.declared.problem.Problem.{Problem}
@@ -43,18 +39,14 @@ use Rattle.ml_driver.specs.declared.cause.Cause.TheVariants.{Positions, Closure}
 use Rattle.ml_driver.specs.declared.command.TheConstants.{GREATEST_LIMIT}
 use Rattle.ml_driver.specs.declared.finding.Finding.{Finding}
 use Rattle.ml_driver.specs.declared.finding.Finding.TheVariants.{Decided, GamePassed, ClosurePassed}
-use Rattle.ml_driver.specs.declared.question.Question.{Question}
 use Rattle.ml_driver.specs.declared.question.Way.TheVariants.{WholeGame}
 use Rattle.ml_driver.specs.declared.status.Status.{Status}
 use Rattle.ml_driver.specs.declared.status.Status.TheVariants as status
 
 -- ---- the problem
 
-abbrev pub logic_for : Family → Logic
-logic_for f = some_logic (logic_name f)
-
 pub record IsMeant (f : Family) (n : ℕ) (p : Problem) : Type 0 where
-  pub of_logic : logic_of p.formula ≡ logic_for f
+  pub of_logic : logic_of p.formula ≡ some_logic (logic_name f)
   pub is_plain : p.negated ≡ false
   pub is_parsed : IsParsedAs (formula_text f n) p.formula
 
@@ -75,27 +67,18 @@ pub record HasNodes (p : Problem) (k : ℕ) : Type 0 where
 pub record HasPositions (p : Problem) (k : ℕ) : Type 0 where
   pub graph : Graph
   pub is_graph : IsGraphOf graph p
-  pub are_no_more : ¬ (HasMoreThan graph k)
-  pub are_no_fewer : (n : ℕ) → n < k → HasMoreThan graph n
-
-abbrev pub IsSatisfiableOrNot : Bool → Problem → Type 0
-IsSatisfiableOrNot true p = IsSatisfiable p
-IsSatisfiableOrNot false p = ¬ (IsSatisfiable p)
-
-abbrev pub asked : ℕ → Problem → Question
-asked n p = record { logic = logic_of p.formula; negated = p.negated; limit = n; way = WholeGame }
+  pub are_so_many : (n : ℕ) → HasMoreThan graph n ↔ (n < k)
 
 abbrev pub IsFinding : ℕ → Problem → Finding → Type 0
 IsFinding n p (Decided nodes positions satisfiable) =
-    IsClosed (asked n p) p × HasNodes p nodes × HasPositions p positions × IsSatisfiableOrNot satisfiable p
-IsFinding n p (GamePassed nodes) = StaysOpen (asked n p) p (Positions n) × HasNodes p nodes
-IsFinding n p ClosurePassed = StaysOpen (asked n p) p Closure
+    IsClosed WholeGame n p × HasNodes p nodes × HasPositions p positions × (IsTrue satisfiable ↔ IsSatisfiable p)
+IsFinding n p (GamePassed nodes) = StaysOpen n p (Positions n) × HasNodes p nodes
+IsFinding n p ClosurePassed = StaysOpen n p Closure
 
 abbrev pub answer_of : Finding → Answer
 answer_of (Decided nodes positions true) = Satisfiable
 answer_of (Decided nodes positions false) = Unsatisfiable
-answer_of (GamePassed nodes) = Undecided
-answer_of ClosurePassed = Undecided
+answer_of _ = Undecided
 
 abbrev pub status_of : Answer → Status
 status_of Satisfiable = status.Yes
@@ -107,29 +90,17 @@ status_of Undecided = status.Undecided
 abbrev pub gen_text : Family → ℕ → List ℕ
 gen_text f n = line_text (formula_text f n ∷ [])
 
-abbrev pub request_line : Family → ℕ → Line
-request_line f n = codes "bench" ∷ family_word f ∷ number n ∷ []
-
-abbrev pub nodes_line : Finding → Line
-nodes_line (Decided nodes positions satisfiable) = codes "nodes" ∷ number nodes ∷ []
-nodes_line (GamePassed nodes) = codes "nodes" ∷ number nodes ∷ []
-nodes_line ClosurePassed = codes "nodes" ∷ codes "passed" ∷ []
-
--- where there is no graph there is no game
-abbrev pub positions_line : Finding → Line
-positions_line (Decided nodes positions satisfiable) = codes "positions" ∷ number positions ∷ []
-positions_line (GamePassed nodes) = codes "positions" ∷ codes "passed" ∷ []
-positions_line ClosurePassed = codes "closure" ∷ codes "passed" ∷ []
+abbrev pub found_lines : Finding → List Line
+found_lines (Decided nodes positions satisfiable) =
+    (codes "nodes" ∷ number nodes ∷ []) ∷ (codes "positions" ∷ number positions ∷ []) ∷ []
+found_lines (GamePassed nodes) = (codes "nodes" ∷ number nodes ∷ []) ∷ (codes "positions" ∷ codes "passed" ∷ []) ∷ []
+found_lines ClosurePassed = (codes "nodes" ∷ codes "passed" ∷ []) ∷ (codes "closure" ∷ codes "passed" ∷ []) ∷ []
 
 abbrev pub bench_text : Family → ℕ → ℕ → Finding → List ℕ
 bench_text f n k x =
     text_of (
-    request_line f n
-    ∷ (codes "occurrences" ∷ number k ∷ [])
-    ∷ nodes_line x
-    ∷ positions_line x
-    ∷ answer_line (answer_of x)
-    ∷ []
+    (codes "bench" ∷ family_word f ∷ number n ∷ []) ∷ (codes "occurrences" ∷ number k ∷ [])
+    ∷ (found_lines x ++ (answer_line (answer_of x) ∷ []))
     )
 
 pub record IsBenched (f : Family) (n : ℕ) (s : Status) (out : List ℕ) : Type 0 where

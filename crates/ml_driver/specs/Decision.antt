@@ -9,18 +9,18 @@
 --
 --   IsProblem q text p    == p is the problem of the text
 --   PassesLimit p n       == the decision game of a graph of p has more than n positions
---   StaysOpen q p c       == p stays undecided for the cause c: a closure with more nodes than are decided, or else a game
---                            past the limit
---   IsClosed q p          == q may be answered: by the whole game, where p stays open for no cause; by a search, where the
---                            closure of p has no more nodes than are decided
+--   StaysOpen n p c       == p stays undecided for the cause c, where the game may have n positions: a closure with more nodes
+--                            than are decided, or else a game past the limit
+--   IsClosed w n p        == p may be answered: by the whole game, where it stays open for no cause; by a search, where its
+--                            closure has no more nodes than are decided
 --   Satisfied q text out  == out is a document about the problem of the text, with a structure and a state at which it
 --                            holds
 --   Refuted q text out    == out is a document about it, with a refutation that is accepted for it; it holds nowhere
 --   LeftOpen q text out   == out is a document about it, with the cause for which it stays undecided
---   RefusedText q text out == out says why the text is refused: by its length, or by the parser
---   IsAnswered q text s out == this status and this output are due: where the question is about the negation, a
---                            refutation says yes
-use Rattle.std.specs.Prelude.{ℕ, ◌≡◌, ◌<◌, ◌≤◌, ◌⊎◌, Bool, true, false, List, length, Some}
+--   RefusedText q text out == out says why the parser refuses the text
+--   IsAnswered q text s out == this status and this output answer the question of the text; where it is about the negation,
+--                            a refutation says yes
+use Rattle.std.specs.Prelude.{ℕ, ◌≡◌, List, Some, if◌then◌else◌}
 use Rattle.ml_base.specs.Structure.{Structure}
 use Rattle.ml_base.specs.declared.parse_refusal.ParseRefusal.{ParseRefusal}
 use Rattle.ml_kripke.specs.ModelText.{IsWritten}
@@ -43,10 +43,9 @@ use Rattle.ml_driver.specs.declared.question.Way.TheVariants.{WholeGame, Search}
 use Rattle.ml_driver.specs.declared.status.Status.{Status}
 use Rattle.ml_driver.specs.declared.status.Status.TheVariants.{Yes, No, Undecided, Text}
 use Rattle.ml_driver.specs.Documents.{satisfiable_document, undecided_document}
-use Rattle.ml_driver.specs.Statuses.{longest_text, refused_length, refusal_line}
+use Rattle.ml_driver.specs.Statuses.{refusal_line}
 
 pub record IsProblem (q : Question) (text : List ℕ) (p : Problem) : Type 0 where
-  pub is_short : length text ≤ longest_text
   pub of_logic : logic_of p.formula ≡ q.logic
   pub in_sense : p.negated ≡ q.negated
   pub is_parsed : IsParsedAs text p.formula
@@ -58,16 +57,13 @@ pub record PassesLimit (p : Problem) (n : ℕ) : Type 0 where
   pub is_graph : IsGraphOf graph p
   pub has_more : HasMoreThan graph n
 
-abbrev pub StaysOpen : Question → Problem → Cause → Type 0
-StaysOpen q p (Positions n) = (n ≡ q.limit) × (¬ (HasLargeClosure p MOST_NODES)) × PassesLimit p q.limit
-StaysOpen q p Closure = HasLargeClosure p MOST_NODES
+abbrev pub StaysOpen : ℕ → Problem → Cause → Type 0
+StaysOpen limit p (Positions n) = (n ≡ limit) × (¬ (HasLargeClosure p MOST_NODES)) × PassesLimit p limit
+StaysOpen limit p Closure = HasLargeClosure p MOST_NODES
 
-abbrev pub IsClosedBy : Way → Question → Problem → Type 0
-IsClosedBy WholeGame q p = (c : Cause) → ¬ (StaysOpen q p c)
-IsClosedBy Search q p = ¬ (HasLargeClosure p MOST_NODES)
-
-abbrev pub IsClosed : Question → Problem → Type 0
-IsClosed q = IsClosedBy q.way q
+abbrev pub IsClosed : Way → ℕ → Problem → Type 0
+IsClosed WholeGame limit p = (c : Cause) → ¬ (StaysOpen limit p c)
+IsClosed Search limit p = ¬ (HasLargeClosure p MOST_NODES)
 
 -- ---- answers
 
@@ -77,7 +73,7 @@ pub record Satisfied (q : Question) (text out : List ℕ) : Type 0 where
   pub structure : Structure
   pub start : ℕ
   pub is_problem : IsProblem q text problem
-  pub is_closed : IsClosed q problem
+  pub is_closed : IsClosed q.way q.limit problem
   pub is_admitted : IsAdmitted (logic_of problem.formula) structure
   pub can_be_written : IsWritten structure start
   pub is_ordered : IsOrdered structure
@@ -90,7 +86,7 @@ pub record Refuted (q : Question) (text out : List ℕ) : Type 0 where
   pub refutation : Refutation
   pub graph : Graph
   pub is_problem : IsProblem q text problem
-  pub is_closed : IsClosed q problem
+  pub is_closed : IsClosed q.way q.limit problem
   pub is_unsatisfiable : ¬ (IsSatisfiable problem)
   pub is_graph : IsGraphOf graph problem
   pub is_refutation : IsRefutation refutation
@@ -101,27 +97,17 @@ pub record LeftOpen (q : Question) (text out : List ℕ) : Type 0 where
   pub problem : Problem
   pub cause : Cause
   pub is_problem : IsProblem q text problem
-  pub stays_open : StaysOpen q problem cause
+  pub stays_open : StaysOpen q.limit problem cause
   pub is_written : out ≡ undecided_document problem cause
 
 -- the parser refuses the text, for this cause and at this byte
-pub record RefusedByParser (q : Question) (text out : List ℕ) : Type 0 where
+pub record RefusedText (q : Question) (text out : List ℕ) : Type 0 where
   pub refusal : ParseRefusal
-  pub is_short : length text ≤ longest_text
   pub is_refused : IsRefusedBy q.logic text refusal
   pub is_written : Some out ≡ refusal_line refusal
 
-abbrev pub RefusedText : Question → List ℕ → List ℕ → Type 0
-RefusedText q text out = ((longest_text < length text) × (out ≡ refused_length)) ⊎ RefusedByParser q text out
-
-abbrev pub IsAnsweredIn : Bool → Question → List ℕ → Status → List ℕ → Type 0
-IsAnsweredIn false q text Yes out = Satisfied q text out
-IsAnsweredIn false q text No out = Refuted q text out
-IsAnsweredIn true q text Yes out = Refuted q text out
-IsAnsweredIn true q text No out = Satisfied q text out
-IsAnsweredIn _ q text Undecided out = LeftOpen q text out
-IsAnsweredIn _ q text Text out = RefusedText q text out
-IsAnsweredIn _ q text _ out = ⊥
-
-abbrev pub IsAnswered : Question → List ℕ → Status → List ℕ → Type 0
-IsAnswered q = IsAnsweredIn q.negated q
+pub data IsAnswered (q : Question) (text : List ℕ) (s : Status) (out : List ℕ) : Type 0 where
+  if_satisfied : s ≡ (if q.negated then No else Yes) → Satisfied q text out → IsAnswered q text s out
+  if_refuted : s ≡ (if q.negated then Yes else No) → Refuted q text out → IsAnswered q text s out
+  if_open : s ≡ Undecided → LeftOpen q text out → IsAnswered q text s out
+  if_refused : s ≡ Text → RefusedText q text out → IsAnswered q text s out

@@ -10,10 +10,10 @@
 --   IsMadeBy e g s       == what is said of the moves of the solution s of g, by the engine
 --   IsSolved e text out  == out is the text of a solution of the game that the text stands for
 --   game_refusal_line r  == the line for the text of a game that is refused: the number of the cause, and the byte
---   IsRefusedGame text out == out says why the text is refused: by its length, or at a byte
-use Rattle.std.specs.Prelude.{ℕ, ◌≡◌, ◌<◌, ◌≤◌, ◌⊎◌, List, [], ◌∷◌, length, Option, Some, None, if◌then◌else◌, codes}
+--   IsRefusedGame text out == out says why the text is refused, and at which byte
+use Rattle.std.specs.Prelude.{ℕ, ◌≡◌, List, Option, Some, None, if◌then◌else◌, codes}
 use Rattle.std.specs.Str.{bytes_eq}
-use Rattle.ml_lines.specs.Lines.{Word, line_text, number}
+use Rattle.ml_lines.specs.Lines.{Word}
 use Rattle.ml_parity.specs.Game.{ParityGame}
 use Rattle.ml_parity.specs.Solution.{GameSolution, IsSolution}
 use Rattle.ml_pgsolver.specs.GameText.{NamedGame}
@@ -22,7 +22,7 @@ use Rattle.ml_pgsolver.specs.SolutionText.{solution_text}
 use Rattle.ml_pgsolver.specs.declared.refusal.GameTextRefusal.{GameTextRefusal}
 use Rattle.ml_pgsolver.specs.declared.refusal.GameTextRefusal.TheVariants as cause
 use Rattle.ml_progress.specs.Measured.{IsMeasured, MeasuredGame}
-use Rattle.ml_driver.specs.Statuses.{longest_game, refused_length}
+use Rattle.ml_driver.specs.Statuses.{refused_at}
 use Rattle.ml_driver.specs.declared.engine.Engine.{Engine}
 use Rattle.ml_driver.specs.declared.engine.Engine.TheVariants.{Recursive, Measures}
 
@@ -51,7 +51,6 @@ IsMadeBy Measures g s = IsByMeasures g s
 pub record IsSolved (e : Engine) (text out : List ℕ) : Type 0 where
   pub named : NamedGame
   pub solution : GameSolution
-  pub is_short : length text ≤ longest_game
   pub is_read : IsReadAs text named
   pub is_solution : IsSolution named.game solution
   pub is_made : IsMadeBy e named.game solution
@@ -59,24 +58,16 @@ pub record IsSolved (e : Engine) (text out : List ℕ) : Type 0 where
 
 -- ---- texts that are refused
 
-abbrev pub game_refused_at : ℕ → ℕ → Option (List ℕ)
-game_refused_at rule at =
-    Some (line_text (codes "refused" ∷ codes "game" ∷ codes "rule" ∷ number rule ∷ codes "at" ∷ number at ∷ []))
-
 -- want of memory is no refusal of the text
 abbrev pub game_refusal_line : GameTextRefusal → Option (List ℕ)
-game_refusal_line (cause.Syntax at) = game_refused_at 1 at
-game_refusal_line (cause.Repeated at) = game_refused_at 2 at
-game_refusal_line (cause.Unknown at) = game_refused_at 3 at
-game_refusal_line (cause.TooMany at) = game_refused_at 4 at
-game_refusal_line (cause.TooLarge at) = game_refused_at 5 at
+game_refusal_line (cause.Syntax at) = refused_at (codes "game") 1 at
+game_refusal_line (cause.Repeated at) = refused_at (codes "game") 2 at
+game_refusal_line (cause.Unknown at) = refused_at (codes "game") 3 at
+game_refusal_line (cause.TooMany at) = refused_at (codes "game") 4 at
+game_refusal_line (cause.TooLarge at) = refused_at (codes "game") 5 at
 game_refusal_line cause.NoMemory = None
 
-pub record IsRefusedAsGame (text out : List ℕ) : Type 0 where
+pub record IsRefusedGame (text out : List ℕ) : Type 0 where
   pub refusal : GameTextRefusal
-  pub is_short : length text ≤ longest_game
   pub is_refused : IsRefusedBy text refusal
   pub is_written : Some out ≡ game_refusal_line refusal
-
-abbrev pub IsRefusedGame : List ℕ → List ℕ → Type 0
-IsRefusedGame text out = ((longest_game < length text) × (out ≡ refused_length)) ⊎ IsRefusedAsGame text out

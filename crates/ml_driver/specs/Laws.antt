@@ -29,7 +29,7 @@
 --                       `check-model` answers `holds` of one with a structure, and `check-refutation` answers `accepted` of
 --                       one with a refutation
 --   GraphsFit        == the trace automaton of the graph of a problem within the limits has at most 2^30 states
-use Rattle.std.specs.Prelude.{ℕ, ◌≡◌, ◌≢◌, ◌<◌, ◌≤◌, ◌^◌, ◌⊎◌, ◌↔◌, Bool, true, false, List, length, Option, Some}
+use Rattle.std.specs.Prelude.{ℕ, ◌≡◌, ◌≢◌, ◌<◌, ◌≤◌, ◌^◌, ◌⊎◌, ◌↔◌, Bool, true, false, List, [], ◌∷◌, length, Option, Some, codes, if◌then◌else◌}
 use Rattle.ml_buchi.specs.Deterministic.{IsValuationWord}
 use Rattle.ml_buchi.specs.Valuations.{Leads}
 use Rattle.ml_determinise.specs.Numbering.{automaton_of}
@@ -54,6 +54,7 @@ use Rattle.ml_refute_check.specs.Documents.{IsAcceptedDocument}
 use Rattle.ml_parity.specs.Game.{size}
 use Rattle.ml_parity.specs.Solution.{winner_at}
 use Rattle.ml_trace.specs.WordAutomata.{IsAcceptedFrom, IsDetAcceptedFrom, IsWordLasso, WordLasso}
+use Rattle.ml_driver.specs.Automata.{IsWrittenFor, StandsForOne}
 use Rattle.ml_driver.specs.Games.{IsSolved}
 use Rattle.ml_driver.specs.declared.engine.Engine.{Engine}
 use Rattle.ml_driver.specs.declared.cause.Cause.{Cause}
@@ -63,9 +64,8 @@ use Rattle.ml_driver.specs.declared.question.Question.{Question}
 use Rattle.ml_driver.specs.declared.status.Status.{Status}
 use Rattle.ml_driver.specs.Quotients.{IsReduced}
 use Rattle.ml_driver.specs.Run.{IsDue, IsWhole}
-use Rattle.ml_driver.specs.Statuses.{accepted_line, holds_line}
 use Rattle.ml_driver.specs.Words.{command_of}
-use Rattle.ml_lines.specs.Lines.{Word}
+use Rattle.ml_lines.specs.Lines.{Word, line_text}
 
 abbrev pub searches : Option Command → Bool
 searches (Some (Find l n)) = true
@@ -118,19 +118,12 @@ OneMeasure = (f : Family) (n : ℕ) (text more : List ℕ) (s t : Status) (out o
     → (IsDue (Some (Gen f n)) text s out → IsDue (Some (Gen f n)) more t other → out ≡ other)
     × (IsDue (Some (Bench f n)) text s out → IsDue (Some (Bench f n)) more t other → out ≡ other)
 
--- the status that says whether the problem is satisfiable, where the question is about the negation or isn't
-abbrev pub says : Bool → Bool → Status
-says false true = Yes
-says false false = No
-says true true = No
-says true false = Yes
-
 -- a status that answers a question about the problem of a text says that the problem stays undecided, exactly where it
 -- does; and else that it is satisfiable, or that it isn't, and so it is
 pub data IsExact (q : Question) (p : Problem) (s : Status) : Type 0 where
-  open_at : (c : Cause) → StaysOpen q p c → s ≡ Undecided → IsExact q p s
-  satisfiable_at : IsClosed q p → IsSatisfiable p → s ≡ says q.negated true → IsExact q p s
-  unsatisfiable_at : IsClosed q p → ¬ (IsSatisfiable p) → s ≡ says q.negated false → IsExact q p s
+  open_at : (c : Cause) → StaysOpen q.limit p c → s ≡ Undecided → IsExact q p s
+  satisfiable_at : IsClosed q.way q.limit p → IsSatisfiable p → s ≡ (if q.negated then No else Yes) → IsExact q p s
+  unsatisfiable_at : IsClosed q.way q.limit p → ¬ (IsSatisfiable p) → s ≡ (if q.negated then Yes else No) → IsExact q p s
 
 abbrev pub AnswersAreExact : Type 0
 AnswersAreExact = (q : Question) (text : List ℕ) (p : Problem) (s : Status) (out : List ℕ)
@@ -145,10 +138,10 @@ RefutedAreAccepted = (q : Question) (text out : List ℕ) → Refuted q text out
 
 -- what the two commands that check answer of a document that is right
 abbrev pub IsFoundToHold : List ℕ → Type 0
-IsFoundToHold out = IsDue (Some CheckModel) out Yes holds_line
+IsFoundToHold out = IsDue (Some CheckModel) out Yes (line_text (codes "holds" ∷ []))
 
 abbrev pub IsFoundAccepted : List ℕ → Type 0
-IsFoundAccepted out = IsDue (Some CheckRefutation) out Yes accepted_line
+IsFoundAccepted out = IsDue (Some CheckRefutation) out Yes (line_text (codes "accepted" ∷ []))
 
 -- of a command that writes a structure with the one status, and a refutation with the other
 abbrev pub IsCheckedBy : (Logic → ℕ → Command) → Status → Status → Type 0
@@ -198,8 +191,9 @@ WrittenHoldsTheSame = (text out : List ℕ) (x : IsReduced text out) → SpeaksO
 
 -- where the logic of the problem speaks of the structure that was read
 abbrev pub QuotientsAreCheckedAlike : Type 0
-QuotientsAreCheckedAlike = (text out : List ℕ) (x : IsDue (Some Quotient) text Yes out)
-    → SpeaksOf x.1.problem x.1.structure
+QuotientsAreCheckedAlike = (text out : List ℕ) (x : IsReduced text out)
+    → SpeaksOf x.problem x.structure
+    → IsWhole text
     → IsWhole out
     → (s : Status) (line : List ℕ) → IsDue (Some CheckModel) text s line → IsDue (Some CheckModel) out s line
 
@@ -217,7 +211,7 @@ OneAutomatonWritten = (n m : ℕ) (text out more : List ℕ)
 
 -- from its state 0, with the moves that are written
 abbrev pub WrittenAcceptsTheSame : Type 0
-WrittenAcceptsTheSame = (n : ℕ) (text out : List ℕ) (x : IsDue (Some (Determinise n)) text Yes out) (w : WordLasso ℕ)
+WrittenAcceptsTheSame = (n : ℕ) (text out : List ℕ) (x : StandsForOne text (λ a. IsWrittenFor a n out)) (w : WordLasso ℕ)
     → IsWordLasso w
     → IsValuationWord x.automaton w
     → IsAcceptedFrom (Leads x.automaton) x.automaton.start w

@@ -1,149 +1,102 @@
 -- What a call of `run` answers, and what it leaves behind.
 --
 -- Which status and output are due is said of the words and of the bytes that were read, and of nothing else: a status
--- never comes with an output of another one. What is said of bytes read and written is said of a source and a sink
--- that tell their bytes; of others the clauses on faults remain.
+-- never comes with an output of another one. An input that is longer than its command takes is refused by its length,
+-- whatever the command. What is said of bytes read and written is said of a source and a sink that tell their bytes; of
+-- others the clauses on faults remain.
 --
---   plainly w l n, for_negation w l n == what `decide` and `valid` ask by the whole game, `find` and `prove` by a search: of
---                                the formula, and of its negation
---   IsChecked text out        == out says that the problem of the document holds where the document says so
---   IsRefuted text out        == out says that it doesn't
---   IsAcceptedRefutation text out == out says that the document's refutation is accepted, and its problem holds nowhere
---   IsRejectedRefutation text out == out says at which line it isn't accepted, and by which rule
---   IsLeftOpen text out       == out says that the closure of the document's problem is too large to tell
---   IsRefusedDocument F text out == out says why the document is refused: by its length, or by its first bad line, which
---                                F tells
---   IsRefusedModel text out   == so it says for a document with a structure, or that its logic wants an edge from each
---                                state, or exactly one, and which state is the first that hasn't
---   IsDue c text status out   == for the command c, or for words that are none, this status and this output are due
---                                where the input is the text; where none is taken, whatever the text is
+--   asked b w l n             == what is asked in the logic l, of the negation where b says so, with the limit n, in the way w
+--   IsChecked text s out      == s and out say what checking the document finds of its structure
+--   IsJudged text s out       == s and out say what checking the document finds of its refutation; where this is accepted,
+--                                the document's problem holds nowhere
+--   IsAnswer c text s out     == this status and this output are the answer to the command c, if the input isn't too long
+--   IsWithin c text           == the input is no longer than c takes, where it takes one
+--   IsDue c text s out        == for the command c, or for words that are none, this status and this output are due where
+--                                the input is the text; where none is taken, whatever the text is
 --   World                     == what a call found and left: the bytes of the source, those of the sink, both counts of
 --                                faults
 --   IsCalm w                  == neither count of faults changed
 --   input_limit c             == the limit on the length of the input, where one is taken; words that are no command take
 --                                none
---   WasRead c w text          == the text was given for the command c: to its end, or one byte past the limit on its
---                                length; nothing was, where no input is taken
---   GaveAtMost c w            == no more than the limit of the command c was given; nothing was, where no input is taken
+--   WasGiven n b a text       == the text was given, by what was left of the source before and after: to its end, or one byte
+--                                past the limit n on its length; nothing was, where no input is taken
+--   GaveUpTo n b a            == no more than this limit was given; nothing was, where no input is taken
 --   IsWhole out               == out isn't longer than the documents that are read
 --   Ended c w status          == what is true when the call has answered this status
-use Rattle.std.specs.Prelude.{ℕ, ◌≡◌, ◌+◌, ◌<◌, ◌≤◌, ◌⊎◌, true, false, List, [], length, Option, Some, None, IsSome, option_and_then}
+use Rattle.std.specs.Prelude.{ℕ, ◌≡◌, ◌+◌, ◌≤◌, ◌⊎◌, Bool, true, false, List, [], length, Option, Some, None, IsSome, IfSome, option_and_then}
 use Rattle.std.specs.Io.KnownBytes.{IsAtEnd, append_known, prepend_known}
 use Rattle.ml_base.specs.Faults.{Rose}
 use Rattle.ml_base.specs.Whole.{AppendsPart, Gives}
-use Rattle.ml_base.specs.declared.doc_fault.DocFault.{DocFault}
+use Rattle.ml_front.specs.declared.logic.Logic.{Logic}
 use Rattle.ml_model_check.specs.Checked as shown
-use Rattle.ml_model_check.specs.Checked.{Shows}
-use Rattle.ml_model_check.specs.declared.checked.Checked.TheVariants.{Holds, Fails, NotTotal, NotAWord, ClosureTooLarge}
+use Rattle.ml_model_check.specs.Checked.{IsCheckedAs}
+use Rattle.ml_model_check.specs.declared.checked.Checked.{Checked}
 use Rattle.ml_refute_check.specs.Documents as refuted
-use Rattle.ml_refute_check.specs.Documents.{IsAcceptedDocument, IsMigrated, IsRejectedAt, HoldsNowhere}
+use Rattle.ml_refute_check.specs.Documents.{HoldsNowhere, IsMigrated, IsVerdict}
+use Rattle.ml_refute_check.specs.declared.verdict.Verdict.{Verdict}
+use Rattle.ml_refute_check.specs.declared.verdict.Verdict.TheVariants.{Accepted}
 use Rattle.ml_driver.specs.declared.command.Command.{Command}
 use Rattle.ml_driver.specs.declared.command.Command.TheVariants.{Decide, Valid, Find, Prove, CheckModel, CheckRefutation, Migrate, Quotient, SolveGame, Determinise, Realize, Gen, Bench}
+use Rattle.ml_driver.specs.declared.command.TheConstants.{LONGEST_DOCUMENT}
+use Rattle.ml_driver.specs.declared.question.Question.{Question}
+use Rattle.ml_driver.specs.declared.question.Way.{Way}
+use Rattle.ml_driver.specs.declared.question.Way.TheVariants.{WholeGame, Search}
 use Rattle.ml_driver.specs.declared.status.Status.{Status}
-use Rattle.ml_driver.specs.declared.status.Status.TheVariants.{Yes, No, Undecided, Words, Text, ReadFault, WriteFault, NoMemory}
+use Rattle.ml_driver.specs.declared.status.Status.TheVariants.{Yes, Undecided, Text, ReadFault, WriteFault, NoMemory}
 use Rattle.ml_driver.specs.Automata.{IsRefusedAutomaton, IsWrittenFor, PassesLimit, StandsForOne}
 use Rattle.ml_driver.specs.Bench.{IsBenched, gen_text}
 use Rattle.ml_driver.specs.Decision.{IsAnswered}
 use Rattle.ml_driver.specs.Games.{IsSolved, IsRefusedGame}
 use Rattle.ml_driver.specs.Quotients.{IsReduced}
-use Rattle.ml_driver.specs.declared.question.Question.{Question}
-use Rattle.ml_driver.specs.declared.question.Way.{Way}
-use Rattle.ml_driver.specs.declared.question.Way.TheVariants.{WholeGame, Search}
+use Rattle.ml_driver.specs.Statuses.{IsSaid, IsUnreadable, length_refused, longest_input, model_said, refutation_said, words_refused}
 use Rattle.ml_driver.specs.Tasks.{IsTaskAnswered}
-use Rattle.ml_front.specs.declared.logic.Logic.{Logic}
-use Rattle.ml_driver.specs.Statuses.{longest_document, longest_input, refused_words, refused_length, holds_line, fails_line, open_line, not_total_line, not_a_word_line, accepted_line, rejected_line, refused_document}
 
--- what `decide` and `find` ask, and `valid` and `prove`
-abbrev pub plainly : Way → Logic → ℕ → Question
-plainly w l n = record { logic = l; negated = false; limit = n; way = w }
+-- ---- what is answered
 
-abbrev pub for_negation : Way → Logic → ℕ → Question
-for_negation w l n = record { logic = l; negated = true; limit = n; way = w }
+abbrev pub asked : Bool → Way → Logic → ℕ → Question
+asked negated w l n = record { logic = l; negated = negated; limit = n; way = w }
 
--- the input is longer than its limit: what was given of it is
-abbrev pub IsTooLong : ℕ → List ℕ → List ℕ → Type 0
-IsTooLong limit text out = (limit < length text) × (out ≡ refused_length)
+pub record IsChecked (text : List ℕ) (s : Status) (out : List ℕ) : Type 0 where
+  pub finding : Checked
+  pub is_found : IsCheckedAs text finding
+  pub is_said : IsSaid (model_said finding) s out
 
--- the document shows a structure, and its problem holds at the start
-abbrev pub IsChecked : List ℕ → List ℕ → Type 0
-IsChecked text out = Shows text Holds × (out ≡ holds_line)
+pub record IsJudged (text : List ℕ) (s : Status) (out : List ℕ) : Type 0 where
+  pub finding : Verdict
+  pub is_found : IsVerdict text finding
+  pub is_true : finding ≡ Accepted → HoldsNowhere text
+  pub is_said : IsSaid (refutation_said finding) s out
 
--- the document shows a structure, and its problem doesn't hold at the start
-abbrev pub IsRefuted : List ℕ → List ℕ → Type 0
-IsRefuted text out = Shows text Fails × (out ≡ fails_line)
+abbrev pub IsAnswer : Command → List ℕ → Status → List ℕ → Type 0
+IsAnswer (Decide l n) text s out = IsAnswered (asked false WholeGame l n) text s out
+IsAnswer (Valid l n) text s out = IsAnswered (asked true WholeGame l n) text s out
+IsAnswer (Find l n) text s out = IsAnswered (asked false Search l n) text s out
+IsAnswer (Prove l n) text s out = IsAnswered (asked true Search l n) text s out
+IsAnswer CheckModel text s out = IsChecked text s out
+IsAnswer CheckRefutation text s out = IsJudged text s out
+IsAnswer Migrate text Yes out = IsMigrated text out
+IsAnswer Migrate text Text out = IsUnreadable (refuted.IsDocumentFault text) out
+IsAnswer Quotient text Yes out = IsReduced text out
+IsAnswer Quotient text Text out = IsUnreadable (shown.IsDocumentFault text) out
+IsAnswer (SolveGame e) text Yes out = IsSolved e text out
+IsAnswer (SolveGame e) text Text out = IsRefusedGame text out
+IsAnswer (Determinise n) text Yes out = StandsForOne text (λ a. IsWrittenFor a n out)
+IsAnswer (Determinise n) text Undecided out = StandsForOne text (λ a. PassesLimit a n out)
+IsAnswer (Determinise n) text Text out = IsRefusedAutomaton text out
+IsAnswer (Realize n) text s out = IsTaskAnswered n text s out
+IsAnswer (Gen f n) text Yes out = out ≡ gen_text f n
+IsAnswer (Bench f n) text s out = IsBenched f n s out
+IsAnswer _ _ _ _ = ⊥
 
--- the document shows a structure of which its logic speaks, and a problem with too large a closure
-abbrev pub IsLeftOpen : List ℕ → List ℕ → Type 0
-IsLeftOpen text out = Shows text ClosureTooLarge × (out ≡ open_line)
-
--- the document shows a refutation that is accepted for its problem; so what it answers is true
-pub record IsAcceptedRefutation (text out : List ℕ) : Type 0 where
-  pub is_accepted : IsAcceptedDocument text
-  pub is_true : HoldsNowhere text
-  pub is_written : out ≡ accepted_line
-
--- the document shows a refutation, and this is its first line with a broken rule
-pub record IsRejectedRefutation (text out : List ℕ) : Type 0 where
-  pub line : ℕ
-  pub rule : ℕ
-  pub is_rejected : IsRejectedAt text line rule
-  pub is_written : out ≡ rejected_line line rule
-
--- the document has a first bad line
-pub record IsUnreadable (IsFault : DocFault → Type 0) (out : List ℕ) : Type 0 where
-  pub fault : DocFault
-  pub is_fault : IsFault fault
-  pub is_written : out ≡ refused_document fault
-
--- the two reasons to refuse a document
-pub data IsRefusedDocument (IsFault : DocFault → Type 0) (text out : List ℕ) : Type 0 where
-  document_by_length : IsTooLong longest_document text out → IsRefusedDocument IsFault text out
-  by_line : length text ≤ longest_document → IsUnreadable IsFault out → IsRefusedDocument IsFault text out
-
--- the document shows a structure, and this is its first state without an edge, where its logic wants one
-pub record IsNotTotal (text out : List ℕ) : Type 0 where
-  pub state : ℕ
-  pub is_deadlock : Shows text (NotTotal state)
-  pub is_written : out ≡ not_total_line state
-
--- the document shows a structure, and this is its first state that hasn't exactly one edge, where its logic wants that
-pub record IsNotAWord (text out : List ℕ) : Type 0 where
-  pub state : ℕ
-  pub is_fork : Shows text (NotAWord state)
-  pub is_written : out ≡ not_a_word_line state
-
--- the four reasons to refuse a document with a structure
-pub data IsRefusedModel (text out : List ℕ) : Type 0 where
-  as_document : IsRefusedDocument (shown.IsDocumentFault text) text out → IsRefusedModel text out
-  by_deadlock : length text ≤ longest_document → IsNotTotal text out → IsRefusedModel text out
-  by_fork : length text ≤ longest_document → IsNotAWord text out → IsRefusedModel text out
+abbrev pub IsWithin : Command → List ℕ → Type 0
+IsWithin c text = IfSome (longest_input c) (λ n. length text ≤ n)
 
 abbrev pub IsDue : Option Command → List ℕ → Status → List ℕ → Type 0
-IsDue None text Words out = out ≡ refused_words
-IsDue (Some (Decide l n)) text status out = IsAnswered (plainly WholeGame l n) text status out
-IsDue (Some (Valid l n)) text status out = IsAnswered (for_negation WholeGame l n) text status out
-IsDue (Some (Find l n)) text status out = IsAnswered (plainly Search l n) text status out
-IsDue (Some (Prove l n)) text status out = IsAnswered (for_negation Search l n) text status out
-IsDue (Some CheckModel) text Yes out = (length text ≤ longest_document) × IsChecked text out
-IsDue (Some CheckModel) text No out = (length text ≤ longest_document) × IsRefuted text out
-IsDue (Some CheckModel) text Undecided out = (length text ≤ longest_document) × IsLeftOpen text out
-IsDue (Some CheckModel) text Text out = IsRefusedModel text out
-IsDue (Some CheckRefutation) text Yes out = (length text ≤ longest_document) × IsAcceptedRefutation text out
-IsDue (Some CheckRefutation) text No out = (length text ≤ longest_document) × IsRejectedRefutation text out
-IsDue (Some CheckRefutation) text Text out = IsRefusedDocument (refuted.IsDocumentFault text) text out
-IsDue (Some Migrate) text Yes out = (length text ≤ longest_document) × IsMigrated text out
-IsDue (Some Migrate) text Text out = IsRefusedDocument (refuted.IsDocumentFault text) text out
-IsDue (Some Quotient) text Yes out = (length text ≤ longest_document) × IsReduced text out
-IsDue (Some Quotient) text Text out = IsRefusedDocument (shown.IsDocumentFault text) text out
-IsDue (Some (SolveGame e)) text Yes out = IsSolved e text out
-IsDue (Some (SolveGame e)) text Text out = IsRefusedGame text out
-IsDue (Some (Determinise n)) text Yes out = StandsForOne text (λ a. IsWrittenFor a n out)
-IsDue (Some (Determinise n)) text Undecided out = StandsForOne text (λ a. PassesLimit a n out)
-IsDue (Some (Determinise n)) text Text out = IsRefusedAutomaton text out
-IsDue (Some (Realize n)) text status out = IsTaskAnswered n text status out
-IsDue (Some (Gen f n)) text Yes out = out ≡ gen_text f n
-IsDue (Some (Bench f n)) text status out = IsBenched f n status out
-IsDue _ _ _ _ = ⊥
+IsDue None text s out = IsSaid words_refused s out
+IsDue (Some c) text s out =
+    (IsWithin c text × IsAnswer c text s out) ⊎ ((¬ (IsWithin c text)) × IsSaid length_refused s out)
+
+-- ---- what is left behind
 
 pub record World : Type 0 where
   pub left_before : Option (List ℕ)
@@ -172,21 +125,15 @@ abbrev pub GaveUpTo : Option ℕ → Option (List ℕ) → Option (List ℕ) →
 GaveUpTo None before after = after ≡ before
 GaveUpTo (Some n) before after = Gives before after (λ given. length given ≤ n)
 
-abbrev pub WasRead : Option Command → World → List ℕ → Type 0
-WasRead c w text = WasGiven (input_limit c) w.left_before w.left_after text
-
-abbrev pub GaveAtMost : Option Command → World → Type 0
-GaveAtMost c w = GaveUpTo (input_limit c) w.left_before w.left_after
-
 -- no output is longer than the documents that are read
 abbrev pub IsWhole : List ℕ → Type 0
-IsWhole out = length out ≤ longest_document
+IsWhole out = length out ≤ LONGEST_DOCUMENT
 
 -- the call answered: the whole of what is due was taken
 pub record Answered (c : Option Command) (w : World) (status : Status) : Type 0 where
   pub text : List ℕ
   pub output : List ℕ
-  pub was_read : WasRead c w text
+  pub was_read : WasGiven (input_limit c) w.left_before w.left_after text
   pub is_due : IsDue c text status output
   pub is_whole : IsWhole output
   pub was_taken : w.taken_after ≡ append_known w.taken_before output
@@ -195,7 +142,7 @@ pub record Answered (c : Option Command) (w : World) (status : Status) : Type 0 
 -- the source failed: what it had given is gone, and nothing was written
 pub record FailedToRead (c : Option Command) (w : World) : Type 0 where
   pub takes_input : IsSome (input_limit c)
-  pub gave_at_most : GaveAtMost c w
+  pub gave_at_most : GaveUpTo (input_limit c) w.left_before w.left_after
   pub source_rose : Rose w.source_faults_before w.source_faults_after
   pub sink_is_calm : w.sink_faults_after ≡ w.sink_faults_before
   pub nothing_taken : w.taken_after ≡ w.taken_before
@@ -205,7 +152,7 @@ pub record FailedToWrite (c : Option Command) (w : World) : Type 0 where
   pub text : List ℕ
   pub status : Status
   pub output : List ℕ
-  pub was_read : WasRead c w text
+  pub was_read : WasGiven (input_limit c) w.left_before w.left_after text
   pub is_due : IsDue c text status output
   pub is_whole : IsWhole output
   pub part_taken : AppendsPart w.taken_before w.taken_after output
@@ -214,19 +161,15 @@ pub record FailedToWrite (c : Option Command) (w : World) : Type 0 where
 
 -- memory was wanting: what the source had given is gone, and nothing was written
 pub record LackedMemory (c : Option Command) (w : World) : Type 0 where
-  pub gave_at_most : GaveAtMost c w
+  pub gave_at_most : GaveUpTo (input_limit c) w.left_before w.left_after
   pub nothing_taken : w.taken_after ≡ w.taken_before
   pub is_calm : IsCalm w
 
 abbrev pub Ended : Option Command → World → Status → Type 0
-Ended c w Yes = Answered c w Yes
-Ended c w No = Answered c w No
-Ended c w Undecided = Answered c w Undecided
-Ended c w Words = Answered c w Words
-Ended c w Text = Answered c w Text
 Ended c w ReadFault = FailedToRead c w
 Ended c w WriteFault = FailedToWrite c w
 Ended c w NoMemory = LackedMemory c w
+Ended c w status = Answered c w status
 
 -- a status and its output were due, and were written: the whole of it, or a part where the sink failed
 abbrev pub Wrote : Option (List ℕ) → Option (List ℕ) → ℕ → ℕ → Status → List ℕ → Status → Type 0

@@ -1,32 +1,37 @@
--- The exit statuses, and the lines that refuse.
+-- The exit statuses, the limits on inputs, and what is said by one line.
 --
---   code_of status   == its number
---   refused_words    == the line for words that are no command
---   longest_text     == the limit on the length of a formula's text
---   longest_document == the limit on the length of a document
---   longest_game     == the limit on the length of a game's text
---   longest_automaton == the limit on the length of an automaton's text
---   longest_task     == the limit on the length of a task's text
+-- Where an answer is no document, it is one line, which comes with its status.
+--
+--   code_of status   == the number of the status
 --   longest_input c  == the limit on the length of the input of a command, if it takes one
---   refused_length   == the line for a longer input
---   holds_line       == the line for a document whose problem holds where the document says so
---   fails_line       == the line for one whose problem doesn't
---   open_line        == the line for one whose problem has too large a closure to tell
---   not_total_line s == the line for one in which the state s is the first without an edge, where its logic wants one
---   not_a_word_line s == the line for one in which s is the first state that hasn't exactly one edge, where its logic wants that
---   accepted_line    == the line for a document whose refutation is accepted
---   rejected_line l k == the line for one whose refutation isn't: the first line with a broken rule, and the lowest such
---                        rule
---   refused_document f == the line for a document that can't be read: its first bad line, and the rule that it breaks
---   refusal_line e   == the line for a text that the parser refuses: the number of its cause, and the byte
-use Rattle.std.specs.Prelude.{ℕ, List, [], ◌∷◌, codes, Option, Some, None}
+--   Said             == a status, with the words of the line that comes with it
+--   IsSaid x s out   == the status s and the output out say x
+--   words_refused    == what is said of words that are no command
+--   length_refused   == what is said of an input that is longer than its limit
+--   model_said c     == what is said of a document with a structure of which checking finds c: that its problem holds where
+--                       the document says so, or doesn't; that its closure is too large to tell; that its logic wants an
+--                       edge from each state, or exactly one, and which state is the first that hasn't; or why the
+--                       document can't be read
+--   refutation_said v == what is said of a document with a refutation of which checking finds v: that it is accepted; that
+--                       it isn't, with the first line that breaks a rule, and the lowest such rule; or why the document
+--                       can't be read
+--   refused_document f == the words of the line for a document that can't be read: its first bad line, and the rule that it
+--                       breaks
+--   IsUnreadable F out == out is the line for a document whose first bad line F tells
+--   refused_at k r b == the line for a text of the kind k that is refused: the number of the cause, and the byte
+--   refusal_line e   == the line for the text of a formula that the parser refuses
+use Rattle.std.specs.Prelude.{ℕ, ◌≡◌, List, [], ◌∷◌, codes, Option, Some, None}
 use Rattle.ml_base.specs.declared.doc_fault.DocFault.{DocFault}
 use Rattle.ml_base.specs.declared.parse_refusal.ParseRefusal.{ParseRefusal}
 use Rattle.ml_base.specs.declared.parse_refusal.ParseRefusal.TheVariants as refusal
-use Rattle.ml_lines.specs.Lines.{number, line_text}
+use Rattle.ml_lines.specs.Lines.{Line, Word, number, line_text}
 use Rattle.ml_front.specs.declared.problem.TheConstants.{MOST_NODES}
 use Rattle.ml_hoa.specs.declared.limits.TheConstants.{LONGEST_AUTOMATON_TEXT}
+use Rattle.ml_model_check.specs.declared.checked.Checked.{Checked}
+use Rattle.ml_model_check.specs.declared.checked.Checked.TheVariants.{Holds, Fails, Unreadable, NotTotal, NotAWord, ClosureTooLarge}
 use Rattle.ml_pgsolver.specs.declared.limits.TheConstants.{LONGEST_GAME_TEXT}
+use Rattle.ml_refute_check.specs.declared.verdict.Verdict.{Verdict}
+use Rattle.ml_refute_check.specs.declared.verdict.Verdict.TheVariants as verdict
 use Rattle.ml_task.specs.declared.limits.TheConstants.{LONGEST_TASK_TEXT}
 use Rattle.ml_driver.specs.declared.command.Command.{Command}
 use Rattle.ml_driver.specs.declared.command.Command.TheVariants.{Decide, Valid, Find, Prove, CheckModel, CheckRefutation, Migrate, Quotient, SolveGame, Determinise, Realize, Gen, Bench}
@@ -44,80 +49,71 @@ code_of ReadFault = 5
 code_of WriteFault = 6
 code_of NoMemory = 7
 
-abbrev pub refused_words : List ℕ
-refused_words = line_text (codes "refused" ∷ codes "words" ∷ [])
-
-abbrev pub longest_text : ℕ
-longest_text = LONGEST_TEXT
-
-abbrev pub longest_document : ℕ
-longest_document = LONGEST_DOCUMENT
-
-abbrev pub longest_game : ℕ
-longest_game = LONGEST_GAME_TEXT
-
-abbrev pub longest_automaton : ℕ
-longest_automaton = LONGEST_AUTOMATON_TEXT
-
-abbrev pub longest_task : ℕ
-longest_task = LONGEST_TASK_TEXT
-
 abbrev pub longest_input : Command → Option ℕ
-longest_input (Decide l n) = Some longest_text
-longest_input (Valid l n) = Some longest_text
-longest_input (Find l n) = Some longest_text
-longest_input (Prove l n) = Some longest_text
-longest_input CheckModel = Some longest_document
-longest_input CheckRefutation = Some longest_document
-longest_input Migrate = Some longest_document
-longest_input Quotient = Some longest_document
-longest_input (SolveGame e) = Some longest_game
-longest_input (Determinise n) = Some longest_automaton
-longest_input (Realize n) = Some longest_task
+longest_input (Decide l n) = Some LONGEST_TEXT
+longest_input (Valid l n) = Some LONGEST_TEXT
+longest_input (Find l n) = Some LONGEST_TEXT
+longest_input (Prove l n) = Some LONGEST_TEXT
+longest_input CheckModel = Some LONGEST_DOCUMENT
+longest_input CheckRefutation = Some LONGEST_DOCUMENT
+longest_input Migrate = Some LONGEST_DOCUMENT
+longest_input Quotient = Some LONGEST_DOCUMENT
+longest_input (SolveGame e) = Some LONGEST_GAME_TEXT
+longest_input (Determinise n) = Some LONGEST_AUTOMATON_TEXT
+longest_input (Realize n) = Some LONGEST_TASK_TEXT
 longest_input (Gen f n) = None
 longest_input (Bench f n) = None
 
-abbrev pub refused_length : List ℕ
-refused_length = line_text (codes "refused" ∷ codes "length" ∷ [])
+-- ---- what is said
 
-abbrev pub holds_line : List ℕ
-holds_line = line_text (codes "holds" ∷ [])
+abbrev pub Said : Type 0
+Said = Status × Line
 
-abbrev pub fails_line : List ℕ
-fails_line = line_text (codes "fails" ∷ [])
+abbrev pub IsSaid : Said → Status → List ℕ → Type 0
+IsSaid x s out = (s ≡ x.0) × (out ≡ line_text x.1)
 
-abbrev pub open_line : List ℕ
-open_line = line_text (codes "undecided" ∷ codes "closure" ∷ number MOST_NODES ∷ [])
+abbrev pub words_refused : Said
+words_refused = (Words, codes "refused" ∷ codes "words" ∷ [])
 
-abbrev pub not_total_line : ℕ → List ℕ
-not_total_line state =
-    line_text (codes "not" ∷ codes "total" ∷ codes "at" ∷ codes "state" ∷ number state ∷ [])
+abbrev pub length_refused : Said
+length_refused = (Text, codes "refused" ∷ codes "length" ∷ [])
 
-abbrev pub not_a_word_line : ℕ → List ℕ
-not_a_word_line state =
-    line_text (codes "not" ∷ codes "a" ∷ codes "word" ∷ codes "at" ∷ codes "state" ∷ number state ∷ [])
-
-abbrev pub accepted_line : List ℕ
-accepted_line = line_text (codes "accepted" ∷ [])
-
-abbrev pub rejected_line : ℕ → ℕ → List ℕ
-rejected_line line rule =
-    line_text (codes "rejected" ∷ codes "line" ∷ number line ∷ codes "rule" ∷ number rule ∷ [])
-
-abbrev pub refused_document : DocFault → List ℕ
+abbrev pub refused_document : DocFault → Line
 refused_document fault =
-    line_text (codes "refused" ∷ codes "document" ∷ codes "line" ∷ number fault.line ∷ codes "rule" ∷ number fault.rule ∷ [])
+    codes "refused" ∷ codes "document" ∷ codes "line" ∷ number fault.line ∷ codes "rule" ∷ number fault.rule ∷ []
 
-abbrev pub refused_at : ℕ → ℕ → Option (List ℕ)
-refused_at rule at =
-    Some (line_text (codes "refused" ∷ codes "text" ∷ codes "rule" ∷ number rule ∷ codes "at" ∷ number at ∷ []))
+pub record IsUnreadable (IsFault : DocFault → Type 0) (out : List ℕ) : Type 0 where
+  pub fault : DocFault
+  pub is_fault : IsFault fault
+  pub is_written : out ≡ line_text (refused_document fault)
+
+abbrev pub model_said : Checked → Said
+model_said Holds = (Yes, codes "holds" ∷ [])
+model_said Fails = (No, codes "fails" ∷ [])
+model_said ClosureTooLarge = (Undecided, codes "undecided" ∷ codes "closure" ∷ number MOST_NODES ∷ [])
+model_said (NotTotal state) = (Text, codes "not" ∷ codes "total" ∷ codes "at" ∷ codes "state" ∷ number state ∷ [])
+model_said (NotAWord state) =
+    (Text, codes "not" ∷ codes "a" ∷ codes "word" ∷ codes "at" ∷ codes "state" ∷ number state ∷ [])
+model_said (Unreadable fault) = (Text, refused_document fault)
+
+abbrev pub refutation_said : Verdict → Said
+refutation_said verdict.Accepted = (Yes, codes "accepted" ∷ [])
+refutation_said (verdict.Rejected line rule) =
+    (No, codes "rejected" ∷ codes "line" ∷ number line ∷ codes "rule" ∷ number rule ∷ [])
+refutation_said (verdict.Unreadable fault) = (Text, refused_document fault)
+
+-- ---- texts that are refused
+
+abbrev pub refused_at : Word → ℕ → ℕ → Option (List ℕ)
+refused_at kind rule at =
+    Some (line_text (codes "refused" ∷ kind ∷ codes "rule" ∷ number rule ∷ codes "at" ∷ number at ∷ []))
 
 -- want of memory is no refusal of the text
 abbrev pub refusal_line : ParseRefusal → Option (List ℕ)
-refusal_line (refusal.Syntax at) = refused_at 1 at
-refusal_line (refusal.Unbound at) = refused_at 2 at
-refusal_line (refusal.NotPositive at) = refused_at 3 at
-refusal_line (refusal.TooMany at) = refused_at 4 at
-refusal_line (refusal.TooNested at) = refused_at 5 at
-refusal_line (refusal.NameTooLong at) = refused_at 6 at
+refusal_line (refusal.Syntax at) = refused_at (codes "text") 1 at
+refusal_line (refusal.Unbound at) = refused_at (codes "text") 2 at
+refusal_line (refusal.NotPositive at) = refused_at (codes "text") 3 at
+refusal_line (refusal.TooMany at) = refused_at (codes "text") 4 at
+refusal_line (refusal.TooNested at) = refused_at (codes "text") 5 at
+refusal_line (refusal.NameTooLong at) = refused_at (codes "text") 6 at
 refusal_line refusal.NoMemory = None

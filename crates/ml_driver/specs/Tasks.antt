@@ -3,16 +3,15 @@
 -- Yes comes with the document of a machine that realizes the task, and no with that of an environment that defeats it. Both
 -- are found in the game of the task; but if its automaton or the game is too large, that alone is said.
 --
---   StandsForTask text P   == the text is short enough and one of a task, and P is true of this
+--   StandsForTask text P   == the text is one of a task, and P is true of this
 --   IsRealized t n out     == out is the document of a machine that realizes t, found in a game of at most n positions
 --   IsDefeated t n out     == out is the document of an environment that defeats t, found in such a game
 --   IsOpenFor t n c        == t stays undecided for the cause c: too large an automaton, or else a game past the limit n
 --   IsLeftOpen t n out     == out is the document that says so
 --   IsTold t n s out       == this status and this output are due for the task t
---   IsRefusedTask text out == out says why the text is refused: by its length, or by its first bad line
---   IsTaskAnswered n text s out == this status and this output are due for the text
-use Rattle.std.specs.Prelude.{ℕ, ◌≡◌, ◌<◌, ◌≤◌, ◌⊎◌, List, length}
-use Rattle.ml_base.specs.declared.doc_fault.DocFault.{DocFault}
+--   IsTaskAnswered n text s out == this status and this output are due for the text; one that can't be read is refused by
+--                             its first bad line
+use Rattle.std.specs.Prelude.{ℕ, ◌≡◌, List}
 use Rattle.ml_realize.specs.Realizing.{Defeats, Realizes}
 use Rattle.ml_realize.specs.TaskGame.{IsFound, IsLarge, PassesLimit, most_nodes}
 use Rattle.ml_realize_text.specs.RealizeText.{outcome_text, undecided_text}
@@ -22,13 +21,12 @@ use Rattle.ml_synthesis.specs.Machines.{EnvironmentTable, MachineTable}
 use Rattle.ml_synthesis.specs.declared.outcome.Outcome.TheVariants.{Made, Defeated}
 use Rattle.ml_task.specs.Task.{Task}
 use Rattle.ml_task.specs.TaskText.{IsTaskFault, IsTaskText}
-use Rattle.ml_driver.specs.Statuses.{longest_task, refused_document, refused_length}
+use Rattle.ml_driver.specs.Statuses.{IsUnreadable}
 use Rattle.ml_driver.specs.declared.status.Status.{Status}
 use Rattle.ml_driver.specs.declared.status.Status.TheVariants.{Yes, No, Undecided, Text}
 
 pub record StandsForTask (text : List ℕ) (IsSo : Task → Type 0) : Type 0 where
   pub task : Task
-  pub is_short : length text ≤ longest_task
   pub is_text : IsTaskText text task
   pub is_so : IsSo task
 
@@ -61,19 +59,8 @@ IsTold t limit No out = IsDefeated t limit out
 IsTold t limit Undecided out = IsLeftOpen t limit out
 IsTold t limit _ out = ⊥
 
--- ---- texts that are refused
-
-pub record IsRefusedAsTask (text out : List ℕ) : Type 0 where
-  pub fault : DocFault
-  pub is_short : length text ≤ longest_task
-  pub is_fault : IsTaskFault text fault
-  pub is_written : out ≡ refused_document fault
-
-abbrev pub IsRefusedTask : List ℕ → List ℕ → Type 0
-IsRefusedTask text out = ((longest_task < length text) × (out ≡ refused_length)) ⊎ IsRefusedAsTask text out
-
 -- ---- the answer
 
 abbrev pub IsTaskAnswered : ℕ → List ℕ → Status → List ℕ → Type 0
-IsTaskAnswered limit text Text out = IsRefusedTask text out
+IsTaskAnswered limit text Text out = IsUnreadable (IsTaskFault text) out
 IsTaskAnswered limit text status out = StandsForTask text (λ t. IsTold t limit status out)

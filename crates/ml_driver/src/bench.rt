@@ -2,15 +2,15 @@
 //
 // `generate` writes the text of a family's formula. `measure` reads it back as a problem, and takes that through the same
 // stages as a decision (`stages`); of the last one only counts and the winner are kept (`Finding`), and written as five lines.
-ghost use Rattle.std.specs.Prelude.{◌≡◌, true, [], ◌∷◌, ◌++◌, IfOk, OnOk, Some};
-ghost use Rattle.ml_front.specs.Logics.{IsWellFormed};
-ghost use Rattle.ml_gen.specs.Families.{formula_text, is_in_range};
+ghost use Rattle.std.specs.Prelude.{◌≡◌, true, [], ◌∷◌, ◌++◌, codes, IfOk, OnOk};
+ghost use Rattle.ml_front.specs.Logics.{IsWellFormed, some_logic};
+ghost use Rattle.ml_gen.specs.Families.{family_word, formula_text, is_in_range, logic_name};
 ghost use Rattle.ml_lines.specs.Lines.{line_text, number};
 ghost use Rattle.ml_driver.specs.Bench as measures;
-ghost use Rattle.ml_driver.specs.Bench.{IsFinding, IsMeant, bench_text, nodes_line, occurrences_of, positions_line, request_line};
-ghost use Rattle.ml_driver.specs.Run.{IsDue};
+ghost use Rattle.ml_driver.specs.Bench.{IsFinding, IsMeant, bench_text, occurrences_of};
+ghost use Rattle.ml_driver.specs.Run.{IsAnswer};
 ghost use Rattle.ml_driver.specs.declared.command.TheConstants.{GREATEST_LIMIT};
-ghost use Rattle.ml_driver.specs.private.Findings.{finding_at};
+ghost use Rattle.ml_driver.specs.private.Findings.{finding_at, nodes_line, positions_line};
 ghost use Rattle.ml_driver.specs.private.Stages.{IsStageOf};
 
 use crate::command::GREATEST_LIMIT;
@@ -25,10 +25,10 @@ use ml_lines::{end_line, write_next_number, write_next_word, write_word};
 use ml_parity::Player;
 use std::alloc::Global;
 
-// what is due for `gen`
+// the answer to `gen`
 pub(crate) fn generate(alloc: Global, family: Family, n: u32) -> Result<Output, NoMemory>
     requires { is_in_range family n ≡ true }
-    ensures { IfOk result (λ output. IsDue (Some (Command.Gen family n)) [] output.status output.bytes.items) }
+    ensures { IfOk result (λ output. IsAnswer (Command.Gen family n) [] output.status output.bytes.items) }
 {
     let mut bytes = text_for(alloc, family, n)?;
     end_line(&mut bytes)?;
@@ -38,10 +38,10 @@ pub(crate) fn generate(alloc: Global, family: Family, n: u32) -> Result<Output, 
     })
 }
 
-// what is due for `bench`
+// the answer to `bench`
 pub(crate) fn measure(alloc: Global, family: Family, n: u32) -> Result<Output, NoMemory>
     requires { is_in_range family n ≡ true }
-    ensures { IfOk result (λ output. IsDue (Some (Command.Bench family n)) [] output.status output.bytes.items) }
+    ensures { IfOk result (λ output. IsAnswer (Command.Bench family n) [] output.status output.bytes.items) }
 {
     let problem = problem_for(alloc, family, n)?;
     measured(alloc, family, n, &problem)
@@ -51,7 +51,7 @@ pub(crate) fn measure(alloc: Global, family: Family, n: u32) -> Result<Output, N
 fn measured(alloc: Global, family: Family, n: u32, problem: &Problem) -> Result<Output, NoMemory>
     requires meant { IsMeant family n problem.now }
     requires well_formed { IsWellFormed problem.now.formula }
-    ensures { IfOk result (λ output. IsDue (Some (Command.Bench family n)) [] output.status output.bytes.items) }
+    ensures { IfOk result (λ output. IsAnswer (Command.Bench family n) [] output.status output.bytes.items) }
 {
     let finding = found(alloc, problem)?;
     let status = status_of(finding.answer());
@@ -100,7 +100,7 @@ fn want_of(refusal: ParseRefusal) -> NoMemory
 }
 
 fn logic_for(family: Family) -> Logic
-    ensures { result ≡ measures.logic_for family }
+    ensures { result ≡ some_logic (logic_name family) }
 {
     match family {
         Family::And | Family::Or => Logic::Mu,
@@ -178,7 +178,7 @@ fn report(
 }
 
 fn append_request(lines: &mut Vec<u8>, family: Family, n: u32) -> Result<(), NoMemory>
-    ensures { OnOk result (lines.new.items ≡ lines.old.items ++ line_text (request_line family n)) }
+    ensures { OnOk result (lines.new.items ≡ lines.old.items ++ line_text (codes "bench" ∷ family_word family ∷ number n ∷ [])) }
 {
     write_word(lines, b"bench")?;
     write_next_word(lines, family.word())?;

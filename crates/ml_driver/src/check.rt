@@ -1,8 +1,9 @@
 // Checking documents, and migrating them.
-ghost use Rattle.std.specs.Prelude.{◌≡◌, ◌≤◌, length, IfOk, Some};
-ghost use Rattle.ml_driver.specs.Run.{IsDue};
+ghost use Rattle.std.specs.Prelude.{◌≡◌, IfOk};
+ghost use Rattle.ml_lines.specs.Lines.{line_text};
+ghost use Rattle.ml_driver.specs.Run.{IsAnswer};
 ghost use Rattle.ml_driver.specs.Statuses as statuses;
-ghost use Rattle.ml_driver.specs.Statuses.{longest_document};
+ghost use Rattle.ml_driver.specs.Statuses.{IsSaid};
 
 use crate::output::Output;
 use crate::{Command, Status};
@@ -13,12 +14,19 @@ use ml_model_check::{Checked, check_document};
 use ml_refute_check::{Verdict, check};
 use std::alloc::Global;
 
-// what is due for `check-model` on a document
+// the answer to `check-model` on a document
 pub(crate) fn check_model(alloc: Global, text: &[u8]) -> Result<Output, NoMemory>
-    requires { length text.now ≤ longest_document }
-    ensures { IfOk result (λ output. IsDue (Some Command.CheckModel) text.now output.status output.bytes.items) }
+    ensures { IfOk result (λ output. IsAnswer Command.CheckModel text.now output.status output.bytes.items) }
 {
-    Ok(match check_document(alloc, text)? {
+    let finding = check_document(alloc, text)?;
+    model_said(alloc, finding)
+}
+
+// the line for what checking a document with a structure finds
+fn model_said(alloc: Global, finding: Checked) -> Result<Output, NoMemory>
+    ensures { IfOk result (λ output. IsSaid (statuses.model_said finding) output.status output.bytes.items) }
+{
+    Ok(match finding {
         Checked::Holds => Output {
             status: Status::Yes,
             bytes: Vec::from_slice(alloc, b"holds\n")?,
@@ -46,12 +54,19 @@ pub(crate) fn check_model(alloc: Global, text: &[u8]) -> Result<Output, NoMemory
     })
 }
 
-// what is due for `check-refutation` on a document
+// the answer to `check-refutation` on a document
 pub(crate) fn check_refutation(alloc: Global, text: &[u8]) -> Result<Output, NoMemory>
-    requires { length text.now ≤ longest_document }
-    ensures { IfOk result (λ output. IsDue (Some Command.CheckRefutation) text.now output.status output.bytes.items) }
+    ensures { IfOk result (λ output. IsAnswer Command.CheckRefutation text.now output.status output.bytes.items) }
 {
-    Ok(match check(alloc, text)? {
+    let finding = check(alloc, text)?;
+    refutation_said(alloc, finding)
+}
+
+// the line for what checking a document with a refutation finds
+fn refutation_said(alloc: Global, finding: Verdict) -> Result<Output, NoMemory>
+    ensures { IfOk result (λ output. IsSaid (statuses.refutation_said finding) output.status output.bytes.items) }
+{
+    Ok(match finding {
         Verdict::Accepted => Output {
             status: Status::Yes,
             bytes: Vec::from_slice(alloc, b"accepted\n")?,
@@ -67,10 +82,9 @@ pub(crate) fn check_refutation(alloc: Global, text: &[u8]) -> Result<Output, NoM
     })
 }
 
-// what is due for `migrate` on a document
+// the answer to `migrate` on a document
 pub(crate) fn migrate(alloc: Global, text: &[u8]) -> Result<Output, NoMemory>
-    requires { length text.now ≤ longest_document }
-    ensures { IfOk result (λ output. IsDue (Some Command.Migrate) text.now output.status output.bytes.items) }
+    ensures { IfOk result (λ output. IsAnswer Command.Migrate text.now output.status output.bytes.items) }
 {
     Ok(match ml_refute_check::migrate(alloc, text) {
         Ok(document) => Output {
@@ -86,7 +100,7 @@ pub(crate) fn migrate(alloc: Global, text: &[u8]) -> Result<Output, NoMemory>
 }
 
 fn not_total(alloc: Global, state: u32) -> Result<Vec<u8>, NoMemory>
-    ensures { IfOk result (λ line. line.items ≡ statuses.not_total_line state) }
+    ensures { IfOk result (λ line. line.items ≡ line_text (statuses.model_said (Checked.NotTotal state)).1) }
 {
     let mut line = Vec::new(alloc);
     write_word(&mut line, b"not")?;
@@ -99,7 +113,7 @@ fn not_total(alloc: Global, state: u32) -> Result<Vec<u8>, NoMemory>
 }
 
 fn not_a_word(alloc: Global, state: u32) -> Result<Vec<u8>, NoMemory>
-    ensures { IfOk result (λ line. line.items ≡ statuses.not_a_word_line state) }
+    ensures { IfOk result (λ line. line.items ≡ line_text (statuses.model_said (Checked.NotAWord state)).1) }
 {
     let mut line = Vec::new(alloc);
     write_word(&mut line, b"not")?;
@@ -113,7 +127,7 @@ fn not_a_word(alloc: Global, state: u32) -> Result<Vec<u8>, NoMemory>
 }
 
 fn left_open(alloc: Global) -> Result<Vec<u8>, NoMemory>
-    ensures { IfOk result (λ line. line.items ≡ statuses.open_line) }
+    ensures { IfOk result (λ line. line.items ≡ line_text (statuses.model_said Checked.ClosureTooLarge).1) }
 {
     let mut line = Vec::new(alloc);
     write_word(&mut line, b"undecided")?;
@@ -124,7 +138,7 @@ fn left_open(alloc: Global) -> Result<Vec<u8>, NoMemory>
 }
 
 fn rejected(alloc: Global, number: u64, rule: u32) -> Result<Vec<u8>, NoMemory>
-    ensures { IfOk result (λ line. line.items ≡ statuses.rejected_line number rule) }
+    ensures { IfOk result (λ line. line.items ≡ line_text (statuses.refutation_said (Verdict.Rejected number rule)).1) }
 {
     let mut line = Vec::new(alloc);
     write_word(&mut line, b"rejected")?;
@@ -137,7 +151,7 @@ fn rejected(alloc: Global, number: u64, rule: u32) -> Result<Vec<u8>, NoMemory>
 }
 
 pub(crate) fn refused_document(alloc: Global, fault: DocFault) -> Result<Vec<u8>, NoMemory>
-    ensures { IfOk result (λ line. line.items ≡ statuses.refused_document fault) }
+    ensures { IfOk result (λ line. line.items ≡ line_text (statuses.refused_document fault)) }
 {
     let mut line = Vec::new(alloc);
     write_word(&mut line, b"refused")?;

@@ -1,7 +1,6 @@
 // Deciding the formula of a text, or its negation.
-ghost use Rattle.std.specs.Prelude.{◌≡◌, ◌≤◌, length, IfOk};
+ghost use Rattle.std.specs.Prelude.{◌≡◌, ◌≤◌, IfOk};
 ghost use Rattle.ml_driver.specs.Decision.{IsAnswered, IsProblem};
-ghost use Rattle.ml_driver.specs.Statuses.{longest_text};
 ghost use Rattle.ml_driver.specs.private.Decisions.{status_in};
 
 use crate::Status;
@@ -13,10 +12,9 @@ use ml_base::{NoMemory, ParseRefusal};
 use ml_front::{Problem, negated, read};
 use std::alloc::Global;
 
-// what is due for a question on a text
+// the answer to a question about a text
 pub(crate) fn decide(alloc: Global, question: Question, text: &[u8]) -> Result<Output, NoMemory>
-    requires short { length text.now ≤ longest_text }
-    requires some { 1 ≤ question.limit }
+    requires { 1 ≤ question.limit }
     ensures { IfOk result (λ output. IsAnswered question text.now output.status output.bytes.items) }
 {
     match read(alloc, question.logic, text) {
@@ -36,7 +34,7 @@ pub(crate) fn decide(alloc: Global, question: Question, text: &[u8]) -> Result<O
     }
 }
 
-// what is due for the problem of the text
+// the answer about the problem of the text
 fn answer(
     alloc: Global,
     question: Question,

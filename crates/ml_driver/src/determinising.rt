@@ -1,10 +1,9 @@
 // Automata made deterministic from their texts.
-ghost use Rattle.std.specs.Prelude.{◌≡◌, ◌≤◌, length, IfOk, Some};
+ghost use Rattle.std.specs.Prelude.{◌≡◌, ◌≤◌, IfOk, Some};
 ghost use Rattle.ml_driver.specs.Automata as automata;
-ghost use Rattle.ml_driver.specs.Statuses.{longest_automaton};
-ghost use Rattle.ml_driver.specs.Run.{IsDue};
+ghost use Rattle.ml_driver.specs.Run.{IsAnswer};
 
-use crate::output::Output;
+use crate::output::{Output, refused_at};
 use crate::{Command, Status};
 use ml_base::NoMemory;
 use ml_buchi::{determinise, write};
@@ -13,11 +12,10 @@ use ml_hoa::{HoaRefusal, read};
 use ml_lines::{end_line, write_next_number, write_next_word, write_word};
 use std::alloc::Global;
 
-// what is due for `determinise` on the text of an automaton
+// the answer to `determinise` on the text of an automaton
 pub(crate) fn determinise_text(alloc: Global, limit: u32, text: &[u8]) -> Result<Output, NoMemory>
-    requires short { length text.now ≤ longest_automaton }
-    requires some { 1 ≤ limit }
-    ensures { IfOk result (λ output. IsDue (Some (Command.Determinise limit)) text.now output.status output.bytes.items) }
+    requires { 1 ≤ limit }
+    ensures { IfOk result (λ output. IsAnswer (Command.Determinise limit) text.now output.status output.bytes.items) }
 {
     let automaton = match read(alloc, text) {
         Ok(automaton) => automaton,
@@ -57,23 +55,9 @@ fn refusal_line(alloc: Global, refusal: HoaRefusal) -> Result<Vec<u8>, NoMemory>
     ensures { IfOk result (λ line. Some line.items ≡ automata.automaton_refusal_line refusal) }
 {
     match refusal {
-        HoaRefusal::Syntax { at } => refused_at(alloc, 1, at),
-        HoaRefusal::Range { at } => refused_at(alloc, 2, at),
-        HoaRefusal::TooMany { at } => refused_at(alloc, 3, at),
+        HoaRefusal::Syntax { at } => refused_at(alloc, b"automaton", 1, at),
+        HoaRefusal::Range { at } => refused_at(alloc, b"automaton", 2, at),
+        HoaRefusal::TooMany { at } => refused_at(alloc, b"automaton", 3, at),
         HoaRefusal::NoMemory => Err(NoMemory),
     }
-}
-
-fn refused_at(alloc: Global, rule: u64, at: u64) -> Result<Vec<u8>, NoMemory>
-    ensures { IfOk result (λ line. Some line.items ≡ automata.automaton_refused_at rule at) }
-{
-    let mut line = Vec::new(alloc);
-    write_word(&mut line, b"refused")?;
-    write_next_word(&mut line, b"automaton")?;
-    write_next_word(&mut line, b"rule")?;
-    write_next_number(&mut line, rule)?;
-    write_next_word(&mut line, b"at")?;
-    write_next_number(&mut line, at)?;
-    end_line(&mut line)?;
-    Ok(line)
 }

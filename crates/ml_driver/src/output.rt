@@ -19,22 +19,28 @@ pub(crate) fn refusal_line(alloc: Global, refusal: ParseRefusal) -> Result<Vec<u
     ensures { IfOk result (λ line. Some line.items ≡ statuses.refusal_line refusal) }
 {
     match refusal {
-        ParseRefusal::Syntax { at } => refused_at(alloc, 1, at),
-        ParseRefusal::Unbound { at } => refused_at(alloc, 2, at),
-        ParseRefusal::NotPositive { at } => refused_at(alloc, 3, at),
-        ParseRefusal::TooMany { at } => refused_at(alloc, 4, at),
-        ParseRefusal::TooNested { at } => refused_at(alloc, 5, at),
-        ParseRefusal::NameTooLong { at } => refused_at(alloc, 6, at),
+        ParseRefusal::Syntax { at } => refused_at(alloc, b"text", 1, at),
+        ParseRefusal::Unbound { at } => refused_at(alloc, b"text", 2, at),
+        ParseRefusal::NotPositive { at } => refused_at(alloc, b"text", 3, at),
+        ParseRefusal::TooMany { at } => refused_at(alloc, b"text", 4, at),
+        ParseRefusal::TooNested { at } => refused_at(alloc, b"text", 5, at),
+        ParseRefusal::NameTooLong { at } => refused_at(alloc, b"text", 6, at),
         ParseRefusal::NoMemory => Err(NoMemory),
     }
 }
 
-fn refused_at(alloc: Global, rule: u64, at: u64) -> Result<Vec<u8>, NoMemory>
-    ensures { IfOk result (λ line. Some line.items ≡ statuses.refused_at rule at) }
+// a text of this kind is refused for a cause with this number, at a byte
+pub(crate) fn refused_at(
+    alloc: Global,
+    kind: &[u8],
+    rule: u64,
+    at: u64,
+) -> Result<Vec<u8>, NoMemory>
+    ensures { IfOk result (λ line. Some line.items ≡ statuses.refused_at kind.now rule at) }
 {
     let mut line = Vec::new(alloc);
     write_word(&mut line, b"refused")?;
-    write_next_word(&mut line, b"text")?;
+    write_next_word(&mut line, kind)?;
     write_next_word(&mut line, b"rule")?;
     write_next_number(&mut line, rule)?;
     write_next_word(&mut line, b"at")?;

@@ -1,8 +1,7 @@
 // Documents with a structure made smaller: the same problem, with the quotient of the structure.
-ghost use Rattle.std.specs.Prelude.{◌≡◌, ◌≤◌, length, IfOk, Some};
+ghost use Rattle.std.specs.Prelude.{IfOk};
 ghost use Rattle.ml_driver.specs.Quotients.{IsReduced};
-ghost use Rattle.ml_driver.specs.Run.{IsDue};
-ghost use Rattle.ml_driver.specs.Statuses.{longest_document};
+ghost use Rattle.ml_driver.specs.Run.{IsAnswer};
 ghost use Rattle.ml_model_check.specs.Checked.{IsDocument};
 
 use crate::check::refused_document;
@@ -15,10 +14,9 @@ use ml_kripke::Model;
 use ml_model_check::{ShownModel, read_document};
 use std::alloc::Global;
 
-// what is due for `quotient` on a document
+// the answer to `quotient` on a document
 pub(crate) fn quotient_document(alloc: Global, text: &[u8]) -> Result<Output, NoMemory>
-    requires { length text.now ≤ longest_document }
-    ensures { IfOk result (λ output. IsDue (Some Command.Quotient) text.now output.status output.bytes.items) }
+    ensures { IfOk result (λ output. IsAnswer Command.Quotient text.now output.status output.bytes.items) }
 {
     match read_document(alloc, text) {
         Ok(shown) => Ok(Output {

@@ -1,7 +1,6 @@
 // Tasks realized from their texts.
-ghost use Rattle.std.specs.Prelude.{◌≡◌, ◌≤◌, length, IfOk, Some};
-ghost use Rattle.ml_driver.specs.Run.{IsDue};
-ghost use Rattle.ml_driver.specs.Statuses.{longest_task};
+ghost use Rattle.std.specs.Prelude.{◌≡◌, ◌≤◌, IfOk};
+ghost use Rattle.ml_driver.specs.Run.{IsAnswer};
 ghost use Rattle.ml_driver.specs.Tasks.{IsOpenFor, IsLeftOpen, IsTold};
 ghost use Rattle.ml_driver.specs.private.Outcomes.{status_of};
 ghost use Rattle.ml_task.specs.Task.{task_of};
@@ -16,11 +15,10 @@ use ml_synthesis::Outcome;
 use ml_task::{Task, read};
 use std::alloc::Global;
 
-// what is due for `realize` on the text of a task
+// the answer to `realize` on the text of a task
 pub(crate) fn realize_text(alloc: Global, limit: u32, text: &[u8]) -> Result<Output, NoMemory>
-    requires short { length text.now ≤ longest_task }
-    requires some { 1 ≤ limit }
-    ensures { IfOk result (λ output. IsDue (Some (Command.Realize limit)) text.now output.status output.bytes.items) }
+    requires { 1 ≤ limit }
+    ensures { IfOk result (λ output. IsAnswer (Command.Realize limit) text.now output.status output.bytes.items) }
 {
     match read(alloc, text) {
         Ok(task) => answer(alloc, &task, limit),

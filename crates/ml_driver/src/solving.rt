@@ -1,24 +1,21 @@
 // Solving parity games from their texts.
-ghost use Rattle.std.specs.Prelude.{◌≡◌, ◌≤◌, length, IfOk, Some};
+ghost use Rattle.std.specs.Prelude.{◌≡◌, IfOk, Some};
 ghost use Rattle.ml_parity.specs.Solution.{IsSolution};
 ghost use Rattle.ml_driver.specs.Games as games;
 ghost use Rattle.ml_driver.specs.Games.{IsMadeBy};
-ghost use Rattle.ml_driver.specs.Statuses.{longest_game};
-ghost use Rattle.ml_driver.specs.Run.{IsDue};
+ghost use Rattle.ml_driver.specs.Run.{IsAnswer};
 
-use crate::output::Output;
+use crate::output::{Output, refused_at};
 use crate::{Command, Engine, Status};
 use ml_base::NoMemory;
-use ml_lines::{end_line, write_next_number, write_next_word, write_word};
 use ml_parity::{Game, Solution, solve};
 use ml_pgsolver::{GameTextRefusal, read, write};
 use ml_progress::measures;
 use std::alloc::Global;
 
-// what is due for `solve-game` on the text of a game
+// the answer to `solve-game` on the text of a game
 pub(crate) fn solve_game(alloc: Global, engine: Engine, text: &[u8]) -> Result<Output, NoMemory>
-    requires { length text.now ≤ longest_game }
-    ensures { IfOk result (λ output. IsDue (Some (Command.SolveGame engine)) text.now output.status output.bytes.items) }
+    ensures { IfOk result (λ output. IsAnswer (Command.SolveGame engine) text.now output.status output.bytes.items) }
 {
     match read(alloc, text) {
         Ok(named) => {
@@ -50,25 +47,11 @@ fn refusal_line(alloc: Global, refusal: GameTextRefusal) -> Result<Vec<u8>, NoMe
     ensures { IfOk result (λ line. Some line.items ≡ games.game_refusal_line refusal) }
 {
     match refusal {
-        GameTextRefusal::Syntax { at } => refused_at(alloc, 1, at),
-        GameTextRefusal::Repeated { at } => refused_at(alloc, 2, at),
-        GameTextRefusal::Unknown { at } => refused_at(alloc, 3, at),
-        GameTextRefusal::TooMany { at } => refused_at(alloc, 4, at),
-        GameTextRefusal::TooLarge { at } => refused_at(alloc, 5, at),
+        GameTextRefusal::Syntax { at } => refused_at(alloc, b"game", 1, at),
+        GameTextRefusal::Repeated { at } => refused_at(alloc, b"game", 2, at),
+        GameTextRefusal::Unknown { at } => refused_at(alloc, b"game", 3, at),
+        GameTextRefusal::TooMany { at } => refused_at(alloc, b"game", 4, at),
+        GameTextRefusal::TooLarge { at } => refused_at(alloc, b"game", 5, at),
         GameTextRefusal::NoMemory => Err(NoMemory),
     }
-}
-
-fn refused_at(alloc: Global, rule: u64, at: u64) -> Result<Vec<u8>, NoMemory>
-    ensures { IfOk result (λ line. Some line.items ≡ games.game_refused_at rule at) }
-{
-    let mut line = Vec::new(alloc);
-    write_word(&mut line, b"refused")?;
-    write_next_word(&mut line, b"game")?;
-    write_next_word(&mut line, b"rule")?;
-    write_next_number(&mut line, rule)?;
-    write_next_word(&mut line, b"at")?;
-    write_next_number(&mut line, at)?;
-    end_line(&mut line)?;
-    Ok(line)
 }

@@ -1,9 +1,9 @@
 // The top call.
-ghost use Rattle.std.specs.Prelude.{◌≡◌, map, IfOk, Some};
+ghost use Rattle.std.specs.Prelude.{◌≡◌, map, IfOk};
 ghost use Rattle.std.specs.String.{string_bytes};
 ghost use Rattle.ml_driver.specs.Words as command_line;
-ghost use Rattle.ml_driver.specs.Run.{Ended, IsDue, IsWhole, Wrote};
-ghost use Rattle.ml_driver.specs.private.Inputs.{IsWithin};
+ghost use Rattle.ml_driver.specs.Run as answers;
+ghost use Rattle.ml_driver.specs.Run.{Ended, IsAnswer, IsWhole, Wrote};
 ghost use Rattle.ml_driver.specs.private.UsualNumbers.{HasUsualNumbers};
 
 use crate::bench::{generate, measure};
@@ -86,11 +86,10 @@ pub fn run<S: Source, K: Sink>(
     }
 }
 
-// what is due for a command on a text
+// the answer to a command on a text
 fn outcome(alloc: Global, command: Command, text: &[u8]) -> Result<Output, NoMemory>
-    requires short { IsWithin command text.now }
-    requires usual { HasUsualNumbers command }
-    ensures { IfOk result (λ output. IsDue (Some command) text.now output.status output.bytes.items) }
+    requires { HasUsualNumbers command }
+    ensures { IfOk result (λ output. IsAnswer command text.now output.status output.bytes.items) }
 {
     match command {
         Command::Decide { logic, limit } => {
@@ -118,7 +117,7 @@ fn outcome(alloc: Global, command: Command, text: &[u8]) -> Result<Output, NoMem
 }
 
 fn asked(logic: Logic, negated: bool, limit: u32, way: Way) -> Question
-    ensures { result ≡ record { logic = logic; negated = negated; limit = limit; way = way } }
+    ensures { result ≡ answers.asked negated way logic limit }
 {
     Question {
         logic,

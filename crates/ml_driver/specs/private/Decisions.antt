@@ -6,7 +6,7 @@
 --                          may have n positions, for the cause that d tells
 --   IsDocumentFor p d out == out is the document about p with the decision d, whose names can be written
 --   status_in n d       == the status that goes with the decision d, where n tells whether the negation was asked for
-use Rattle.std.specs.Prelude.{ℕ, ◌≡◌, ◌<◌, ◌^◌, ⊤, Bool, true, false, List}
+use Rattle.std.specs.Prelude.{ℕ, ◌≡◌, ◌<◌, ◌^◌, ⊤, Bool, List, if◌then◌else◌}
 use Rattle.ml_extract.specs.Extraction.{Extracted}
 use Rattle.ml_front.specs.Graphs.{HasLargeClosure, IsGraphOf}
 use Rattle.ml_front.specs.Laws.{HoldsWhere}
@@ -18,7 +18,6 @@ use Rattle.ml_product.specs.DecisionGame.{HasMoreThan}
 use Rattle.ml_refutation.specs.Acceptance.{IsAccepted}
 use Rattle.ml_refutation.specs.Views.{of_parts}
 use Rattle.ml_refute_check.specs.Documents.{document_of}
-use Rattle.ml_driver.specs.Bench.{asked}
 use Rattle.ml_driver.specs.Decision.{StaysOpen}
 use Rattle.ml_driver.specs.declared.deciding.Decision.{Decision}
 use Rattle.ml_driver.specs.declared.deciding.Decision.TheVariants as decision
@@ -45,7 +44,7 @@ abbrev pub IsDecisionOf : Way → Problem → ℕ → Decision → Type 0
 IsDecisionOf w p n (decision.Satisfiable m) =
     ShownIn w p n (λ g. Extracted g m.structure m.start × IsOrdered m.structure × (m.structure.states < 2 ^ 32))
 IsDecisionOf w p n (decision.Unsatisfiable r) = ShownIn w p n (λ g. IsAccepted g (of_parts r.names r.sequents r.stacks r.entries))
-IsDecisionOf w p n (decision.Undecided c) = StaysOpen (asked n p) p c
+IsDecisionOf w p n (decision.Undecided c) = StaysOpen n p c
 
 abbrev pub IsDocumentFor : Problem → Decision → List ℕ → Type 0
 IsDocumentFor p (decision.Satisfiable m) out =
@@ -54,8 +53,6 @@ IsDocumentFor p (decision.Unsatisfiable r) out = out ≡ document_of p (of_parts
 IsDocumentFor p (decision.Undecided c) out = out ≡ undecided_document p c
 
 abbrev pub status_in : Bool → Decision → Status
-status_in false (decision.Satisfiable m) = status.Yes
-status_in true (decision.Satisfiable m) = status.No
-status_in false (decision.Unsatisfiable r) = status.No
-status_in true (decision.Unsatisfiable r) = status.Yes
+status_in negated (decision.Satisfiable m) = if negated then status.No else status.Yes
+status_in negated (decision.Unsatisfiable r) = if negated then status.Yes else status.No
 status_in negated (decision.Undecided c) = status.Undecided

@@ -1,16 +1,12 @@
 -- Inputs of commands. Private contracts cite this.
 --
---   IsWithin c text        == the text is no longer than the command c takes, where it takes an input
 --   IsRefusedInput c e b a == the command c takes an input, and by the refusal e so much of it was given as lies between what
 --                             was left before and after
-use Rattle.std.specs.Prelude.{ℕ, ◌≡◌, ◌≤◌, List, length, Option, Some, IfSome}
+use Rattle.std.specs.Prelude.{ℕ, ◌≡◌, List, length, Option, Some}
 use Rattle.ml_base.specs.Whole.{Gives, IsGivenCount}
 use Rattle.ml_base.specs.declared.whole.ReadRefusal.{ReadRefusal}
 use Rattle.ml_driver.specs.Statuses.{longest_input}
 use Rattle.ml_driver.specs.declared.command.Command.{Command}
-
-abbrev pub IsWithin : Command → List ℕ → Type 0
-IsWithin c text = IfSome (longest_input c) (λ n. length text ≤ n)
 
 pub record IsRefusedInput (c : Command) (e : ReadRefusal) (before after : Option (List ℕ)) : Type 0 where
   pub limit : ℕ

@@ -1,15 +1,24 @@
 -- The lines one behind the other are the text.
-use Rattle.std.proofs.Common.{◌++◌, [], ◌∷◌, codes, ap, ◌∙◌}
+use Rattle.std.proofs.Common.{◌≡◌, ◌++◌, [], ◌∷◌, codes, refl, ap, ◌∙◌}
 use Rattle.ml_front.specs.Head.{answer_line, answer_word}
-use Rattle.ml_lines.specs.Lines.{Line, line_text, number}
+use Rattle.ml_lines.specs.Lines.{Line, line_text, number, text_of}
 use Rattle.ml_lines.proofs.Lines.{text_of-last, text_of-more}
-use Rattle.ml_driver.specs.Bench.{answer_of, nodes_line, positions_line, request_line}
+use Rattle.ml_driver.specs.Bench.{answer_of, found_lines}
+use Rattle.ml_driver.specs.private.Findings.{nodes_line, positions_line}
+use Rattle.ml_gen.specs.Families.{family_word}
+use Rattle.ml_driver.specs.declared.finding.Finding.{Finding}
+use Rattle.ml_driver.specs.declared.finding.Finding.TheVariants.{Decided, GamePassed, ClosurePassed}
 use Rattle.ml_driver.proofs.bench.report.Goals as goal
+
+two_lines : (x : Finding) → nodes_line x ∷ positions_line x ∷ [] ≡ found_lines x
+two_lines (Decided nodes positions satisfiable) = refl
+two_lines (GamePassed nodes) = refl
+two_lines ClosurePassed = refl
 
 pub returns : goal.returns
 returns c =
     let x = c.args.finding in
-    let request : Line = request_line c.args.family c.args.n in
+    let request : Line = codes "bench" ∷ family_word c.args.family ∷ number c.args.n ∷ [] in
     let count : Line = codes "occurrences" ∷ number c.args.count ∷ [] in
     let answer : Line = answer_line (answer_of x) in
     let one = c.append_request.new.lines.items in
@@ -25,3 +34,4 @@ returns c =
     (text_of-more three four five (positions_line x) (answer ∷ []) c.in_ok-append_positions.ensures
     (text_of-last four five answer
     (c.in_ok-append_word.ensures ∙ ap (λ w. four ++ line_text (codes "answer" ∷ w ∷ [])) word)))))
+    ∙ ap (λ ls. text_of (request ∷ count ∷ (ls ++ (answer ∷ [])))) (two_lines x)

@@ -13,4 +13,4 @@ pub returns : goal.returns
 returns c =
     subst (λ s. IsAnswered c.args.question c.args._text.now s c.in_ok-document.field-0.items) (sym c.status_in.ensures)
     (answered c.args.question c.args._text.now c.args.problem.now c.requires.problem c.in_ok-document.field-0.items
-    c.args.question.negated c.in_ok-decision.decision c.in_ok-decision.ensures c.in_ok-document.ensures)
+    c.in_ok-decision.decision c.in_ok-decision.ensures c.in_ok-document.ensures)
