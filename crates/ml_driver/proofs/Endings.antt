@@ -11,9 +11,12 @@ use Rattle.std.specs.Io.KnownBytes.{append_known, prepend_known}
 use Rattle.ml_base.specs.Faults.{Rose}
 use Rattle.ml_base.specs.Whole.{AppendsPart}
 use Rattle.ml_front.specs.declared.answer.Answer.{Answer}
+use Rattle.ml_front.specs.declared.answer.Answer.TheVariants as answer
 use Rattle.ml_lines.specs.Lines.{line_text}
 use Rattle.ml_model_check.specs.declared.checked.Checked.{Checked}
+use Rattle.ml_model_check.specs.declared.checked.Checked.TheVariants as checked
 use Rattle.ml_refute_check.specs.declared.verdict.Verdict.{Verdict}
+use Rattle.ml_refute_check.specs.declared.verdict.Verdict.TheVariants as verdict
 use Rattle.ml_driver.specs.Decision.{IsAnswered, if_open, if_refused, if_refuted, if_satisfied}
 use Rattle.ml_driver.specs.Tasks.{IsTaskAnswered}
 use Rattle.ml_driver.specs.declared.question.Question.{Question}
@@ -30,13 +33,22 @@ use Rattle.ml_driver.specs.Run.{World, WasGiven, IsWhole, Answered, FailedToWrit
 -- ---- statuses
 
 calm_status : (a : Answer) (s : Status) → s ≡ status_of a → code_of s ≤ 4
-calm_status _ s is = omega (arith, ap code_of is)
+calm_status answer.Satisfiable s is = omega (arith, ap code_of is)
+calm_status answer.Unsatisfiable s is = omega (arith, ap code_of is)
+calm_status answer.Undecided s is = omega (arith, ap code_of is)
 
 calm_check : (c : Checked) (s : Status) → s ≡ (model_said c).0 → code_of s ≤ 4
-calm_check _ s is = omega (arith, ap code_of is)
+calm_check checked.Holds s is = omega (arith, ap code_of is)
+calm_check checked.Fails s is = omega (arith, ap code_of is)
+calm_check checked.ClosureTooLarge s is = omega (arith, ap code_of is)
+calm_check (checked.NotTotal state) s is = omega (arith, ap code_of is)
+calm_check (checked.NotAWord state) s is = omega (arith, ap code_of is)
+calm_check (checked.Unreadable fault) s is = omega (arith, ap code_of is)
 
 calm_verdict : (v : Verdict) (s : Status) → s ≡ (refutation_said v).0 → code_of s ≤ 4
-calm_verdict _ s is = omega (arith, ap code_of is)
+calm_verdict verdict.Accepted s is = omega (arith, ap code_of is)
+calm_verdict (verdict.Rejected line rule) s is = omega (arith, ap code_of is)
+calm_verdict (verdict.Unreadable fault) s is = omega (arith, ap code_of is)
 
 yes_or_no : (b : Bool) (s t u : Status) → code_of t ≤ 4 → code_of u ≤ 4 → s ≡ (if b then t else u) → code_of s ≤ 4
 yes_or_no true s t u low also is = omega (arith, low, ap code_of is)

@@ -63,8 +63,8 @@ Answer q text = (s : Status) × ((out : List ℕ) × IsAnswered q text s out)
 module _ (q : Question) (text : List ℕ) (p : Problem) (is_problem : IsProblem q text p)
     (small : q.limit < 2 ^ 32) where
   -- by the winner of the first position
-  module _ (g : Graph) (is_graph : IsGraphOf g p) (ok : IsGraph g) (held : IsHeld g) (is_closed : IsClosed q.way q.limit p) (a : Arena)
-      (arena : IsArenaOf g a) (few : length a.positions ≤ q.limit) (s : GameSolution)
+  module _ (g : Graph) (is_graph : IsGraphOf g p) (ok : IsGraph g) (held : IsHeld g)
+      (is_closed : IsClosed q.way q.limit p) (a : Arena) (arena : IsArenaOf g a) (few : length a.positions ≤ q.limit) (s : GameSolution)
       (solved : IsSolution (game_of a) s) where
     first_low : 0 < games.size (game_of a)
     first_low = omega (arith, size_is g a arena)
@@ -98,7 +98,9 @@ module _ (q : Question) (text : List ℕ) (p : Problem) (is_problem : IsProblem 
         let r = made.0 in
         let x : Extraction = record { g = g; a = a; arena = arena; s = s; r = r; o = made.1.outline } in
         let well = parsed_well text p.formula is_problem.is_parsed in
-        let nodes = graph_small MOST_NODES g p.negated p.formula (omega arith) well is_graph (closure_fits q.way q.limit p is_closed) in
+        let nodes =
+        graph_small MOST_NODES g p.negated p.formula (omega arith) well is_graph
+        (closure_fits q.way q.limit p is_closed) in
         let is_refutation =
         extracted_refutation x ok (omega (arith, nodes)) made.1.heights
         (member-All Fits g.priorities held.priorities) (omega (arith, few, small)) in

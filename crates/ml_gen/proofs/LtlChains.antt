@@ -84,7 +84,8 @@ reads_more [] all f ts r = r
 reads_more (g ∷ gs) all f ts r =
     reads_more gs all.1 (Binary operator.And f g) ts (and r (pair_alone (reads_grouped g all.0 (more_tokens gs))))
 
-short_part : (g : Formula) (ss : List Spelt) → IsPart g → AllByRecursion IsShort ss → AllByRecursion IsShort (grouped g ss)
+short_part : (g : Formula) (ss : List Spelt) → IsPart g → AllByRecursion IsShort ss
+    → AllByRecursion IsShort (grouped g ss)
 short_part g ss part short = (refl, tokens_short g part.short (lone 41 ∷ ss) (refl, short))
 
 short_more : (gs : List Formula) → AllByRecursion IsPart gs → AllByRecursion IsShort (more_tokens gs)

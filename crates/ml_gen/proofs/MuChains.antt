@@ -87,7 +87,8 @@ reads_more [] all f ts r = r
 reads_more (g ∷ gs) all f ts r =
     reads_more gs all.1 (Binary operator.And f g) ts (and r (reads_formula g all.0.spelled (more_tokens gs)))
 
-short_part : (g : Formula) (ss : List Spelt) → IsPart g → AllByRecursion IsShort ss → AllByRecursion IsShort (tokens_onto g ss)
+short_part : (g : Formula) (ss : List Spelt) → IsPart g → AllByRecursion IsShort ss
+    → AllByRecursion IsShort (tokens_onto g ss)
 short_part g ss part short = tokens_short g part.short ss short
 
 short_more : (gs : List Formula) → AllByRecursion IsPart gs → AllByRecursion IsShort (more_tokens gs)

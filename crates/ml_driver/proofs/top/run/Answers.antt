@@ -9,8 +9,8 @@ use Rattle.ml_driver.proofs.top.run.Goals as goal
 pub returns-in-Ok-None : goal.returns-in-Ok-None
 returns-in-Ok-None g c =
     ended_with None _ _ _ (sym c.in-Ok-None.ensures.command ∙ c.in-Ok-None.field-0-is)
-    (ended_written None _ [] words_refused.0 (line_text words_refused.1) _ (refl, refl) refl (refl, refl) c.written.ensures.is_whole
-    c.written.ensures.wrote)
+    (ended_written None _ [] words_refused.0 (line_text words_refused.1) _ (refl, refl) refl (refl, refl)
+    c.written.ensures.is_whole c.written.ensures.wrote)
 
 pub returns-in-Err-TooLong : goal.returns-in-Err-TooLong
 returns-in-Err-TooLong g c =
@@ -31,10 +31,12 @@ returns-in-Ok-outcome g c =
     let due = c.in-Ok-outcome.output in
     let old = c.args.sink.now in
     let new = c.written-in-Ok-outcome.new.sink in
+    let answer =
+    subst (λ t. IsAnswer command t due.status due.bytes.items) c.deref.ensures.value c.in-Ok-outcome.ensures in
     ended_with (Some command) _ _ _ (sym c.in-Ok-Some.ensures.command ∙ c.in-Ok-Some.field-0-is)
     (ended_written (Some command) _ c.in-Ok.text.items due.status due.bytes.items _
     c.in-Ok.ensures.given c.in-Ok.ensures.calm
-    (inl (c.in-Ok.ensures.fits, subst (λ t. IsAnswer command t due.status due.bytes.items) c.deref.ensures.value c.in-Ok-outcome.ensures))
+    (inl (c.in-Ok.ensures.fits, answer))
     (subst IsWhole c.deref-in-Ok-outcome.ensures.value c.written-in-Ok-outcome.ensures.is_whole)
     (subst
     (λ o. Wrote (g.K.Sink.taken old) (g.K.Sink.taken new) (g.K.Sink.faults old) (g.K.Sink.faults new) due.status o
