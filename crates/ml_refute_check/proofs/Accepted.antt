@@ -8,7 +8,7 @@ use Rattle.ml_front.proofs.Graphs.{meaningful}
 use Rattle.ml_front.proofs.Logics.{parsed_well}
 use Rattle.ml_front.proofs.ReadBack.{heads_read_back}
 use Rattle.ml_refutation_text.specs.WrittenText.{written_text}
-use Rattle.ml_refutation_text.proofs.WrittenTexts.{has_text}
+use Rattle.ml_refutation_text.proofs.WrittenTexts.{written_is_text}
 use Rattle.ml_refute_check.specs.Laws.{AcceptedIsTrue, DocumentsReadBack}
 use Rattle.ml_refute_check.proofs.Refuted.{refuted_is_unsatisfiable}
 
@@ -30,5 +30,5 @@ documents_read_back p r well is_refutation = record {
   body = written_text Two r;
   has_head = heads_read_back Unsatisfiable Two p (written_text Two r) well;
   is_refutation = is_refutation;
-  has_body = has_text Two r is_refutation;
+  has_body = written_is_text Two r is_refutation;
 }

@@ -12,7 +12,6 @@
 use Rattle.std.proofs.Common.{◌≡◌, ◌↔◌, ℕ, zero, suc, ◌+◌, ◌<◌, ◌≤◌, ◌%◌, ◌==◌, filter, Bool, List, [], ◌∷◌, ◌++◌, None}
 use Rattle.std.proofs.Common.{Some, All, length, get_or, take, map, IsTrue, inl, refl, sym, ap, ◌∙◌, subst, arith}
 use Rattle.std.proofs.lemmas.List.{map-append, take_more, take_all, get_or-map, length-map}
-use Rattle.std.specs.Global.{Vec}
 use Rattle.ml_lists.specs.Ascending.{IsAscending, ascending}
 use Rattle.ml_lists.specs.Member.{IsMember}
 use Rattle.ml_lists.proofs.Ascending.{ascending-is, ascending_same, ascending-member, member-ascending}
@@ -20,7 +19,7 @@ use Rattle.ml_graph.specs.Graph.{Graph, size, odd_priorities}
 use Rattle.ml_trace.specs.Automaton.{IsGuess}
 use Rattle.ml_trace.specs.LabelledLoop.{EachNameStands}
 use Rattle.ml_refutation.specs.Refutation as plain
-use Rattle.ml_refutation.specs.Refutation.{IsRefutation, IsEntry, IsTraced}
+use Rattle.ml_refutation.specs.Refutation.{IsEntry, IsTraced}
 use Rattle.ml_refutation.specs.Acceptance as acceptance
 use Rattle.ml_refutation.specs.Acceptance.{entry_at, no_entry, parts, StandsIn, IsWellStarted}
 use Rattle.ml_refutation.specs.Views.{item_of}

@@ -1,6 +1,5 @@
 use Rattle.std.proofs.Common.{◌≡◌, ◌↔◌, ℕ, ◌<◌, ◌||◌, ◌++◌, ◌∙◌, Bool, List, true, false, All, IsTrue, ap, arith, drop, get_or, length, subst, take}
 use Rattle.std.proofs.Math.Seq.{take-append_seam}
-use Rattle.std.specs.Global.{Vec}
 use Rattle.std.proofs.lemmas.List.{get_or_default}
 use Rattle.ml_refutation.specs.declared.refutation.Item.{Item}
 use Rattle.ml_trace.specs.Stack.{has}

@@ -1,4 +1,4 @@
-use Rattle.std.proofs.Common.{◌∙◌, ℕ, ap, refl}
+use Rattle.std.proofs.Common.{◌∙◌, refl}
 use Rattle.ml_refute_check.specs.private.Parts.{question}
 use Rattle.ml_refute_check.proofs.BranchesFound.{test_fails, go_kept, go_refused_8, go_refused_9, go_refused_10}
 use Rattle.ml_refute_check.proofs.EntryFound.{odds_ascend}

@@ -1,4 +1,4 @@
-use Rattle.std.proofs.Common.{ℕ, ◌<◌, ◌∙◌, [], All, IfOk, ap, subst, sym}
+use Rattle.std.proofs.Common.{◌<◌, [], All, IfOk, ap, subst, sym}
 use Rattle.ml_graph.specs.Graph.{size}
 use Rattle.ml_lists.specs.Ascending.{IsAscending}
 use Rattle.ml_refutation.specs.Views.{decision_of}
