@@ -22,6 +22,7 @@ use Rattle.ml_trace.specs.Stack.{Item}
 use Rattle.ml_product.specs.Position.{Position, start_of}
 use Rattle.ml_product.specs.DecisionGame.{Target, To, Lost, Won, Turn, mover, IsReached, at_start, by_move, AreDifferent, HasMoreThan}
 use Rattle.ml_product.specs.Arena.{Arena, AreVertices, IsVertexOf, IsPlayed, IsArenaOf}
+use Rattle.ml_product.proofs.Ended.{start_alone_reached}
 use Rattle.ml_product.proofs.OnePlace.{place_of}
 use Rattle.ml_product.proofs.OneTurn.{same_targets}
 use Rattle.ml_product.proofs.ReachedSequents.{reached_low}
@@ -263,8 +264,4 @@ module _ (g : Graph) (ok : IsGraph g) where
           (cases_lt n (length (start_of g ∷ others)))
 
   pub some_arena : (n : ℕ) → Answer n
-  some_arena n = grown n n [] (record { are_different = ((λ i. i), tt); are_reached = first }) (omega arith)
-    where
-      first : (p : Position) → (p ≡ start_of g) ⊎ ⊥ → IsReached g p
-      first p (inl same) = subst (IsReached g) (sym same) at_start
-      first p (inr none) = absurd none
+  some_arena n = grown n n [] (record { are_different = ((λ i. i), tt); are_reached = start_alone_reached g }) (omega arith)
