@@ -60,10 +60,12 @@ refuted_are_accepted q text out x =
       problem = x.problem;
       refutation = x.refutation;
       is_document = refutation_shown q text out x;
-      graph = x.graph;
-      is_graph = x.is_graph;
-      closed = closure_fits q.way q.limit x.problem x.is_closed;
-      is_accepted = x.is_accepted;
+      holds = record {
+        closed = closure_fits q.way q.limit x.problem x.is_closed;
+        graph = x.graph;
+        is_graph = x.is_graph;
+        holds = x.is_accepted;
+      };
     }
 
 -- ---- what the commands answer

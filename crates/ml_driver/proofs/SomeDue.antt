@@ -71,10 +71,11 @@ to_migrate text =
           problem = p;
           refutation = r;
           is_document = shown;
-          is_written = refl;
-          shows_the_same =
-              refutation_read_back p r (parsed_well shown.has_head.formula_text p.formula shown.has_head.is_parsed)
-              shown.is_refutation;
+          holds = (
+            refl,
+            refutation_read_back p r (parsed_well shown.has_head.formula_text p.formula shown.has_head.is_parsed)
+            shown.is_refutation,
+          );
         },
       ),
     ))
