@@ -74,7 +74,7 @@ to_migrate text =
           holds = (
             refl,
             refutation_read_back p r (parsed_well shown.has_head.formula_text p.formula shown.has_head.is_parsed)
-            shown.is_refutation,
+                shown.is_refutation,
           );
         },
       ),
