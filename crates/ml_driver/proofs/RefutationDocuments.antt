@@ -13,7 +13,7 @@ use Rattle.ml_front.proofs.OneFault.{some_head}
 use Rattle.ml_base.specs.declared.version.Version.TheVariants.{Two}
 use Rattle.ml_front.proofs.ReadBack.{heads_read_back}
 use Rattle.ml_front.specs.Logics.{IsWellFormed}
-use Rattle.ml_refutation_text.proofs.WrittenTexts.{has_text}
+use Rattle.ml_refutation_text.proofs.WrittenTexts.{written_is_text}
 use Rattle.ml_refutation_text.specs.WrittenText.{written_text}
 use Rattle.ml_refutation.specs.Refutation.{Refutation, IsRefutation}
 use Rattle.ml_refutation_text.specs.BodyRules.{IsFaultOf, IsReadableBody}
@@ -44,5 +44,5 @@ refutation_read_back p r well is_refutation = record {
   body = written_text Two r;
   has_head = heads_read_back Unsatisfiable Two p (written_text Two r) well;
   is_refutation = is_refutation;
-  has_body = has_text Two r is_refutation;
+  has_body = written_is_text Two r is_refutation;
 }

@@ -3,7 +3,7 @@
 --   any_cause   == whether a spread clashes is decided
 --   follow      == the step along a diamond leads to some position
 --   some_turn   == a position has a turn
-use Rattle.std.proofs.Common.{◌≡◌, ℕ, ◌%◌, ◌==◌, ◌<◌, ◌⊎◌, List, [], ◌∷◌, filter, length, map, inl, inr, refl, sym, subst, arith}
+use Rattle.std.proofs.Common.{◌≡◌, ℕ, ◌%◌, ◌==◌, ◌<◌, ◌⊎◌, List, [], ◌∷◌, filter, map, inl, inr, refl, sym, subst, arith}
 use Rattle.std.specs.List.{flat_map}
 use Rattle.ml_lists.specs.Member.{IsMember}
 use Rattle.ml_lists.specs.Search.{First}
@@ -17,8 +17,8 @@ use Rattle.ml_graph.proofs.References.{diamond_target, square_target}
 use Rattle.ml_history.specs.HistoryStep.{stepped, step_mark}
 use Rattle.ml_trace.specs.declared.letters.Triple.{Triple}
 use Rattle.ml_trace.specs.Marks.{priority}
-use Rattle.ml_trace.specs.private.LetterMoves.{moves_of}
-use Rattle.ml_trace.proofs.LetterLemmas.{moves_of-letter}
+use Rattle.ml_trace.specs.private.LetterMoves.{rows}
+use Rattle.ml_trace.proofs.LetterLemmas.{rows-letter}
 use Rattle.ml_sequent.specs.declared.clashes.ClashCause.{ClashCause}
 use Rattle.ml_sequent.specs.declared.clashes.ClashCause.TheVariants as cause
 use Rattle.ml_sequent.specs.Spread.{SpreadList, IsSpreadOf, IsCause, IsOpenOr, is_diamond}
@@ -107,7 +107,7 @@ module _ (g : Graph) (ok : IsGraph g) (p : Position) (low : (n : ℕ) → IsMemb
         let next = sieve (IsTarget g sp d) (size g) (λ m m_low. decided_target g sp d m) in
         let traces = sieved_list (IsTrace g p.sequent sp d) (triples next.list)
         (λ t. decided_trace g sp ok p.sequent within d t) in
-        let letter = moves_of (odd_priorities g) traces.list (length traces.list) in (
+        let letter = rows (odd_priorities g) traces.list in (
           record {
             sequent = next.list;
             history = stepped p.history letter;
@@ -133,7 +133,7 @@ module _ (g : Graph) (ok : IsGraph g) (p : Position) (low : (n : ℕ) → IsMemb
               );
             };
             is_letter =
-                moves_of-letter (odd_priorities g) (ascending-is (filter (λ k. k % 2 == 1) g.priorities)) traces.list;
+                rows-letter (odd_priorities g) (ascending-is (filter (λ k. k % 2 == 1) g.priorities)) traces.list;
             history = refl;
             marked = refl;
             unchosen = refl;

@@ -4,7 +4,7 @@
 --   told_answered  == what is told of the task of a text is the answer
 --   one_told       == one status is the answer at most
 --   on_task        == some status is, with some output
-use Rattle.std.proofs.Common.{◌≡◌, ℕ, ◌⊎◌, true, List, refl, subst, ⊎_elim, arith}
+use Rattle.std.proofs.Common.{◌≡◌, ℕ, true, List, refl, subst, ⊎_elim, arith}
 use Rattle.ml_base.specs.declared.doc_fault.DocFault.{DocFault}
 use Rattle.ml_lines.specs.Lines.{line_text}
 use Rattle.ml_realize.specs.Laws.{OneSize}
@@ -24,10 +24,10 @@ use Rattle.ml_task.specs.TaskText.{IsTaskFault, IsTaskText}
 use Rattle.ml_task.proofs.OneAnswer.{one_task, some_answer, task_or_fault}
 use Rattle.ml_word_automaton.proofs.BlockGraphs.{one_size}
 use Rattle.ml_driver.specs.Statuses.{IsUnreadable, refused_document}
-use Rattle.ml_driver.specs.Tasks.{IsDefeated, IsLeftOpen, IsOpenFor, IsRealized, IsTaskAnswered, IsTold, StandsForTask}
+use Rattle.ml_driver.specs.Tasks.{IsOpenFor, IsTaskAnswered, IsTold, StandsForTask}
 use Rattle.ml_driver.specs.private.Outcomes.{status_of}
 use Rattle.ml_driver.specs.declared.status.Status.{Status}
-use Rattle.ml_driver.specs.declared.status.Status.TheVariants.{Yes, No, Undecided, Words, Text, ReadFault, WriteFault, NoMemory}
+use Rattle.ml_driver.specs.declared.status.Status.TheVariants.{Yes, No, Undecided, Text}
 
 -- ---- what is found is told
 

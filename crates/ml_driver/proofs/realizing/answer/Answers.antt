@@ -1,4 +1,4 @@
-use Rattle.std.proofs.Common.{Err, ap, refl, sym, subst, ◌∙◌}
+use Rattle.std.proofs.Common.{Err, ap, refl, sym, subst}
 use Rattle.ml_task.specs.Task.{task_of}
 use Rattle.ml_driver.proofs.TaskAnswers.{told_of}
 use Rattle.ml_driver.specs.Tasks.{IsTold}
