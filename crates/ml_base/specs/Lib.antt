@@ -1,3 +1,5 @@
+-- what known counts of bytes and faults tell
+pub mod KnownCounts
 -- names and actions
 pub mod Name
 -- Kripke structures

@@ -2,7 +2,8 @@
 ghost use Rattle.std.specs.Prelude.{◌≡◌, ℕ, ◌+◌, ◌*◌, ◌-◌, ◌^◌, ◌<◌, ◌≤◌, List, length, take, drop, vec_len, IfOk, IfErr, IfSome, OnOk, OnErr, IsErrOf};
 ghost use Rattle.std.specs.Io.KnownBytes.{IsAtEnd, append_known, prepend_known};
 ghost use Rattle.ml_base.specs.Faults.{Rose};
-ghost use Rattle.ml_base.specs.Whole.{AreFaultsAt, IsGivenCount, Gives, AppendsPart};
+ghost use Rattle.ml_base.specs.Whole.{Gives, AppendsPart};
+ghost use Rattle.ml_base.specs.KnownCounts.{AreFaultsAt, IsGivenCount};
 
 use crate::no_memory::NoMemory;
 use crate::sink::Sink;

@@ -15,7 +15,8 @@ use Rattle.ml_lists.proofs.Entries.{find-none}
 use Rattle.ml_lists.proofs.Member.{member-append, member-append_left, member-append_right, member-map, Image, member-map_from, InList, member-flat_map_from, Place, member-place, member-All}
 use Rattle.ml_lists.proofs.Members.{member_of_contains, contains_of_member}
 use Rattle.ml_lists.proofs.Says.{same_truth}
-use Rattle.ml_kripke.specs.Ordered.{IsBuiltFrom, IsOrdered, ends, first_bad_state, named_states}
+use Rattle.ml_kripke.specs.Ordered.{IsOrdered}
+use Rattle.ml_kripke.specs.Built.{IsBuiltFrom, ends, first_bad_state, named_states}
 use Rattle.ml_bisim.specs.Bisimilar.{HasEdge}
 use Rattle.ml_bisim.specs.Quotient.{AreClasses, IsQuotientOf, SomeEdge, class_of}
 use Rattle.ml_bisim.specs.private.Merged.{AreClassLabels, between_classes}

@@ -1,7 +1,8 @@
 // The quotient of a structure, made of the classes of its states.
 ghost use Rattle.std.specs.Prelude.{◌≡◌, ◌<◌, ◌++◌, ◌^◌, None, length, map, All, IfOk, OnOk};
 ghost use Rattle.ml_base.specs.Structure.{IsStructure};
-ghost use Rattle.ml_kripke.specs.Ordered.{IsBuiltFrom, IsOrdered, first_bad_state};
+ghost use Rattle.ml_kripke.specs.Ordered.{IsOrdered};
+ghost use Rattle.ml_kripke.specs.Built.{IsBuiltFrom, first_bad_state};
 ghost use Rattle.ml_bisim.specs.Quotient.{IsQuotientOf};
 ghost use Rattle.ml_bisim.specs.private.Merged.{AreClassLabels, between_classes};
 

@@ -26,7 +26,8 @@ use Rattle.ml_text.specs.declared.token.Operator.{Operator}
 use Rattle.ml_text.specs.declared.token.Operator.TheVariants as operator
 use Rattle.ml_text.specs.Operators.{weight}
 use Rattle.ml_ctl.specs.Formula as plain
-use Rattle.ml_ctl.specs.Formula.{Formula, occurrences, is_state}
+use Rattle.ml_ctl.specs.Formula.{Formula, occurrences}
+use Rattle.ml_ctl.specs.Sorts.{is_state}
 use Rattle.ml_ctl.specs.declared.term.Quantifier.{Quantifier}
 use Rattle.ml_ctl.specs.declared.term.Quantifier.TheVariants as quantifier
 use Rattle.ml_ctl.specs.Laws.{IsDecided}

@@ -24,7 +24,8 @@ use Rattle.ml_graph.proofs.CheckingGame.{is_game}
 use Rattle.ml_graph.proofs.OneStep.{vertex_low, one_step}
 use Rattle.ml_text.specs.declared.token.Operator.TheVariants as operator
 use Rattle.ml_ctl.specs.Formula as plain
-use Rattle.ml_ctl.specs.Formula.{Formula, occurrences, is_state}
+use Rattle.ml_ctl.specs.Formula.{Formula, occurrences}
+use Rattle.ml_ctl.specs.Sorts.{is_state}
 use Rattle.ml_ctl.specs.declared.term.Tense.TheVariants as tense
 use Rattle.ml_ctl.specs.declared.term.Pairing.TheVariants as pairing
 use Rattle.ml_ctl.specs.Laws.{IsDecided, IsDecidedAlong}

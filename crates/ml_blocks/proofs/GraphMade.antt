@@ -10,7 +10,7 @@ use Rattle.std.specs.List.{IsDistinct}
 use Rattle.ml_text.specs.Names.{Proposition, of_kind}
 use Rattle.ml_text.proofs.NameLists.{distinct_names}
 use Rattle.ml_text.proofs.Names.{kind_among}
-use Rattle.ml_ctl.specs.Formula as plain
+use Rattle.ml_ctl.specs.FormulaNames as formula
 use Rattle.ml_ctl.specs.Formula.{Formula}
 use Rattle.ml_graph.specs.declared.node.Node.{Node}
 use Rattle.ml_nodes.proofs.InRange.{none_twice}
@@ -36,7 +36,7 @@ use Rattle.ml_blocks.proofs.ViewedSpots.{viewed}
 
 pub names_differ : (names : List (List ℕ)) (f : Formula) → names ≡ props_onto f [] → IsDistinct bytes_eq names
 names_differ names f is =
-    subst (IsDistinct bytes_eq) (sym is) (distinct_names [] (of_kind Proposition (plain.names f)) none_twice)
+    subst (IsDistinct bytes_eq) (sym is) (distinct_names [] (of_kind Proposition (formula.names f)) none_twice)
 
 whole_list : {X : Type 0} (here : ℕ → Formula → Option Bool → X) (f : Formula) (o : Option Bool)
     → spread here 0 f o ≡ [] ++ (spread here 0 f o ++ [])
@@ -63,7 +63,7 @@ module _ (f : Formula) (first : Option Bool) (sign : Bool) (from : Beginning) (m
         stands_in (occurrence_here names) os 0 f first [] [] (os_are ∙ whole_list (occurrence_here names) f first) refl;
     eventualities =
         stands_in eventualities_here lists 0 f first [] [] (lists_are ∙ whole_list eventualities_here f first) refl;
-    among = kind_among Proposition (plain.names f) names_are;
+    among = kind_among Proposition (formula.names f) names_are;
   }
 
   abbrev start : Place

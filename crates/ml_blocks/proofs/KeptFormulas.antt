@@ -11,7 +11,8 @@ use Rattle.ml_text.proofs.NameLists.{is_among}
 use Rattle.ml_text.proofs.Names.{kind_parts}
 use Rattle.ml_text.specs.declared.token.Operator.{Operator}
 use Rattle.ml_text.specs.Operators.{weight}
-use Rattle.ml_ctl.specs.Formula.{Formula, Const, Not, Binary, Temporal, Paired, Quantified, names, occurrences}
+use Rattle.ml_ctl.specs.Formula.{Formula, Const, Not, Binary, Temporal, Paired, Quantified, occurrences}
+use Rattle.ml_ctl.specs.FormulaNames.{names}
 use Rattle.ml_ctl.specs.declared.term.Tense.{Tense}
 use Rattle.ml_ctl.specs.declared.term.Pairing.{Pairing}
 use Rattle.ml_ctl.specs.declared.term.Quantifier.{Quantifier}

@@ -14,7 +14,8 @@ use Rattle.ml_parity.specs.declared.players.Player.TheVariants.{Odd}
 use Rattle.ml_parity.specs.Winner.{Wins}
 use Rattle.ml_graph.specs.CheckingGame.{Pair, Holds, checking_game, vertex_number}
 use Rattle.ml_graph.specs.Graph.{Graph}
-use Rattle.ml_ctl.specs.Formula.{Formula, is_state}
+use Rattle.ml_ctl.specs.Formula.{Formula}
+use Rattle.ml_ctl.specs.Sorts.{is_state}
 use Rattle.ml_ctl.specs.Problem.{HoldsAt, IsAdmitted}
 use Rattle.ml_ltl.specs.Problem as ltl
 use Rattle.ml_blocks.specs.BlockGraph.{IsGraphAt, start_of, linear_start_of}

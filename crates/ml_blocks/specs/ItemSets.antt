@@ -43,9 +43,6 @@ next_items (x ∷ xs) = put (next_of x) (next_items xs)
 
 -- what comes of an operand that is asked both ways comes of it both ways
 abbrev pub items_within : ℕ → Formula → Bool → List Item
-items_within i (Const b) sign = now i (Const b) sign ∷ []
-items_within i (Prop p) sign = now i (Prop p) sign ∷ []
-items_within i (Quantified q f) sign = now i (Quantified q f) sign ∷ []
 items_within i (Not f) sign = now i (Not f) sign ∷ items_within (i + 1) f (not sign)
 items_within i (Binary operator.And f g) sign =
     now i (Binary operator.And f g) sign ∷ (items_within (i + 1) f sign ++ items_within (i + 1 + occurrences f) g sign)
@@ -61,6 +58,7 @@ items_within i (Binary operator.Iff f g) sign =
 items_within i (Temporal t f) sign = now i (Temporal t f) sign ∷ items_within (i + 1) f sign
 items_within i (Paired p f g) sign =
     now i (Paired p f g) sign ∷ (items_within (i + 1) f sign ++ items_within (i + 1 + occurrences f) g sign)
+items_within i f sign = now i f sign ∷ []
 
 abbrev pub eventualities : Item → List ℕ
 eventualities x = ascending (map key (filter is_least (items_within x.number x.formula x.positive)))

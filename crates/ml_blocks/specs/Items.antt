@@ -70,9 +70,8 @@ until_released x f g = Either (g ∷ f ∷ []) (g ∷ put_off x ∷ [])
 
 -- the row of an item x of U, R or W with its operands, of the sign of x
 abbrev pub row_of_pairing : Pairing → Item → (f g : Item) → Row
-row_of_pairing Until x f g = if x.positive then unless_put_off x f g else until_released x f g
-row_of_pairing Weak x f g = if x.positive then unless_put_off x f g else until_released x f g
 row_of_pairing Release x f g = if x.positive then until_released x f g else unless_put_off x f g
+row_of_pairing _ x f g = if x.positive then unless_put_off x f g else until_released x f g
 
 -- the number of the only operand, or of the left one; the right one comes behind it
 abbrev pub left_number : ℕ → Formula → ℕ
@@ -80,9 +79,6 @@ left_number i (Binary operator.Iff f g) = i + 3
 left_number i _ = i + 1
 
 abbrev pub row_at : Item → Formula → Row
-row_at x (Const b) = OfState
-row_at x (Prop p) = OfState
-row_at x (Quantified q f) = OfState
 row_at x (Not f) = Becomes (now (x.number + 1) f (not x.positive) ∷ [])
 row_at x (Binary op f g) =
     let l = left_number x.number (Binary op f g) in
@@ -90,6 +86,7 @@ row_at x (Binary op f g) =
 row_at x (Temporal t f) = row_of_tense t x (now (x.number + 1) f x.positive)
 row_at x (Paired p f g) =
     let l = x.number + 1 in row_of_pairing p x (now l f x.positive) (now (l + occurrences f) g x.positive)
+row_at x _ = OfState
 
 abbrev pub row : Item → Row
 row x = row_at x x.formula

@@ -128,8 +128,7 @@ form_of_formula i (Binary op f g) sign =
     form_of_connective op sign (Holding l f) (Holding (l + occurrences f) g) (Both (i + 1) f g) (Neither (i + 2) f g)
 form_of_formula i (Quantified q f) sign = form_of_quantifier q i f sign
 -- no formula of a state
-form_of_formula i (Temporal t f) sign = Constant false
-form_of_formula i (Paired p f g) sign = Constant false
+form_of_formula i _ sign = Constant false
 
 -- ---- all nodes
 

@@ -15,7 +15,7 @@ use Rattle.ml_lists.proofs.Member.{member-map}
 use Rattle.ml_trace.specs.declared.letters.Transition.{Transition}
 use Rattle.ml_trace.specs.Marks.{priority}
 use Rattle.ml_trace.specs.Stack.{Item}
-use Rattle.ml_history.specs.History.{start}
+use Rattle.ml_history.specs.HistoryStep.{start}
 use Rattle.ml_history.specs.HistoryOrder.{history_eq}
 use Rattle.ml_history.specs.HistoryStep.{stepped}
 use Rattle.ml_history.proofs.definition.LetterSets.{letters_are_sets}

@@ -15,7 +15,7 @@ use Rattle.std.proofs.lemmas.List.Elements.{filter-append}
 use Rattle.ml_lists.specs.Member.{IsMember}
 use Rattle.ml_lists.proofs.Member.{All-member, member-All, place-member, member-map}
 use Rattle.ml_lists.proofs.Permuted.{same_members}
-use Rattle.ml_trace.specs.Automaton.{HasSmallEnds}
+use Rattle.ml_trace.specs.AutomatonNumbers.{HasSmallEnds}
 use Rattle.ml_trace.specs.declared.letters.Transition.{Transition}
 use Rattle.ml_hoa.specs.Automaton.{Guard, Const, Ap, Not, And, Or, Automaton, IsAutomaton, IsEdge, PropsBelow, most_props}
 use Rattle.ml_hoa.specs.declared.buchi.BuchiEdge.{BuchiEdge}

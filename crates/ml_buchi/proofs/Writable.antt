@@ -12,7 +12,7 @@ use Rattle.ml_trace.specs.declared.letters.Transition.{Transition}
 use Rattle.ml_trace.specs.Marks.{priority}
 use Rattle.ml_trace.specs.Stack.{Item}
 use Rattle.ml_trace.proofs.Priorities.{priority-most}
-use Rattle.ml_history.specs.History.{start}
+use Rattle.ml_history.specs.HistoryStep.{start}
 use Rattle.ml_history.specs.HistoryOrder.{history_eq, history_eq-decides}
 use Rattle.ml_history.specs.HistoryStep.{stepped, step_mark}
 use Rattle.ml_hoa.specs.Automaton.{Automaton, IsAutomaton, most_props}

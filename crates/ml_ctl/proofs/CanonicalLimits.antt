@@ -14,7 +14,8 @@ use Rattle.ml_text.proofs.Scans.{Spelt}
 use Rattle.ml_text.proofs.AcceptedTexts.{weight_some}
 use Rattle.ml_ctl.specs.Canonical.{tense_letter, pairing_letter, quantifier_letter}
 use Rattle.ml_ctl.specs.Formula as plain
-use Rattle.ml_ctl.specs.Formula.{Formula, names, occurrences}
+use Rattle.ml_ctl.specs.Formula.{Formula, occurrences}
+use Rattle.ml_ctl.specs.FormulaNames.{names}
 use Rattle.ml_ctl.specs.declared.term.Tense.{Tense}
 use Rattle.ml_ctl.specs.declared.term.Tense.TheVariants as tense
 use Rattle.ml_ctl.specs.declared.term.Pairing.{Pairing}

@@ -24,7 +24,9 @@ use Rattle.ml_text.proofs.Pieces.{lone, lone_piece, not_piece, operator_piece, b
 use Rattle.ml_text.proofs.Scans.{Spelt, spelt_at, Scans, ends, blank, scans_tokens}
 use Rattle.ml_text.proofs.TableItems.{signs_spelt}
 use Rattle.ml_ctl.specs.Formula as plain
-use Rattle.ml_ctl.specs.Formula.{Formula, is_of, names}
+use Rattle.ml_ctl.specs.Formula.{Formula}
+use Rattle.ml_ctl.specs.FormulaNames.{names}
+use Rattle.ml_ctl.specs.Sorts.{is_of}
 use Rattle.ml_ctl.specs.declared.term.Tense.{Tense}
 use Rattle.ml_ctl.specs.declared.term.Tense.TheVariants as tense
 use Rattle.ml_ctl.specs.declared.term.Pairing.{Pairing}
@@ -44,7 +46,8 @@ use Rattle.ml_ctl.specs.Grammar.{sort_of, Reads, iff_alone, iff, imp_alone, imp,
 use Rattle.ml_ctl.specs.declared.language.Sort.{Sort}
 use Rattle.ml_ctl.specs.declared.language.Sort.TheVariants.{State, Path}
 use Rattle.ml_ctl.specs.Grammar.{pair_alone, pair, negation, temporal, quantified, group, constant, proposition}
-use Rattle.ml_ctl.specs.Text.{ctl_signs, items, IsTextOf}
+use Rattle.ml_ctl.specs.Text.{ctl_signs, items}
+use Rattle.ml_ctl.specs.TextLaws.{IsTextOf}
 use Rattle.ml_ctl.proofs.GrammarTables.{un_raised}
 use Rattle.ml_ctl.proofs.Sorts.{fits, is_of_fits}
 

@@ -10,13 +10,15 @@ use Rattle.ml_text.specs.declared.token.Placed.{Placed}
 use Rattle.ml_text.specs.Refusals.{Item, signs_of, counted}
 use Rattle.ml_text.specs.Items as text_items
 use Rattle.ml_ctl.specs.Formula as plain
-use Rattle.ml_ctl.specs.Formula.{Formula, names, occurrences}
+use Rattle.ml_ctl.specs.Formula.{Formula, occurrences}
+use Rattle.ml_ctl.specs.FormulaNames.{names}
 use Rattle.ml_ctl.specs.declared.language.Language.{Language}
 use Rattle.ml_ctl.specs.Signs.{Sign}
 use Rattle.ml_ctl.specs.Grammar as grammar
 use Rattle.ml_ctl.specs.Grammar.{Reads, iff_alone, iff, imp_alone, imp, or_alone, or, and_alone, and, pair_alone, pair, negation, temporal, quantified, group, constant, proposition}
 use Rattle.ml_ctl.specs.declared.language.Sort.{Sort}
-use Rattle.ml_ctl.specs.Text.{weight_of, ctl_signs, items_from}
+use Rattle.ml_ctl.specs.Text.{weight_of, ctl_signs}
+use Rattle.ml_ctl.specs.TextLaws.{items_from}
 
 abbrev pub count_signs : List Sign → ℕ
 count_signs [] = 0

@@ -14,7 +14,7 @@
 --   until_maps, release_maps       == U and R of weaker properties
 use Rattle.std.proofs.Common.{ℕ, zero, suc, ◌<◌, ◌≤◌, ◌⊎◌, ◌↔◌, inl, inr, arith, sym, subst, ⊎_elim}
 use Rattle.std.proofs.lemmas.Bool.{cases_lt}
-use Rattle.ml_lists.specs.Search.{Found}
+use Rattle.ml_lists.specs.Found.{Found}
 use Rattle.ml_lists.specs.Walk.{walk}
 use Rattle.ml_lists.proofs.Search.{search}
 use Rattle.ml_ctl.specs.Meaning.{Nowhere, Everywhere, iterate_of, until_step, release_step}

@@ -8,7 +8,8 @@ use Rattle.ml_text.proofs.OneAnswer as answer
 use Rattle.ml_ctl.specs.declared.language.Language.{Language}
 use Rattle.ml_ctl.specs.Grammar.{IsReadAs}
 use Rattle.ml_ctl.specs.Parsing.{IsParsedAs, IsRefusedBy}
-use Rattle.ml_ctl.specs.Text.{IsTextOf, items}
+use Rattle.ml_ctl.specs.Text.{items}
+use Rattle.ml_ctl.specs.TextLaws.{IsTextOf}
 use Rattle.ml_ctl.proofs.Parsed.{ctl_outcome, found_parsed, comes_first}
 use Rattle.ml_ctl.proofs.CtlGrammar.{one_formula}
 

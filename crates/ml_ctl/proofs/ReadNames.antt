@@ -14,7 +14,8 @@ use Rattle.ml_text.proofs.Cover.{are_tokens}
 use Rattle.ml_text.proofs.NamedSigns.{short_name, spelled_sign}
 use Rattle.ml_text.proofs.Names.{Bears, IsSpelledName, all_both, bears_short, bears_spelled, spelled_all}
 use Rattle.ml_text.proofs.TableItems.{signs_all, signs_short}
-use Rattle.ml_ctl.specs.Formula.{Formula, names}
+use Rattle.ml_ctl.specs.Formula.{Formula}
+use Rattle.ml_ctl.specs.FormulaNames.{names}
 use Rattle.ml_ctl.specs.declared.language.Language.{Language}
 use Rattle.ml_ctl.specs.declared.language.Sort.{Sort}
 use Rattle.ml_ctl.specs.Grammar as grammar

@@ -6,7 +6,8 @@
 use Rattle.std.proofs.Common.{◌≡◌, Bool, true, false, ◌&&◌, List, refl, sym, ◌∙◌}
 use Rattle.std.proofs.lemmas.Bool.{and_from, and_parts, false≢true}
 use Rattle.ml_ctl.specs.Formula as plain
-use Rattle.ml_ctl.specs.Formula.{Formula, is_state, is_linear, is_of}
+use Rattle.ml_ctl.specs.Formula.{Formula}
+use Rattle.ml_ctl.specs.Sorts.{is_state, is_linear, is_of}
 use Rattle.ml_ctl.specs.declared.language.Language.{Language}
 use Rattle.ml_ctl.specs.declared.language.Language.TheVariants.{Ctl, Ltl}
 use Rattle.ml_ctl.specs.Grammar as grammar

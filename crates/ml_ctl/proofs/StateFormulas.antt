@@ -6,7 +6,8 @@ use Rattle.std.proofs.Common.{◌↔◌, inl, inr, ⊎_elim}
 use Rattle.std.proofs.lemmas.Bool.{false≢true, and_parts}
 use Rattle.ml_text.specs.declared.token.Operator.{Operator}
 use Rattle.ml_text.specs.declared.token.Operator.TheVariants as operator
-use Rattle.ml_ctl.specs.Formula.{Const, Prop, Not, Binary, Temporal, Paired, Quantified, is_state}
+use Rattle.ml_ctl.specs.Formula.{Const, Prop, Not, Binary, Temporal, Paired, Quantified}
+use Rattle.ml_ctl.specs.Sorts.{is_state}
 use Rattle.ml_ctl.specs.Laws.{LooksAtTheState}
 use Rattle.ml_ctl.specs.Meaning.{truth_of}
 

@@ -16,7 +16,8 @@ use Rattle.std.specs.Prelude.{ℕ, ◌≡◌, ◌<◌, ◌⊎◌, ◌↔◌, tru
 use Rattle.ml_text.specs.declared.token.Operator.TheVariants as operator
 use Rattle.ml_lists.specs.Lasso.{Lasso, entry, next_place}
 use Rattle.ml_base.specs.Structure.{Structure}
-use Rattle.ml_ctl.specs.Formula.{Formula, Not, Binary, Temporal, Paired, Quantified, is_state}
+use Rattle.ml_ctl.specs.Formula.{Formula, Not, Binary, Temporal, Paired, Quantified}
+use Rattle.ml_ctl.specs.Sorts.{is_state}
 use Rattle.ml_ctl.specs.declared.term.Tense.TheVariants.{Next, Finally, Globally}
 use Rattle.ml_ctl.specs.declared.term.Pairing.TheVariants.{Until, Release, Weak}
 use Rattle.ml_ctl.specs.declared.term.Quantifier.TheVariants.{Exists, Forall}

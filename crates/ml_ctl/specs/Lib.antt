@@ -1,5 +1,7 @@
 -- formulas
 pub mod Formula
+-- the names that stand in a formula
+pub mod FormulaNames
 -- paths of a structure
 pub mod Paths
 -- what formulas mean
@@ -10,10 +12,14 @@ pub mod Problem
 pub mod Eventualities
 -- what is true of meanings
 pub mod Laws
+-- state formulas, and formulas of LTL
+pub mod Sorts
 -- the plain formula of a term
 pub mod Term
 -- which words are propositions
 pub mod Spelling
+-- texts by their items
+pub mod TextLaws
 -- the formulas that the program holds
 pub mod WellFormed
 -- the signs of texts

@@ -95,6 +95,5 @@ HoldsAt m (plain.Const b) s = b ≡ true
 HoldsAt m (plain.Prop p) s = lists m s p ≡ true
 HoldsAt m (plain.Not f) s = HoldsAt m f s → ⊥
 HoldsAt m (plain.Binary op f g) s = truth_of op (HoldsAt m f s) (HoldsAt m g s)
-HoldsAt m (plain.Temporal t f) s = ⊥
-HoldsAt m (plain.Paired p f g) s = ⊥
 HoldsAt m (plain.Quantified q f) s = quantified q m s (λ path. Satisfies m path f)
+HoldsAt m _ s = ⊥

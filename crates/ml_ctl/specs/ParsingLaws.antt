@@ -5,10 +5,11 @@
 --   CanonicalIsParsed     == the canonical text of a well-formed formula is parsed as it
 use Rattle.std.specs.Prelude.{ℕ, ◌≡◌, List, IsTrue}
 use Rattle.ml_ctl.specs.Canonical.{canonical_text}
-use Rattle.ml_ctl.specs.Formula.{Formula, is_of}
+use Rattle.ml_ctl.specs.Formula.{Formula}
+use Rattle.ml_ctl.specs.Sorts.{is_of}
 use Rattle.ml_ctl.specs.Parsing.{IsParsedAs}
 use Rattle.ml_ctl.specs.Spelling.{is_spelled}
-use Rattle.ml_ctl.specs.Text.{IsTextOf}
+use Rattle.ml_ctl.specs.TextLaws.{IsTextOf}
 use Rattle.ml_ctl.specs.WellFormed.{IsWellFormed}
 use Rattle.ml_ctl.specs.declared.language.Language.{Language}
 

@@ -11,7 +11,8 @@ use Rattle.std.specs.Prelude.{ℕ, Bool, List}
 use Rattle.ml_text.specs.Names.{AreShort, are_spelled}
 use Rattle.ml_text.specs.Signs as signs
 use Rattle.ml_ctl.specs.Signs.{own}
-use Rattle.ml_ctl.specs.Formula.{Formula, names}
+use Rattle.ml_ctl.specs.Formula.{Formula}
+use Rattle.ml_ctl.specs.FormulaNames.{names}
 
 abbrev pub is_reserved : List ℕ → Bool
 is_reserved name = signs.is_reserved own name

@@ -4,20 +4,16 @@
 --   sign_at text p     == the sign that a token of the text is
 --   ctl_signs          == the signs of texts; nothing is to be known of those before
 --   items text         == the items of a text
---   IsTextOf w text f  == the text is one of f by the grammar, in the logic w
 use Rattle.std.specs.Prelude.{ℕ, false, List}
 use Rattle.ml_text.specs.declared.token.WordStart.TheVariants.{LowerCase}
 use Rattle.ml_text.specs.declared.token.Placed.{Placed}
 use Rattle.ml_text.specs.Items as text_items
 use Rattle.ml_text.specs.Items.{SignTable, bytes_of}
-use Rattle.ml_text.specs.Refusals.{Item, signs_of}
+use Rattle.ml_text.specs.Refusals.{Item}
 use Rattle.ml_text.specs.Signs.{bracket_of}
 use Rattle.ml_text.specs.Operators.{weight}
-use Rattle.ml_ctl.specs.Formula.{Formula}
-use Rattle.ml_ctl.specs.declared.language.Language.{Language}
 use Rattle.ml_text.specs.declared.named_signs.Sign.TheVariants.{Connective, Open, Close, Unknown}
 use Rattle.ml_ctl.specs.Signs.{Sign, own, sign_of}
-use Rattle.ml_ctl.specs.Grammar.{IsReadAs}
 
 abbrev pub weight_of : Sign → ℕ
 weight_of (Connective o) = weight o
@@ -40,11 +36,5 @@ ctl_signs = record {
   is_noted = λ c s. false;
 }
 
-abbrev pub items_from : List ℕ → List Placed → List (Item Sign)
-items_from text ps = text_items.items_from ctl_signs text tt ps
-
 abbrev pub items : List ℕ → List (Item Sign)
 items text = text_items.items ctl_signs text
-
-abbrev pub IsTextOf : Language → List ℕ → Formula → Type 0
-IsTextOf w text f = IsReadAs w (signs_of (items text)) f

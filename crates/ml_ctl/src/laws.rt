@@ -5,7 +5,7 @@ ghost use Rattle.ml_ctl.specs.Laws.{AllAreNotSome, FollowsThePath, LooksAtTheSta
 ghost use Rattle.ml_ctl.specs.Laws.{NegationsOfFinally, NegationsOfGlobally, NegationsOfNext, NegationsOfRelease, NegationsOfUntil, NegationsOfWeak};
 ghost use Rattle.ml_ctl.specs.Parsing.{IsParsedAs, IsRefusedBy};
 ghost use Rattle.ml_ctl.specs.ParsingLaws.{CanonicalIsParsed, CanonicalStandsForOne, ParsedAreWellFormed};
-ghost use Rattle.ml_ctl.specs.Text.{IsTextOf};
+ghost use Rattle.ml_ctl.specs.TextLaws.{IsTextOf};
 
 /// A text stands for one formula at most, by the grammar alone.
 #[tactic(auto, using(crate::proofs::OneAnswer::one_text_formula))]

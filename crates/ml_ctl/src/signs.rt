@@ -1,6 +1,6 @@
 // The signs of CTL* and LTL texts: what they add to those that all logics have.
 ghost use Rattle.std.specs.Prelude.{◌≡◌, ℕ, ◌≤◌, List};
-ghost use Rattle.ml_text.specs.Signs.{named};
+ghost use Rattle.ml_text.specs.SignKinds.{named};
 ghost use Rattle.ml_ctl.specs.Text.{weight_of};
 
 use crate::{Pairing, Quantifier, Tense};

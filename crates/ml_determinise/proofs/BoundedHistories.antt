@@ -8,7 +8,7 @@ use Rattle.ml_lists.proofs.FirstEntries.{apart_places}
 use Rattle.ml_lists.proofs.Member.{place-member}
 use Rattle.ml_lists.proofs.Pigeons.{pigeons}
 use Rattle.ml_trace.specs.Stack.{Item}
-use Rattle.ml_history.specs.History.{start}
+use Rattle.ml_history.specs.HistoryStep.{start}
 use Rattle.ml_determinise.specs.Numbering.{HistoriesAreBounded, most_histories}
 use Rattle.ml_determinise.proofs.FiniteHistories.{Small, code, code_low, same_code}
 use Rattle.ml_determinise.proofs.ReachedHistories.{reached_small}

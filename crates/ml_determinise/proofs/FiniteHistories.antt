@@ -18,14 +18,16 @@ use Rattle.ml_lists.proofs.Pigeons.{pigeons}
 use Rattle.ml_trace.specs.declared.letters.Transition.{Transition}
 use Rattle.ml_trace.specs.declared.marks.Mark.{Mark}
 use Rattle.ml_trace.specs.declared.marks.Mark.TheVariants.{Red, Green, Neutral}
-use Rattle.ml_trace.specs.Marks.{FitsBelow}
+use Rattle.ml_trace.specs.MarkOrder.{FitsBelow}
 use Rattle.ml_trace.specs.NamesCondition.{NamesCondition}
 use Rattle.ml_trace.specs.Run.{in_letter}
 use Rattle.ml_trace.specs.Stack.{Item}
 use Rattle.ml_trace.proofs.Stacks.{member-has}
 use Rattle.ml_history.specs.CycleLaws.{entry}
-use Rattle.ml_history.specs.History.{IsHistory, start}
-use Rattle.ml_history.specs.HistoryStep.{after, live, marks_along, stepped, step_mark}
+use Rattle.ml_history.specs.History.{IsHistory}
+use Rattle.ml_history.specs.HistoryStep.{start}
+use Rattle.ml_history.specs.HistoryStep.{live, stepped, step_mark}
+use Rattle.ml_history.specs.HistoryRuns.{after, marks_along}
 use Rattle.ml_history.proofs.definition.NamesInUse.{live-has}
 use Rattle.ml_history.proofs.definition.StepKeeps.{start-is, step_is_history}
 use Rattle.ml_history.proofs.definition.StepNames.{step_names}

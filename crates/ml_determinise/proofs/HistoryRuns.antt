@@ -13,8 +13,9 @@ use Rattle.ml_trace.specs.Run.{Run}
 use Rattle.ml_trace.specs.Stack.{Item}
 use Rattle.ml_trace.specs.WordAutomata.{state_behind, priorities}
 use Rattle.ml_history.specs.CycleLaws.{HasState, IsLedTo}
-use Rattle.ml_history.specs.History.{start}
-use Rattle.ml_history.specs.HistoryStep.{after, marks_along, stepped, step_mark}
+use Rattle.ml_history.specs.HistoryStep.{start}
+use Rattle.ml_history.specs.HistoryStep.{stepped, step_mark}
+use Rattle.ml_history.specs.HistoryRuns.{after, marks_along}
 use Rattle.ml_history.proofs.definition.SteppedStates.{steps_follow_letters}
 use Rattle.ml_determinise.specs.Histories.{histories_of, leads_in, letter_at, neutral}
 

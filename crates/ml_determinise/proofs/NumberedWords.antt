@@ -16,7 +16,7 @@ use Rattle.ml_lists.proofs.Member.{member-flat_map, member-map, member_of_get, p
 use Rattle.ml_trace.specs.declared.letters.Transition.{Transition}
 use Rattle.ml_trace.specs.Stack.{Item}
 use Rattle.ml_trace.specs.WordAutomata.{WordLasso, IsDetAcceptedFrom}
-use Rattle.ml_history.specs.History.{start}
+use Rattle.ml_history.specs.HistoryStep.{start}
 use Rattle.ml_history.specs.HistoryOrder.{history_eq, history_eq-decides}
 use Rattle.ml_history.specs.HistoryStep.{stepped}
 use Rattle.ml_determinise.specs.Histories.{histories_of, letter_at}

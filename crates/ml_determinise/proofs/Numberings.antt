@@ -11,7 +11,7 @@ use Rattle.ml_lists.proofs.BreadthFirstSearch.{Ended, TooMany, search}
 use Rattle.ml_lists.proofs.FirstEntries.{apart_places, none_more}
 use Rattle.ml_trace.specs.declared.letters.Transition.{Transition}
 use Rattle.ml_trace.specs.Stack.{Item}
-use Rattle.ml_history.specs.History.{start}
+use Rattle.ml_history.specs.HistoryStep.{start}
 use Rattle.ml_history.specs.HistoryOrder.{history_eq, history_eq-decides}
 use Rattle.ml_determinise.specs.Numbering.{IsReached, at_start, along, HasMoreThan, IsNumbering, IsNumberingWithin, NeverBoth, SomeNumbering, successors}
 use Rattle.ml_determinise.proofs.NumberedWords.{listed, inside}

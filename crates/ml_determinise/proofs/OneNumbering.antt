@@ -19,7 +19,7 @@ use Rattle.ml_lists.proofs.FirstEntries.{AreApart, firsts, firsts-apart, firsts-
 use Rattle.ml_lists.proofs.Member.{member-append_left, member-append_right, member-flat_map, member-map}
 use Rattle.ml_trace.specs.declared.letters.Transition.{Transition}
 use Rattle.ml_trace.specs.Stack.{Item}
-use Rattle.ml_history.specs.History.{start}
+use Rattle.ml_history.specs.HistoryStep.{start}
 use Rattle.ml_history.specs.HistoryOrder.{history_eq, history_eq-decides}
 use Rattle.ml_history.specs.HistoryStep.{stepped}
 use Rattle.ml_determinise.specs.Numbering.{IsReached, at_start, along, OneNumbering, successors}

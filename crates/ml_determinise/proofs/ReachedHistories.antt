@@ -8,7 +8,7 @@ use Rattle.std.proofs.Common.{ℕ, ◌<◌, List, [], ◌∷◌, refl, sym, subs
 use Rattle.ml_lists.specs.Member.{IsMember}
 use Rattle.ml_lists.proofs.Member.{Image, Place, member-map_from, member-place}
 use Rattle.ml_trace.specs.declared.letters.Transition.{Transition}
-use Rattle.ml_trace.specs.Marks.{FitsBelow}
+use Rattle.ml_trace.specs.MarkOrder.{FitsBelow}
 use Rattle.ml_trace.specs.Stack.{Item}
 use Rattle.ml_history.specs.HistoryStep.{stepped, step_mark}
 use Rattle.ml_determinise.specs.Histories.{StaysBelow, letter_at, neutral}

@@ -10,15 +10,16 @@ use Rattle.ml_lists.specs.Repeated.{repeated}
 use Rattle.ml_lists.proofs.Repeated.{repeated-add, repeated-one}
 use Rattle.ml_trace.specs.declared.letters.Transition.{Transition}
 use Rattle.ml_trace.specs.declared.marks.Mark.{Mark}
-use Rattle.ml_trace.specs.Marks.{FitsBelow, is_odd, lowest_mark, priority}
+use Rattle.ml_trace.specs.Marks.{priority}
+use Rattle.ml_trace.specs.MarkOrder.{FitsBelow, is_odd, lowest_mark}
 use Rattle.ml_trace.specs.Run.{AcceptingRun, Run, in_letter}
 use Rattle.ml_trace.specs.Stack.{Item}
 use Rattle.ml_trace.specs.WordAutomata.{IsAcceptedFrom, IsDetAcceptedFrom, IsLowest, IsWordLasso, WordLasso, priorities, state_behind, stem, turn}
 use Rattle.ml_trace.proofs.Priorities.{priorities_agree}
 use Rattle.ml_trace.proofs.Runs.{accepting-is_run, run-append}
 use Rattle.ml_history.specs.CycleLaws.{AcceptingCycle, HasState, ReturnsTo}
-use Rattle.ml_history.specs.History.{start}
-use Rattle.ml_history.specs.HistoryStep.{after, marks_along}
+use Rattle.ml_history.specs.HistoryStep.{start}
+use Rattle.ml_history.specs.HistoryRuns.{after, marks_along}
 use Rattle.ml_history.proofs.cycle_laws.FirstLaw.{odd_mark_has_run}
 use Rattle.ml_history.proofs.cycle_laws.SecondLaw.{run_has_odd_mark}
 use Rattle.ml_determinise.specs.Histories.{SameWords, StaysBelow, histories_of, leads_in, letter_at, neutral}

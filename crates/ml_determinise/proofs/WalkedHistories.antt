@@ -17,7 +17,7 @@ use Rattle.ml_lists.proofs.FirstEntries.{AreApart, firsts, firsts-apart, firsts-
 use Rattle.ml_lists.proofs.Member.{InList, member-append, member-flat_map, member-flat_map_from, member-map, place-member}
 use Rattle.ml_trace.specs.declared.letters.Transition.{Transition}
 use Rattle.ml_trace.specs.Stack.{Item}
-use Rattle.ml_history.specs.History.{start}
+use Rattle.ml_history.specs.HistoryStep.{start}
 use Rattle.ml_history.specs.HistoryOrder.{history_eq, history_eq-decides}
 use Rattle.ml_history.specs.HistoryStep.{stepped}
 use Rattle.ml_determinise.specs.Numbering.{IsReached, at_start, HasMoreThan, IsNumbered, IsNumberingWithin, moves_from, successors}

@@ -18,7 +18,7 @@ use Rattle.ml_trace.specs.Marks.{priority}
 use Rattle.ml_trace.specs.Run.{in_letter}
 use Rattle.ml_trace.specs.Stack.{Item}
 use Rattle.ml_trace.specs.WordAutomata.{WordLasso, IsWordLasso, IsAcceptedFrom, DetAutomaton, IsDetAcceptedFrom}
-use Rattle.ml_history.specs.History.{start}
+use Rattle.ml_history.specs.HistoryStep.{start}
 use Rattle.ml_history.specs.HistoryStep.{stepped, step_mark}
 
 abbrev pub letter_at : List (List Transition) → ℕ → List Transition

@@ -1,6 +1,6 @@
 // A Büchi automaton made deterministic, its states numbered breadth first.
 ghost use Rattle.std.specs.Prelude.{◌≡◌, ◌<◌, ◌≤◌, ◌^◌, [], ◌∷◌, IfOk, OnOk, IsErrOf, length};
-ghost use Rattle.ml_history.specs.History as history;
+ghost use Rattle.ml_history.specs.HistoryStep as history;
 ghost use Rattle.ml_determinise.specs.Histories.{StaysBelow};
 ghost use Rattle.ml_determinise.specs.Numbering.{IsNumbered, HasMoreThan, rows_of};
 ghost use Rattle.ml_determinise.specs.private.Walk.{IsWalked};

@@ -2,7 +2,8 @@
 ghost use Rattle.std.specs.Prelude.{◌≡◌, ◌<◌, ◌≤◌, ◌^◌, IfOk, OnOk, IsErrOf, length, ◌++◌};
 ghost use Rattle.ml_lists.proofs.FirstEntries.{AreApart, firsts};
 ghost use Rattle.ml_lists.specs.Added.{IsAdded};
-ghost use Rattle.ml_trace.specs.Marks.{priority, FitsBelow};
+ghost use Rattle.ml_trace.specs.Marks.{priority};
+ghost use Rattle.ml_trace.specs.MarkOrder.{FitsBelow};
 ghost use Rattle.ml_history.specs.HistoryOrder.{history_eq};
 ghost use Rattle.ml_history.specs.HistoryStep.{stepped, step_mark};
 ghost use Rattle.ml_determinise.specs.Histories.{neutral};

@@ -25,7 +25,7 @@ use Rattle.ml_driver.specs.Automata.{IsRefusedAutomaton, IsWrittenFor, PassesLim
 use Rattle.ml_driver.proofs.InputLimits.{SomeAnswer, alike_due, answer_due}
 use Rattle.ml_driver.specs.Laws.{OneAutomatonDue, OneAutomatonWritten, WrittenAcceptsTheSame}
 use Rattle.ml_driver.specs.Run.{IsAnswer}
-use Rattle.ml_driver.specs.Statuses.{code_of}
+use Rattle.ml_driver.specs.Codes.{code_of}
 use Rattle.ml_driver.specs.declared.command.Command.TheVariants.{Determinise}
 use Rattle.ml_driver.specs.declared.status.Status.{Status}
 use Rattle.ml_driver.specs.declared.status.Status.TheVariants.{Yes, Undecided, Text}

@@ -26,7 +26,8 @@ use Rattle.ml_driver.specs.declared.command.Command.TheVariants.{Decide, Valid, 
 use Rattle.ml_driver.specs.declared.status.Status.{Status}
 use Rattle.ml_driver.specs.declared.status.Status.TheVariants.{Yes, No, Undecided, Text, ReadFault, WriteFault, NoMemory}
 use Rattle.ml_driver.specs.Bench.{answer_of, status_of}
-use Rattle.ml_driver.specs.Statuses.{code_of, length_refused, longest_input, model_said, refutation_said}
+use Rattle.ml_driver.specs.Statuses.{length_refused, longest_input, model_said, refutation_said}
+use Rattle.ml_driver.specs.Codes.{code_of}
 use Rattle.ml_driver.specs.Run.{asked, input_limit, GaveUpTo, IsAnswer, IsCalm, IsDue, LackedMemory}
 use Rattle.ml_driver.specs.Run.{World, WasGiven, IsWhole, Answered, FailedToWrite, Ended, Wrote}
 

@@ -12,7 +12,8 @@ use Rattle.ml_front.specs.declared.problem.AnyFormula.{AnyFormula}
 use Rattle.ml_front.specs.declared.problem.AnyFormula.TheVariants.{Mu, Pdl, Ltl}
 use Rattle.ml_front.specs.declared.problem.Problem.{Problem}
 use Rattle.ml_front.proofs.Logics.{formula_once, formula_or_refused}
-use Rattle.ml_gen.specs.Families.{formula_text, is_in_range, logic_name}
+use Rattle.ml_gen.specs.Families.{formula_text, logic_name}
+use Rattle.ml_gen.specs.FamilyRanges.{is_in_range}
 use Rattle.ml_gen.specs.Formulas.{and_formula, fair_formula, loop_formula, or_formula, step_formula}
 use Rattle.ml_gen.specs.declared.family.Family.{Family}
 use Rattle.ml_gen.specs.declared.family.Family.TheVariants.{And, Or, Step, Fair, Loop}

@@ -10,7 +10,7 @@ use Rattle.std.proofs.lemmas.Bool.{leb-true}
 use Rattle.clap.specs.Words.{Kinds}
 use Rattle.ml_lines.specs.Lines.{Word}
 use Rattle.ml_front.specs.Logics.{logic_named}
-use Rattle.ml_gen.specs.Families.{family_named, is_in_range}
+use Rattle.ml_gen.specs.FamilyRanges.{family_named, is_in_range}
 use Rattle.ml_gen.specs.declared.family.Family.{Family}
 use Rattle.ml_front.specs.declared.logic.Logic.{Logic}
 use Rattle.ml_driver.specs.declared.command.Command.{Command}

@@ -11,7 +11,7 @@ use Rattle.ml_model_check.specs.declared.checked.Checked.TheVariants.{Holds}
 use Rattle.ml_model_check.proofs.ReadBack.{documents_read_back}
 use Rattle.ml_front.specs.declared.logic.Logic.{Logic}
 use Rattle.ml_driver.specs.Decision.{IsAnswered, Refuted, Satisfied, if_open, if_refused, if_refuted, if_satisfied}
-use Rattle.ml_driver.specs.Statuses.{code_of}
+use Rattle.ml_driver.specs.Codes.{code_of}
 use Rattle.ml_driver.specs.declared.command.Command.TheVariants.{Decide, Valid, Find, Prove}
 use Rattle.ml_driver.specs.declared.status.Status.TheVariants.{Yes, No, Text}
 use Rattle.ml_driver.proofs.InputLimits.{answer_due}

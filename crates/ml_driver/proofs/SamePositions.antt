@@ -6,7 +6,7 @@
 use Rattle.std.proofs.Common.{◌≡◌, ℕ, ◌+◌, ◌*◌, Bool, None, List, [], ◌∷◌, filter, if◌then◌else◌, refl, sym, ◌∙◌, ap, subst}
 use Rattle.ml_lists.specs.Member.{IsMember}
 use Rattle.ml_graph.specs.Graph.{Graph, size, node_at, odd_priorities}
-use Rattle.ml_history.specs.History.{start}
+use Rattle.ml_history.specs.HistoryStep.{start}
 use Rattle.ml_history.specs.HistoryStep.{step_mark}
 use Rattle.ml_trace.specs.Marks.{priority}
 use Rattle.ml_product.specs.Position.{Position, Follows, neutral, start_of, with_chosen}

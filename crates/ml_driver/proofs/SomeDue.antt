@@ -12,7 +12,8 @@ use Rattle.ml_refute_check.specs.Documents as refuted
 use Rattle.ml_refute_check.specs.Documents.{IsVerdict, document_of}
 use Rattle.ml_refute_check.proofs.Accepted.{accepted_is_true}
 use Rattle.ml_refute_check.proofs.SomeVerdict.{some_verdict}
-use Rattle.ml_gen.specs.Families.{formula_text, is_in_range}
+use Rattle.ml_gen.specs.Families.{formula_text}
+use Rattle.ml_gen.specs.FamilyRanges.{is_in_range}
 use Rattle.ml_gen.specs.declared.family.Family.{Family}
 use Rattle.ml_driver.specs.declared.command.Command.{Command}
 use Rattle.ml_driver.specs.declared.command.TheConstants.{GREATEST_LIMIT}

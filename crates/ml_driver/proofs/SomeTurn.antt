@@ -6,7 +6,7 @@
 use Rattle.std.proofs.Common.{◌≡◌, ℕ, ◌%◌, ◌==◌, ◌<◌, ◌⊎◌, List, [], ◌∷◌, filter, map, inl, inr, refl, sym, subst, arith}
 use Rattle.std.specs.List.{flat_map}
 use Rattle.ml_lists.specs.Member.{IsMember}
-use Rattle.ml_lists.specs.Search.{First}
+use Rattle.ml_lists.specs.Found.{First}
 use Rattle.ml_lists.proofs.Ascending.{ascending-is}
 use Rattle.ml_lists.proofs.Decided.{Decided, decided_same, decided_either}
 use Rattle.ml_lists.proofs.Member.{member-All, member-map, member-flat_map, member-filter_from, place-member}

@@ -1,3 +1,5 @@
+-- the numbers of the exit statuses
+pub mod Codes
 -- the words of the command line
 pub mod Words
 -- documents

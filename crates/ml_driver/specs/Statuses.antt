@@ -2,7 +2,6 @@
 --
 -- Where an answer is no document, it is one line, which comes with its status.
 --
---   code_of status   == the number of the status
 --   longest_input c  == the limit on the length of the input of a command, if it takes one
 --   Said             == a status, with the words of the line that comes with it
 --   IsSaid x s out   == the status s and the output out say x
@@ -37,23 +36,9 @@ use Rattle.ml_driver.specs.declared.command.Command.{Command}
 use Rattle.ml_driver.specs.declared.command.Command.TheVariants.{Decide, Valid, Find, Prove, CheckModel, CheckRefutation, Migrate, Quotient, SolveGame, Determinise, Realize, Gen, Bench}
 use Rattle.ml_driver.specs.declared.command.TheConstants.{LONGEST_TEXT, LONGEST_DOCUMENT}
 use Rattle.ml_driver.specs.declared.status.Status.{Status}
-use Rattle.ml_driver.specs.declared.status.Status.TheVariants.{Yes, No, Undecided, Words, Text, ReadFault, WriteFault, NoMemory}
-
-abbrev pub code_of : Status → ℕ
-code_of Yes = 0
-code_of No = 1
-code_of Undecided = 2
-code_of Words = 3
-code_of Text = 4
-code_of ReadFault = 5
-code_of WriteFault = 6
-code_of NoMemory = 7
+use Rattle.ml_driver.specs.declared.status.Status.TheVariants.{Yes, No, Undecided, Words, Text, NoMemory}
 
 abbrev pub longest_input : Command → Option ℕ
-longest_input (Decide l n) = Some LONGEST_TEXT
-longest_input (Valid l n) = Some LONGEST_TEXT
-longest_input (Find l n) = Some LONGEST_TEXT
-longest_input (Prove l n) = Some LONGEST_TEXT
 longest_input CheckModel = Some LONGEST_DOCUMENT
 longest_input CheckRefutation = Some LONGEST_DOCUMENT
 longest_input Migrate = Some LONGEST_DOCUMENT
@@ -63,6 +48,7 @@ longest_input (Determinise n) = Some LONGEST_AUTOMATON_TEXT
 longest_input (Realize n) = Some LONGEST_TASK_TEXT
 longest_input (Gen f n) = None
 longest_input (Bench f n) = None
+longest_input _ = Some LONGEST_TEXT
 
 -- ---- what is said
 

@@ -29,7 +29,7 @@ use Rattle.clap.specs.Words.{App, Kinds, Row, first_of, fault_of, matches_of, ne
 use Rattle.ml_lines.specs.Lines.{Word}
 use Rattle.ml_front.specs.Logics.{logic_named}
 use Rattle.ml_front.specs.declared.logic.Logic.{Logic}
-use Rattle.ml_gen.specs.Families.{family_named, is_in_range}
+use Rattle.ml_gen.specs.FamilyRanges.{family_named, is_in_range}
 use Rattle.ml_gen.specs.declared.family.Family.{Family}
 use Rattle.ml_driver.specs.declared.command.Command.{Command}
 use Rattle.ml_driver.specs.declared.command.Command.TheVariants.{Decide, Valid, Find, Prove, CheckModel, CheckRefutation, Migrate, Quotient, SolveGame, Determinise, Realize, Gen, Bench}

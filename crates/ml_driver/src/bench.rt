@@ -4,7 +4,8 @@
 // stages as a decision (`stages`); of the last one only counts and the winner are kept (`Finding`), and written as five lines.
 ghost use Rattle.std.specs.Prelude.{◌≡◌, true, [], ◌∷◌, ◌++◌, codes, IfOk, OnOk};
 ghost use Rattle.ml_front.specs.Logics.{IsWellFormed, some_logic};
-ghost use Rattle.ml_gen.specs.Families.{family_word, formula_text, is_in_range, logic_name};
+ghost use Rattle.ml_gen.specs.Families.{family_word, formula_text, logic_name};
+ghost use Rattle.ml_gen.specs.FamilyRanges.{is_in_range};
 ghost use Rattle.ml_lines.specs.Lines.{line_text, number};
 ghost use Rattle.ml_driver.specs.Bench as measures;
 ghost use Rattle.ml_driver.specs.Bench.{IsFinding, IsMeant, bench_text, occurrences_of};

@@ -6,7 +6,7 @@
 ghost use Rattle.std.specs.Prelude.{◌≡◌, ◌≢◌, ◌≤◌, true, [], map, option_map, IfOk, IfSome, MatchOption};
 ghost use Rattle.std.specs.String.{string_bytes};
 ghost use Rattle.clap.specs.Words.{app_of, found_of, kind_of, rows_of};
-ghost use Rattle.ml_gen.specs.Families.{is_in_range};
+ghost use Rattle.ml_gen.specs.FamilyRanges.{is_in_range};
 ghost use Rattle.ml_driver.specs.declared.command.TheConstants.{GREATEST_LIMIT};
 ghost use Rattle.ml_driver.specs.Words as command_line;
 ghost use Rattle.ml_driver.specs.Words.{cli, faults_of, parts_in, row_of, rows_in};

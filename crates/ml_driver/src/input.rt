@@ -1,6 +1,6 @@
 // The inputs of commands.
 ghost use Rattle.std.specs.Prelude.{◌≡◌, IfOk, IfErr, OnOk};
-ghost use Rattle.ml_base.specs.Whole.{AreFaultsAt};
+ghost use Rattle.ml_base.specs.KnownCounts.{AreFaultsAt};
 ghost use Rattle.ml_driver.specs.Run.{IsWithin, WasGiven};
 ghost use Rattle.ml_driver.specs.Statuses.{longest_input};
 ghost use Rattle.ml_driver.specs.private.Inputs.{IsRefusedInput};

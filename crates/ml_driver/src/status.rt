@@ -23,7 +23,7 @@ pub enum Status {
 }
 
 impl Status {
-    ghost use Rattle.ml_driver.specs.Statuses.{code_of};
+    ghost use Rattle.ml_driver.specs.Codes.{code_of};
 
     /// The number with which the program ends.
     pub fn code(self) -> u8

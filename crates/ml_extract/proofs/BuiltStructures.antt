@@ -18,7 +18,8 @@ use Rattle.ml_base.specs.declared.structure.Edge.{Edge}
 use Rattle.ml_base.specs.Structure.{Structure, IsStructure}
 use Rattle.ml_lists.proofs.Members.{member_of_contains, contains_of_member}
 use Rattle.ml_lists.proofs.Orderings.{both_tied}
-use Rattle.ml_kripke.specs.Ordered.{IsBuiltFrom, IsOrdered, labels_at, first_bad_state}
+use Rattle.ml_kripke.specs.Ordered.{IsOrdered}
+use Rattle.ml_kripke.specs.Built.{IsBuiltFrom, labels_at, first_bad_state}
 use Rattle.ml_kripke.proofs.Build as build
 use Rattle.ml_kripke.proofs.OneStructure.{edge_order}
 use Rattle.ml_kripke.proofs.RowOrder.{label_cmp}

@@ -19,7 +19,8 @@ use Rattle.std.proofs.lemmas.Option.{slice_get_within, slice_get-get_or, get_or_
 use Rattle.std.proofs.lemmas.Slice.Zip.{length-zip, get_or-zip}
 use Rattle.ml_base.specs.declared.structure.Edge.{Edge}
 use Rattle.ml_base.specs.Structure.{Structure, IsStructure}
-use Rattle.ml_kripke.specs.Ordered.{IsOrdered, IsBuiltFrom}
+use Rattle.ml_kripke.specs.Ordered.{IsOrdered}
+use Rattle.ml_kripke.specs.Built.{IsBuiltFrom}
 use Rattle.ml_lists.specs.Member.{IsMember}
 use Rattle.ml_lists.proofs.BreadthFirst.{AreOnce, each_once-is, row_inside}
 use Rattle.ml_lists.proofs.Member.{Image, member-append, member-append_left, member-append_right, member-map, member-map_from, member-flat_map, InList, member-flat_map_from, Place, member-place}

@@ -41,12 +41,14 @@ use Rattle.ml_parity.proofs.FollowedWalks.{walks_joined, closed_walk_good, odd_i
 use Rattle.ml_parity.proofs.Winners.{won_by_either}
 use Rattle.ml_trace.specs.declared.letters.Transition.{Transition}
 use Rattle.ml_trace.specs.declared.marks.Mark.{Mark}
-use Rattle.ml_trace.specs.Marks.{priority, FitsBelow}
+use Rattle.ml_trace.specs.Marks.{priority}
+use Rattle.ml_trace.specs.MarkOrder.{FitsBelow}
 use Rattle.ml_trace.specs.Run.{Run, AcceptingRun, in_letter}
 use Rattle.ml_trace.specs.Stack.{Item}
 use Rattle.ml_trace.proofs.Priorities.{priorities_agree}
 use Rattle.ml_history.specs.CycleLaws.{ReturnsTo, AcceptingCycle, HasState}
-use Rattle.ml_history.specs.HistoryStep.{stepped, step_mark, after, marks_along}
+use Rattle.ml_history.specs.HistoryStep.{stepped, step_mark}
+use Rattle.ml_history.specs.HistoryRuns.{after, marks_along}
 use Rattle.ml_history.proofs.cycle_laws.SecondLaw.{run_has_odd_mark}
 use Rattle.ml_product.specs.Position.{Position, start_of, neutral}
 use Rattle.ml_product.specs.Arena.{game_of}

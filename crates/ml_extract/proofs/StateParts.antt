@@ -12,7 +12,7 @@ use Rattle.std.specs.List.{zip, flat_map}
 use Rattle.std.proofs.lemmas.List.{get_or_default, length-map, get_or-map}
 use Rattle.std.proofs.lemmas.Option.{slice_get_within, slice_get-get_or}
 use Rattle.ml_base.specs.declared.structure.Edge.{Edge}
-use Rattle.ml_kripke.specs.Ordered.{first_bad_state, named_states, ends}
+use Rattle.ml_kripke.specs.Built.{first_bad_state, named_states, ends}
 use Rattle.ml_lists.specs.Member.{IsMember}
 use Rattle.ml_lists.proofs.Member.{Image, member-All, member-append, member-map_from, member-filter_from, InList, member-flat_map_from}
 use Rattle.ml_graph.specs.Graph.{Graph, size, node_at}

@@ -1,7 +1,8 @@
 // The model of Even's moves, put together.
 ghost use Rattle.std.specs.Prelude.{◌≡◌, ◌<◌, None, IfOk};
 ghost use Rattle.ml_base.specs.Structure.{IsStructure};
-ghost use Rattle.ml_kripke.specs.Ordered.{IsOrdered, IsBuiltFrom, first_bad_state};
+ghost use Rattle.ml_kripke.specs.Ordered.{IsOrdered};
+ghost use Rattle.ml_kripke.specs.Built.{IsBuiltFrom, first_bad_state};
 ghost use Rattle.ml_extract.specs.Model.{IsModelOf};
 ghost use Rattle.ml_extract.specs.Extraction.{EvenWins, Extracted};
 

@@ -15,7 +15,7 @@
 use Rattle.std.proofs.Common.{ℕ, ◌≡◌, ◌≢◌, ◌+◌, ◌<◌, ◌↔◌, ◌⊎◌, Bool, true, false, inl, inr, ⊎_elim, if◌then◌else◌, List, [], ◌∷◌, length, get_or, Contains, arith, subst, sym, ap, ◌∙◌, refl}
 use Rattle.std.proofs.lemmas.Bool.{cases_eq, cases_Bool, false≢true}
 use Rattle.ml_lists.specs.Lasso.{Lasso, entry, round}
-use Rattle.ml_lists.specs.Search.{Found}
+use Rattle.ml_lists.specs.Found.{Found}
 use Rattle.ml_lists.proofs.Search.{search}
 use Rattle.ml_lists.proofs.Lasso.{round-entry, on_loop, loop_length, loop_closed, lasso_of, lasso_of-length, lasso_of-entry, lasso_of-round, lasso_of_is, lowest_on_loop_place, lowest_on_loop_le}
 use Rattle.ml_lists.proofs.Walks.{WalkLasso, walk_lasso}

@@ -5,7 +5,8 @@ use Rattle.std.proofs.Common.{◌≡◌, true, false, [], ◌∷◌, codes, refl
 use Rattle.std.specs.Cmp.{first_so}
 use Rattle.ml_ctl.specs.Canonical.{canonical_text, pairing_letter, quantifier_letter, tense_letter}
 use Rattle.ml_ctl.specs.Formula as plain
-use Rattle.ml_ctl.specs.Formula.{Formula, names}
+use Rattle.ml_ctl.specs.Formula.{Formula}
+use Rattle.ml_ctl.specs.FormulaNames.{names}
 use Rattle.ml_ctl.specs.declared.term.Tense.{Tense}
 use Rattle.ml_ctl.specs.declared.term.Tense.TheVariants.{Next, Finally, Globally}
 use Rattle.ml_ctl.specs.declared.term.Pairing.{Pairing}

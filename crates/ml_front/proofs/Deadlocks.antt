@@ -10,7 +10,8 @@ use Rattle.std.proofs.lemmas.Bool.Decides.{nat_tests}
 use Rattle.ml_base.specs.Structure.{Structure}
 use Rattle.ml_base.specs.declared.structure.Edge.{Edge}
 use Rattle.ml_ctl.specs.Paths.{IsTotal, has_step}
-use Rattle.ml_lists.specs.Search.{First, IsFirst}
+use Rattle.ml_lists.specs.Search.{IsFirst}
+use Rattle.ml_lists.specs.Found.{First}
 use Rattle.ml_lists.proofs.Decided.{Decided}
 use Rattle.ml_lists.proofs.Search.{search_first}
 use Rattle.ml_front.specs.Problems.{IsDeadlock}

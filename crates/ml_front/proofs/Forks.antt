@@ -11,7 +11,8 @@ use Rattle.std.proofs.lemmas.Bool.Decides.{Decides-eqb, nat_tests}
 use Rattle.ml_base.specs.Structure.{Structure, IsStructure}
 use Rattle.ml_base.specs.declared.structure.Edge.{Edge}
 use Rattle.ml_ctl.specs.Paths.{has_step}
-use Rattle.ml_lists.specs.Search.{First, IsFirst}
+use Rattle.ml_lists.specs.Search.{IsFirst}
+use Rattle.ml_lists.specs.Found.{First}
 use Rattle.ml_lists.proofs.Decided.{Decided}
 use Rattle.ml_lists.proofs.Member.{list_any-member, member-list_any}
 use Rattle.ml_lists.proofs.Search.{search_first}

@@ -21,7 +21,8 @@ use Rattle.ml_lines.specs.private.Fronts.{GoesOn}
 use Rattle.ml_lines.proofs.Cuts.{some_part}
 use Rattle.ml_lines.proofs.Faults.{fault_here, fault_missing, fault_behind}
 use Rattle.ml_lines.proofs.WrittenLines.{text_read}
-use Rattle.ml_lists.specs.Documents.{IsGood, nothing_read, line_read}
+use Rattle.ml_lists.specs.Documents.{IsGood}
+use Rattle.ml_lists.specs.Readings.{nothing_read, line_read}
 use Rattle.ml_front.specs.Head.{title_line, answer_line, logic_line, sense_line}
 use Rattle.ml_front.specs.HeadRules.{IsHead, IsHeadFault, IsFormulaOf, HeadPlace, AtTitle, AtAnswer, AtLogic, AtSense, AtFormula, after, head, rule_number}
 use Rattle.ml_front.specs.private.HeadParts.{first_line, Breaks, IsFormulaRead, TellsHead, TellsFormula, formula_refusal}

@@ -9,7 +9,8 @@ use Rattle.ml_text.specs.Operators.{spelling_of}
 use Rattle.ml_text.proofs.Names.{spelled_parts}
 use Rattle.ml_mu.specs.Canonical.{action_text, canonical_text, fixpoint_word, modality_text}
 use Rattle.ml_mu.specs.Formula as plain
-use Rattle.ml_mu.specs.Formula.{Formula, names}
+use Rattle.ml_mu.specs.Formula.{Formula}
+use Rattle.ml_mu.specs.FormulaNames.{names}
 use Rattle.ml_mu.specs.declared.term.Fixpoint.{Fixpoint}
 use Rattle.ml_mu.specs.declared.term.Fixpoint.TheVariants.{Least, Greatest}
 use Rattle.ml_mu.specs.declared.term.Modality.{Modality}

@@ -14,7 +14,7 @@ use Rattle.ml_lines.specs.Reading.{lines_of, word}
 use Rattle.ml_lines.proofs.DecidedWords.{decided_line}
 use Rattle.ml_lines.proofs.Faults as text
 use Rattle.ml_lists.proofs.Ascending.{ascending-one, ascending-cons}
-use Rattle.ml_lists.specs.Documents.{IsReadable, Judges}
+use Rattle.ml_lists.specs.Readings.{IsReadable, Judges}
 use Rattle.ml_lists.proofs.Decided.{Decided, decided_bytes, decided_same}
 use Rattle.ml_lists.proofs.Documents.{judged}
 use Rattle.ml_front.specs.Head.{title_line, answer_line, logic_line, sense_line}

@@ -8,7 +8,8 @@ use Rattle.ml_text.specs.Operators.{spelling_of}
 use Rattle.ml_text.proofs.Names.{spelled_parts}
 use Rattle.ml_pdl.specs.Canonical.{canonical_text, modality_text, program_text, whole_program}
 use Rattle.ml_pdl.specs.Formula as plain
-use Rattle.ml_pdl.specs.Formula.{Formula, Program, Act, Seq, Alt, Star, Test, names, program_names}
+use Rattle.ml_pdl.specs.Formula.{Formula, Program, Act, Seq, Alt, Star, Test}
+use Rattle.ml_pdl.specs.FormulaNames.{names, program_names}
 use Rattle.ml_pdl.specs.declared.term.Modality.{Modality}
 use Rattle.ml_pdl.specs.declared.term.Modality.TheVariants.{Diamond, Square}
 use Rattle.ml_pdl.specs.Signs.{own}

@@ -15,7 +15,8 @@ use Rattle.ml_lines.specs.Reading.{lines_of, left_of, words_of, word, is_blank}
 use Rattle.ml_lines.proofs.Cuts.{some_part}
 use Rattle.ml_lines.proofs.LineFronts.{IsInLine, lines_plain}
 use Rattle.ml_lines.proofs.WrittenLines.{text_read}
-use Rattle.ml_lists.specs.Documents.{IsGood, IsReadable}
+use Rattle.ml_lists.specs.Documents.{IsGood}
+use Rattle.ml_lists.specs.Readings.{IsReadable}
 use Rattle.ml_front.specs.Head.{title_line, answer_line, logic_line, sense_line, lines_about}
 use Rattle.ml_front.specs.HeadRules.{IsHead, AtTitle, AtSense, AtFormula, Behind, formula_bytes, IsFormulaLine, head}
 use Rattle.ml_front.specs.Logics.{some_logic, logic_of, logic_word, IsParsedAs}

@@ -13,7 +13,8 @@ use Rattle.ml_lines.specs.Reading.{is_line_end}
 use Rattle.ml_lines.proofs.LineFronts.{IsInLine}
 use Rattle.ml_text.specs.Bytes.{is_letter, is_digit, is_word_byte}
 use Rattle.ml_text.specs.Operators.{spelling_of}
-use Rattle.ml_text.specs.Signs.{OwnSigns, is_action, is_proposition, is_reserved, is_upper_word}
+use Rattle.ml_text.specs.Signs.{OwnSigns, is_proposition, is_reserved, is_upper_word}
+use Rattle.ml_text.specs.SignKinds.{is_action}
 use Rattle.ml_text.specs.Words.{is_word_from}
 use Rattle.ml_text.specs.declared.token.Operator.{Operator}
 use Rattle.ml_text.specs.declared.token.Operator.TheVariants as operator

@@ -29,11 +29,9 @@ IsGraphOf g p = IsGraphAs g p.negated p.formula
 
 -- the closure of a formula, in its sense
 abbrev pub HasLargeClosureAs : ℕ → Bool → AnyFormula → Type 0
-HasLargeClosureAs n negated (Mu f) = ⊥
-HasLargeClosureAs n negated (Pdl f) = ⊥
 HasLargeClosureAs n negated (Ctl f) = HasMoreThan (Root (start_of f negated)) n
 HasLargeClosureAs n negated (Ltl f) = HasMoreThan (Root (linear_start_of f negated)) n
-HasLargeClosureAs n negated (Word f) = ⊥
+HasLargeClosureAs n negated _ = ⊥
 
 abbrev pub HasLargeClosure : Problem → ℕ → Type 0
 HasLargeClosure p n = HasLargeClosureAs n p.negated p.formula

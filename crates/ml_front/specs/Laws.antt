@@ -13,7 +13,7 @@ use Rattle.ml_base.specs.declared.doc_fault.DocFault.{DocFault}
 use Rattle.ml_base.specs.declared.version.Version.{Version}
 use Rattle.ml_base.specs.Structure.{Structure}
 use Rattle.ml_lines.specs.Lines.{text_of}
-use Rattle.ml_lists.specs.Documents.{NumbersRise}
+use Rattle.ml_lists.specs.Readings.{NumbersRise}
 use Rattle.ml_graph.specs.CheckingGame.{Holds}
 use Rattle.ml_graph.specs.Graph.{Graph}
 use Rattle.ml_front.specs.Graphs.{IsGraphOf}

@@ -42,11 +42,9 @@ abbrev pub IsDeadlock : Structure → ℕ → Type 0
 IsDeadlock m s = (t : ℕ) → has_step m s t ≡ false
 
 abbrev pub IsFirstDeadlock : Logic → Structure → ℕ → Type 0
-IsFirstDeadlock logic.Mu m s = ⊥
-IsFirstDeadlock logic.Pdl m s = ⊥
 IsFirstDeadlock logic.Ctl m s = IsFirst (IsDeadlock m) m.states s
 IsFirstDeadlock logic.Ltl m s = IsFirst (IsDeadlock m) m.states s
-IsFirstDeadlock logic.Word m s = ⊥
+IsFirstDeadlock _ m s = ⊥
 
 abbrev pub IsFirstFork : Logic → Structure → ℕ → Type 0
 IsFirstFork logic.Word m s = IsFirst (word.IsFork m) m.states s

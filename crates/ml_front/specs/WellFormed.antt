@@ -6,7 +6,7 @@
 --   IsMeaningful f  == f means something by its logic: in the mu-calculus its variables are bound and positive; in PDL each
 --                      formula does; in CTL* it is a state formula; in LTL each formula does; on words it has no quantifier
 use Rattle.std.specs.Prelude.{◌≡◌, true, []}
-use Rattle.ml_ctl.specs.Formula.{is_linear, is_state}
+use Rattle.ml_ctl.specs.Sorts.{is_linear, is_state}
 use Rattle.ml_ctl.specs.WellFormed as ctl_formulas
 use Rattle.ml_ctl.specs.declared.language.Language.TheVariants as language
 use Rattle.ml_mu.specs.Variables.{is_bound, is_positive}

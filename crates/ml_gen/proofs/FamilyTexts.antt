@@ -22,7 +22,8 @@ use Rattle.ml_ctl.specs.Formula as ltl
 use Rattle.ml_ctl.specs.declared.language.Language.TheVariants as language
 use Rattle.ml_ctl.proofs.OneAnswer as ctl_answer
 use Rattle.ml_ctl.specs.Parsing as ltl_parsing
-use Rattle.ml_gen.specs.Families.{greatest, is_in_range, part}
+use Rattle.ml_gen.specs.Families.{part}
+use Rattle.ml_gen.specs.FamilyRanges.{greatest, is_in_range}
 use Rattle.ml_gen.specs.Formulas.{act, acts, and_formula, and_part, fair_formula, fair_part, loop_formula, or_formula, or_part, step_formula}
 use Rattle.ml_gen.specs.Parsed.{AreParsed, ParsedAsOne}
 use Rattle.ml_gen.specs.declared.family.Family.{Family}

@@ -19,7 +19,8 @@ use Rattle.ml_text.proofs.TableItems.{IsShort, signs_spelt}
 use Rattle.ml_mu.specs.Canonical.{canonical_text}
 use Rattle.ml_text.specs.Names.{IsShortName}
 use Rattle.ml_text.proofs.Names.{all_both, spelled_both}
-use Rattle.ml_mu.specs.Formula.{Formula, Binary, names, occurrences}
+use Rattle.ml_mu.specs.Formula.{Formula, Binary, occurrences}
+use Rattle.ml_mu.specs.FormulaNames.{names}
 use Rattle.ml_mu.specs.Grammar as grammar
 use Rattle.ml_mu.specs.Grammar.{IsReadAs, Reads, iff_alone, imp_alone, or_alone, and}
 use Rattle.ml_mu.specs.Parsing.{IsParsedAs}

@@ -24,7 +24,8 @@ use Rattle.ml_pdl.specs.Formula.{Formula, Program, Seq, Star, occurrences, progr
 use Rattle.ml_pdl.specs.declared.term.Modality.TheVariants.{Diamond, Square}
 use Rattle.ml_pdl.specs.Grammar as grammar
 use Rattle.ml_pdl.specs.Grammar.{IsReadAs, Reads, ReadsProgram, iff_alone, imp_alone, or_alone, and, and_alone, alt_alone, seq, seq_alone, modal, repetition}
-use Rattle.ml_pdl.specs.Marks.{asks, is_test_behind, mark_of, marked, with_mark}
+use Rattle.ml_pdl.specs.Marks.{asks, is_test_behind, mark_of, with_mark}
+use Rattle.ml_pdl.specs.MarkLaws.{marked}
 use Rattle.ml_pdl.specs.Parsing.{IsParsedAs}
 use Rattle.ml_pdl.specs.Signs.{Sign, own}
 use Rattle.ml_text.specs.declared.named_signs.Sign.TheVariants.{Added}

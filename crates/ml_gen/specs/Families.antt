@@ -4,16 +4,12 @@
 -- are joined; in the other two it is about a program of n actions. Where numbers stand in a text, they are decimal.
 --
 --   family_word f    == the word that names the family f
---   family_named w   == the family that the word w names, if it names one
 --   logic_name f     == the name of the logic that its formulas are of
---   greatest f       == the greatest number of its range
---   is_in_range f n  == n is a number of its range, which begins at 1
 --   part f i         == what its formula has for the number i
 --   parts f sep n    == what it has for 1 to n, with sep between each two
 --   formula_text f n == the text of its formula for n
-use Rattle.std.specs.Prelude.{ℕ, ◌&&◌, Bool, List, ◌++◌, Option, Some, None, if◌then◌else◌, nat_le, codes}
+use Rattle.std.specs.Prelude.{ℕ, List, ◌++◌, codes}
 use Rattle.std.specs.List.{join_by, range_with_len}
-use Rattle.std.specs.Str.{bytes_eq}
 use Rattle.ml_lines.specs.Lines.{Word, number}
 use Rattle.ml_gen.specs.declared.family.Family.{Family}
 use Rattle.ml_gen.specs.declared.family.Family.TheVariants.{And, Or, Step, Fair, Loop}
@@ -25,30 +21,12 @@ family_word Step = codes "step"
 family_word Fair = codes "fair"
 family_word Loop = codes "loop"
 
-abbrev pub family_named : Word → Option Family
-family_named word =
-    if bytes_eq word (family_word And) then Some And
-    else (if bytes_eq word (family_word Or) then Some Or
-    else (if bytes_eq word (family_word Step) then Some Step
-    else (if bytes_eq word (family_word Fair) then Some Fair
-    else (if bytes_eq word (family_word Loop) then Some Loop else None))))
-
 abbrev pub logic_name : Family → Word
 logic_name And = codes "mu"
 logic_name Or = codes "mu"
 logic_name Step = codes "pdl"
 logic_name Fair = codes "ltl"
 logic_name Loop = codes "pdl"
-
-abbrev pub greatest : Family → ℕ
-greatest And = 500
-greatest Or = 16
-greatest Step = 400
-greatest Fair = 3
-greatest Loop = 400
-
-abbrev pub is_in_range : Family → ℕ → Bool
-is_in_range family n = nat_le 1 n && nat_le n (greatest family)
 
 abbrev pub part : Family → ℕ → List ℕ
 part And i = codes "p" ++ number i

@@ -12,7 +12,8 @@ use Rattle.ml_mu.specs.Formula as mu
 use Rattle.ml_mu.specs.Parsing as mu_parsing
 use Rattle.ml_pdl.specs.Formula as pdl
 use Rattle.ml_pdl.specs.Parsing as pdl_parsing
-use Rattle.ml_gen.specs.Families.{formula_text, is_in_range}
+use Rattle.ml_gen.specs.Families.{formula_text}
+use Rattle.ml_gen.specs.FamilyRanges.{is_in_range}
 use Rattle.ml_gen.specs.Formulas.{and_formula, fair_formula, loop_formula, or_formula, step_formula}
 use Rattle.ml_gen.specs.declared.family.Family.{Family}
 use Rattle.ml_gen.specs.declared.family.Family.TheVariants.{And, Or, Step, Fair, Loop}

@@ -1,6 +1,7 @@
 // The families, their words and their ranges.
 ghost use Rattle.std.specs.Prelude.{◌≡◌, ◌≢◌, MatchOption};
-ghost use Rattle.ml_gen.specs.Families.{family_named, family_word, greatest, is_in_range, logic_name};
+ghost use Rattle.ml_gen.specs.Families.{family_word, logic_name};
+ghost use Rattle.ml_gen.specs.FamilyRanges.{family_named, greatest, is_in_range};
 
 /// The families of formulas.
 #[derive(Clone, Copy, Debug, PartialEq, Eq)]

@@ -1,7 +1,8 @@
 // The texts of the formulas, in one buffer.
 ghost use Rattle.std.specs.Prelude.{◌≡◌, ◌↔◌, ◌≤◌, ◌++◌, false, IfOk, OnOk, IsErrOf};
 ghost use Rattle.ml_lines.specs.Lines.{number};
-ghost use Rattle.ml_gen.specs.Families.{formula_text, is_in_range, part, parts};
+ghost use Rattle.ml_gen.specs.Families.{formula_text, part, parts};
+ghost use Rattle.ml_gen.specs.FamilyRanges.{is_in_range};
 
 use crate::family::Family;
 use ml_base::NoMemory;

@@ -21,7 +21,8 @@ use Rattle.ml_lists.specs.Member.{IsMember}
 use Rattle.ml_lists.proofs.Member.{All-member, member-append_left, member-append_right, member-flat_map, place-member}
 use Rattle.ml_graph.specs.declared.node.Node.{Node}
 use Rattle.ml_graph.specs.declared.node.Node.TheVariants as node
-use Rattle.ml_graph.specs.Graph.{Graph, size, node_at, Reference, first_bad, references, references_from, references_of, IsGraph}
+use Rattle.ml_graph.specs.Graph.{Graph, size, node_at, Reference, references, references_from, references_of, IsGraph}
+use Rattle.ml_graph.specs.Building.{first_bad}
 
 option_map-or : {A B : Type 0}
     → (f : A → B) (o p : Option A)

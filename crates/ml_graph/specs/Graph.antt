@@ -12,15 +12,10 @@
 --   prop_at g p, action_at g a   == the name of proposition p, and that of action a
 --   references g      == the numbers to which nodes and root refer, each with what it has to be below: the nodes before
 --                        the root, and the fields of a node in their order
---   first_out_of_range g == the first of these numbers that isn't below what it has to be below
---   first_bad refs    == the same, of any list of such references
 --   IsGraph g         == a priority for each node, all numbers in range, and no name twice
---   IsSmall g         == the numbers of nodes fit 32 bits
 --   odd_priorities g  == the odd priorities that occur, ascending
-use Rattle.std.specs.Prelude.{ℕ, ◌≡◌, ◌<◌, ◌%◌, ◌^◌, ◌==◌, ◌++◌, nat_le, List, [], ◌∷◌, Option, length, get_or, filter, find, All}
+use Rattle.std.specs.Prelude.{ℕ, ◌≡◌, ◌<◌, ◌%◌, ◌==◌, ◌++◌, List, [], ◌∷◌, length, get_or, filter, All}
 use Rattle.std.specs.List.{flat_map, IsDistinct}
-use Rattle.std.specs.Global.{Vec}
-use Rattle.std.specs.Option.{option_map}
 use Rattle.std.specs.Str.{bytes_eq}
 use Rattle.ml_lists.specs.Ascending.{ascending}
 use Rattle.ml_graph.specs.declared.node.Node.{Node}
@@ -61,8 +56,6 @@ pub record Reference : Type 0 where
 
 -- to what a node refers, field by field, in a graph with so many nodes, propositions and actions
 abbrev pub references_of : (nodes props actions : ℕ) → Node → List Reference
-references_of n p a node.True = []
-references_of n p a node.False = []
 references_of n p a (node.Lit prop positive) = record { number = prop; bound = p } ∷ []
 references_of n p a (node.And l r) = record { number = l; bound = n } ∷ record { number = r; bound = n } ∷ []
 references_of n p a (node.Or l r) = record { number = l; bound = n } ∷ record { number = r; bound = n } ∷ []
@@ -70,6 +63,7 @@ references_of n p a (node.Diamond action to) =
     record { number = action; bound = a } ∷ record { number = to; bound = n } ∷ []
 references_of n p a (node.Square action to) =
     record { number = action; bound = a } ∷ record { number = to; bound = n } ∷ []
+references_of n p a _ = []
 
 -- to what nodes refer, and then the root
 abbrev pub references_from : List Node → (root props actions : ℕ) → List Reference
@@ -80,14 +74,6 @@ references_from nodes root p a =
 abbrev pub references : Graph → List Reference
 references g = references_from g.nodes g.root (length g.props) (length g.actions)
 
--- the first number that isn't below what it has to be below
-abbrev pub first_bad : List Reference → Option ℕ
-first_bad refs = option_map (λ r. r.number) (find (λ r. nat_le r.bound r.number) refs)
-
--- the first number of the graph that is out of range
-abbrev pub first_out_of_range : Graph → Option ℕ
-first_out_of_range g = first_bad (references g)
-
 -- a priority for each node, all numbers in range, and no name twice
 pub record IsGraph (g : Graph) : Type 0 where
   pub priorities : length g.priorities ≡ size g
@@ -95,21 +81,6 @@ pub record IsGraph (g : Graph) : Type 0 where
   pub props_differ : IsDistinct bytes_eq g.props
   pub actions_differ : IsDistinct bytes_eq g.actions
 
--- the numbers of nodes fit 32 bits
-abbrev pub IsSmall : Graph → Type 0
-IsSmall g = size g < 2 ^ 32
-
 -- the odd priorities that occur, ascending
 abbrev pub odd_priorities : Graph → List ℕ
 odd_priorities g = ascending (filter (λ d. d % 2 == 1) g.priorities)
-
--- the graph of the lists that a program holds
-abbrev pub graph_of : Vec Node → Vec ℕ → ℕ → Vec (List ℕ) → Vec (List ℕ) → Graph
-graph_of nodes priorities root props actions =
-    record {
-      nodes = nodes.items;
-      priorities = priorities.items;
-      root = root;
-      props = props.items;
-      actions = actions.items;
-    }

@@ -1,3 +1,5 @@
+-- of which nodes a graph is made, and which of them are refused
+pub mod Building
 -- modal graphs
 pub mod Graph
 -- the checking game of a graph and a structure, and where the graph holds

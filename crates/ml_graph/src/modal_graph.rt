@@ -2,7 +2,8 @@
 ghost use Rattle.std.specs.Prelude.{◌≡◌, ◌<◌, ◌^◌, ◌↔◌, ℕ, [], ◌∷◌, Some, IfOk, IsOk, IsErrOf, length, vec_len};
 ghost use Rattle.std.specs.List.{IsDistinct};
 ghost use Rattle.std.specs.Str.{bytes_eq};
-ghost use Rattle.ml_graph.specs.Graph.{size, node_at, priority_at, graph_of, IsGraph, first_bad, first_out_of_range, references_from, references_of, odd_priorities};
+ghost use Rattle.ml_graph.specs.Graph.{size, node_at, priority_at, IsGraph, references_from, references_of, odd_priorities};
+ghost use Rattle.ml_graph.specs.Building.{graph_of, first_bad, first_out_of_range};
 
 use crate::node::Node;
 use crate::refusals::GraphRefusal;
@@ -22,7 +23,8 @@ pub struct ModalGraph {
 }
 
 impl Model for ModalGraph {
-    ghost use Rattle.ml_graph.specs.Graph.{Graph, graph_of, IsGraph, IsSmall};
+    ghost use Rattle.ml_graph.specs.Graph.{Graph, IsGraph};
+    ghost use Rattle.ml_graph.specs.Building.{graph_of, IsSmall};
 
     ghost Value = { Graph };
 

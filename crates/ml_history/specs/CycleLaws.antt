@@ -19,11 +19,13 @@ use Rattle.ml_lists.specs.Member.{IsMember}
 use Rattle.ml_trace.specs.declared.letters.Transition.{Transition}
 use Rattle.ml_trace.specs.LabelledLoop.{CyclicRun}
 use Rattle.ml_trace.specs.NamesCondition.{NamesCondition}
-use Rattle.ml_trace.specs.Marks.{is_odd, lowest_mark}
+use Rattle.ml_trace.specs.MarkOrder.{is_odd, lowest_mark}
 use Rattle.ml_trace.specs.Run.{in_letter}
 use Rattle.ml_trace.specs.Stack.{Item, Entry}
-use Rattle.ml_history.specs.History.{IsHistory, start}
-use Rattle.ml_history.specs.HistoryStep.{live, after, marks_along, stepped, step_mark}
+use Rattle.ml_history.specs.History.{IsHistory}
+use Rattle.ml_history.specs.HistoryStep.{start}
+use Rattle.ml_history.specs.HistoryStep.{live, stepped, step_mark}
+use Rattle.ml_history.specs.HistoryRuns.{after, marks_along}
 
 -- the items of the history, with the number of names in use
 abbrev pub entry : List (Item ℕ) → Entry ℕ

@@ -11,8 +11,7 @@
 --   up_to y s         == the stack s up to the name y and with it
 --   IsHistory h       == h is a history
 --   IsSmallHistory h  == h is a history whose states have numbers below 2^30
---   start q           == the history of the state q alone, with the stack 0
-use Rattle.std.specs.Prelude.{◌≡◌, ℕ, ◌<◌, ◌^◌, true, ◌==◌, List, [], ◌∷◌, map, ◌≢◌}
+use Rattle.std.specs.Prelude.{◌≡◌, ℕ, ◌<◌, ◌^◌, true, ◌==◌, List, [], map, ◌≢◌}
 use Rattle.ml_lists.specs.Ascending.{IsAscending}
 use Rattle.ml_lists.specs.Member.{IsMember}
 use Rattle.ml_trace.specs.Stack.{Item, has, ends_in}
@@ -44,7 +43,3 @@ pub record IsHistory (h : List (Item ℕ)) : Type 0 where
 pub record IsSmallHistory (h : List (Item ℕ)) : Type 0 where
   pub history : IsHistory h
   pub small : (a : Item ℕ) → IsMember a h → a.state < 2 ^ 30
-
--- the history of the state q alone, with the stack 0
-abbrev pub start : ℕ → List (Item ℕ)
-start q = record { state = q; stack = 0 ∷ [] } ∷ []

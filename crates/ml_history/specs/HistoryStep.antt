@@ -20,8 +20,7 @@
 --   mark_of            == 6. the mark: the least red name if it is below every green one, or the least green name
 --   stepped h l        == the history after the step
 --   step_mark h l      == the mark of the step
---   after h w          == the history after the steps along the word w
---   marks_along h w    == the marks of these steps
+--   start q           == the history of the state q alone, with the stack 0
 use Rattle.std.specs.Prelude.{ℕ, ◌+◌, ◌*◌, max, Bool, true, false, not, ◌&&◌, if◌then◌else◌, ◌==◌, nat_lt, List, [], ◌∷◌, ◌++◌, map, filter, Option, Some, None}
 use Rattle.std.specs.List.{flat_map, list_any}
 use Rattle.ml_lists.specs.Ascending.{ascending}
@@ -161,12 +160,6 @@ abbrev pub step_mark : List (Item ℕ) → List Transition → Mark
 step_mark h letter = mark_of (least (is_red (live h) (taken_along h letter)) (2 * live h))
     (least (is_green (taken_along h letter)) (2 * live h))
 
--- the history after the steps along a word
-abbrev pub after : List (Item ℕ) → List (List Transition) → List (Item ℕ)
-after h [] = h
-after h (l ∷ w) = after (stepped h l) w
-
--- the marks of these steps
-abbrev pub marks_along : List (Item ℕ) → List (List Transition) → List Mark
-marks_along h [] = []
-marks_along h (l ∷ w) = step_mark h l ∷ marks_along (stepped h l) w
+-- the history of the state q alone, with the stack 0
+abbrev pub start : ℕ → List (Item ℕ)
+start q = record { state = q; stack = 0 ∷ [] } ∷ []

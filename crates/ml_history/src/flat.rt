@@ -1,6 +1,7 @@
 // Histories as flat arrays.
 ghost use Rattle.std.specs.Prelude.{◌≡◌, ℕ, ◌<◌, ◌^◌, ◌↔◌, IsTrue, IfOk, Some, map, length};
-ghost use Rattle.ml_history.specs.History.{start, IsSmallHistory};
+ghost use Rattle.ml_history.specs.History.{IsSmallHistory};
+ghost use Rattle.ml_history.specs.HistoryStep.{start};
 ghost use Rattle.ml_history.specs.HistoryOrder.{history_eq, history_eq_equiv, hash_writes, names_of};
 ghost use Rattle.ml_history.specs.HistoryStep.{live, stepped, step_mark};
 ghost use Rattle.ml_history.specs.Stacks.{stacked};

@@ -1,8 +1,8 @@
 // Laws over the definitions of the trace automaton and the history step. Each stands on a function that does nothing.
 ghost use Rattle.std.specs.Prelude.{◌≡◌, ◌≢◌, true, []};
-ghost use Rattle.ml_trace.specs.Marks.{is_odd, lowest_mark};
+ghost use Rattle.ml_trace.specs.MarkOrder.{is_odd, lowest_mark};
 ghost use Rattle.ml_history.specs.CycleLaws.{StepsAreHistories, StepsFollowLetters, StepsTraceNames, LettersAreSets, AcceptingCycle, OddMarkHasRun, RunHasOddMark};
-ghost use Rattle.ml_history.specs.HistoryStep.{after, marks_along};
+ghost use Rattle.ml_history.specs.HistoryRuns.{after, marks_along};
 
 use crate::flat::History;
 use ml_trace::Letter;

@@ -2,7 +2,8 @@
 //
 // It serves as a reference: the step of a history on trees gives the same stacks and marks, faster.
 ghost use Rattle.std.specs.Prelude.{◌≡◌, ◌<◌, ◌^◌, IfOk};
-ghost use Rattle.ml_history.specs.History.{start, IsHistory};
+ghost use Rattle.ml_history.specs.History.{IsHistory};
+ghost use Rattle.ml_history.specs.HistoryStep.{start};
 ghost use Rattle.ml_history.specs.HistoryStep.{live, stepped, step_mark};
 
 mod items;

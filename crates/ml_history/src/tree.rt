@@ -1,6 +1,7 @@
 // Histories as trees: the form in which the literature draws them.
 ghost use Rattle.std.specs.Prelude.{◌≡◌, ◌<◌, ◌^◌, ◌↔◌, IsTrue, IfOk, Some, map};
-ghost use Rattle.ml_history.specs.History.{start, IsHistory, IsSmallHistory};
+ghost use Rattle.ml_history.specs.History.{IsHistory, IsSmallHistory};
+ghost use Rattle.ml_history.specs.HistoryStep.{start};
 ghost use Rattle.ml_history.specs.HistoryStep.{live, stepped, step_mark};
 ghost use Rattle.ml_history.specs.Stacks.{stacked};
 

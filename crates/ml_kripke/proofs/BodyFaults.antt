@@ -16,9 +16,10 @@ use Rattle.ml_lines.specs.private.Fronts.{GoesOn}
 use Rattle.ml_lines.proofs.Cuts.{some_part}
 use Rattle.ml_lines.proofs.Fronts.{goes_begin, goes_on}
 use Rattle.ml_lines.proofs.WrittenLines.{text_read}
-use Rattle.ml_lists.specs.Chains.{last_of}
-use Rattle.ml_lists.specs.Documents.{nothing_read, line_read}
-use Rattle.ml_kripke.specs.BodyRules.{AtStates, AtStart, AtState, AtEdge, AtNothing, at_state, rule_number}
+use Rattle.ml_lists.specs.Last.{last_of}
+use Rattle.ml_lists.specs.Readings.{nothing_read, line_read}
+use Rattle.ml_kripke.specs.BodyRules.{AtStates, AtStart, AtState, AtEdge, AtNothing, at_state}
+use Rattle.ml_kripke.specs.RuleNumbers.{rule_number}
 use Rattle.ml_kripke.specs.private.BodyParts.{AreRows, IsWholeEnd}
 use Rattle.ml_kripke.specs.ModelText.{states_line, start_line, state_lines, edge_line, end_line}
 use Rattle.ml_kripke.specs.private.Refusals.{TellsRule, TellsFault, at_line}

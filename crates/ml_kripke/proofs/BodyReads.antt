@@ -14,8 +14,8 @@ use Rattle.ml_lines.specs.Lines.{Word, Line}
 use Rattle.ml_lines.specs.Reading.{lines_of, left_of}
 use Rattle.ml_lines.specs.private.Fronts.{GoesOn}
 use Rattle.ml_lines.proofs.Fronts.{goes_begin, goes_on}
-use Rattle.ml_lists.specs.Chains.{last_of}
-use Rattle.ml_lists.specs.Documents.{IsReadTo, nothing_read, line_read}
+use Rattle.ml_lists.specs.Last.{last_of}
+use Rattle.ml_lists.specs.Readings.{IsReadTo, nothing_read, line_read}
 use Rattle.ml_lists.proofs.Documents.{read_on}
 use Rattle.ml_kripke.specs.BodyRules.{Place, AtStates, AtStart, AtState, AtEdge, at_state, body, IsEdgeBehind}
 use Rattle.ml_kripke.specs.private.BodyParts.{AreRows, AreEdges, IsStateLine, IsEdgeLine, Ascend}

@@ -18,7 +18,8 @@ use Rattle.ml_lines.specs.Reading.{AreWords, IsNumber, is_blank, words_of, value
 use Rattle.ml_lines.proofs.Cuts.{some_part}
 use Rattle.ml_lines.proofs.Numbers.{value-number}
 use Rattle.ml_lists.specs.Documents.{IsFirstBroken}
-use Rattle.ml_kripke.specs.BodyRules.{Place, AtStates, AtStart, AtState, AtEdge, rules, rule_number, IsNumbered, IsStated, IsEdged, HasNumbers, IsEdgeBehind}
+use Rattle.ml_kripke.specs.BodyRules.{Place, AtStates, AtStart, AtState, AtEdge, rules, IsNumbered, IsStated, IsEdged, HasNumbers, IsEdgeBehind}
+use Rattle.ml_kripke.specs.RuleNumbers.{rule_number}
 use Rattle.ml_kripke.specs.private.BodyParts.{IsEdgeLine, Ascend}
 use Rattle.ml_kripke.specs.private.Refusals.{IsLowest}
 use Rattle.ml_kripke.specs.ModelText.{end_line, edge_line}

@@ -19,7 +19,8 @@ use Rattle.std.proofs.lemmas.List.Elements.{All-contains, All-map}
 use Rattle.std.proofs.lemmas.List.FromFn.{length-map-range_with_len, get_or-map-range_with_len}
 use Rattle.ml_base.specs.declared.structure.Edge.{Edge}
 use Rattle.ml_base.specs.Structure.{Structure, IsStructure}
-use Rattle.ml_kripke.specs.Ordered.{IsOrdered, IsBuiltFrom, first_bad_state, labels_at}
+use Rattle.ml_kripke.specs.Ordered.{IsOrdered}
+use Rattle.ml_kripke.specs.Built.{IsBuiltFrom, first_bad_state, labels_at}
 use Rattle.ml_base.specs.EdgeOrder.{edge_cmp}
 use Rattle.ml_lists.proofs.Members.{contains_none, All-of_members}
 use Rattle.ml_kripke.proofs.Range.{all_in_range}

@@ -10,7 +10,7 @@ use Rattle.ml_base.specs.Name.{IsName, is_name, is_action}
 use Rattle.ml_lines.specs.Lines.{Word, Line}
 use Rattle.ml_lines.specs.Reading.{value, word}
 use Rattle.ml_lines.proofs.DecidedWords.{decided_line, decided_words, decided_number}
-use Rattle.ml_lists.specs.Documents.{Judges}
+use Rattle.ml_lists.specs.Readings.{Judges}
 use Rattle.ml_lists.proofs.Decided as is
 use Rattle.ml_lists.proofs.Decided.{Decided}
 use Rattle.ml_lists.proofs.Documents.{judged}

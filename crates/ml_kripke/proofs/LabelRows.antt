@@ -14,7 +14,7 @@ use Rattle.std.proofs.lemmas.List.{append-nil, map-append, map-set, length-map, 
 use Rattle.std.proofs.lemmas.Bool.Decides.{nat_tests}
 use Rattle.std.proofs.lemmas.List.Elements.{filter-append}
 use Rattle.std.proofs.lemmas.List.FromFn.{length-map-range_with_len, get_or-map-range_with_len}
-use Rattle.ml_kripke.specs.Ordered.{labels_at}
+use Rattle.ml_kripke.specs.Built.{labels_at}
 
 abbrev Labels : Type 0
 Labels = List (ℕ × List ℕ)

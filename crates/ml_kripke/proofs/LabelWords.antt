@@ -13,7 +13,8 @@ use Rattle.std.proofs.lemmas.List.Elements.{All-nil, All-cons, All-head, All-tai
 use Rattle.ml_base.specs.Name.{IsName}
 use Rattle.ml_lines.specs.Lines.{Word}
 use Rattle.ml_lines.specs.Reading.{words_of, words_behind}
-use Rattle.ml_lists.specs.Chains.{Above, Chain, last_of}
+use Rattle.ml_lists.specs.Last.{last_of}
+use Rattle.ml_lists.specs.Chains.{Above, Chain}
 use Rattle.ml_kripke.specs.private.BodyParts.{Ascend}
 use Rattle.ml_lists.proofs.Chains.{chain_push, chain_at, chain_sorted, sorted_chain}
 

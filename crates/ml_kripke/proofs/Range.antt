@@ -10,7 +10,7 @@ use Rattle.std.proofs.lemmas.List.Folds.{find-append}
 use Rattle.std.proofs.lemmas.List.Elements.{All-nil, All-cons}
 use Rattle.std.proofs.lemmas.Bool.{leb-false}
 use Rattle.ml_base.specs.declared.structure.Edge.{Edge}
-use Rattle.ml_kripke.specs.Ordered.{ends, first_bad_state}
+use Rattle.ml_kripke.specs.Built.{ends, first_bad_state}
 use Rattle.ml_lists.proofs.Entries.{cond-none}
 
 pub first_bad_parts : (states : ℕ) (labels : List (ℕ × List ℕ)) (edges : List Edge)

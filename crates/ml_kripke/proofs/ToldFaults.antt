@@ -7,8 +7,10 @@ use Rattle.ml_lines.specs.Lines.{Line}
 use Rattle.ml_lines.specs.Reading.{lines_of, left_of}
 use Rattle.ml_lines.specs.private.Fronts.{GoesOn}
 use Rattle.ml_lines.proofs.Faults.{fault_here, fault_missing, fault_behind}
-use Rattle.ml_lists.specs.Documents.{IsFirstBroken, IsReadTo}
-use Rattle.ml_kripke.specs.BodyRules.{Place, body, rules, rule_number}
+use Rattle.ml_lists.specs.Documents.{IsFirstBroken}
+use Rattle.ml_lists.specs.Readings.{IsReadTo}
+use Rattle.ml_kripke.specs.BodyRules.{Place, body, rules}
+use Rattle.ml_kripke.specs.RuleNumbers.{rule_number}
 use Rattle.ml_kripke.specs.private.Refusals.{Breaks, TellsRule, TellsFault, at_line}
 use Rattle.ml_kripke.specs.declared.read_line.LineRefusal.{LineRefusal}
 use Rattle.ml_kripke.specs.declared.read_line.LineRefusal.TheVariants as LineRefusals

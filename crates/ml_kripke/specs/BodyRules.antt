@@ -7,7 +7,6 @@
 --   Place                 == what stands at a line: states n; start s below n; the line of state i of n; an edge behind
 --                            another one or none, or `end`; nothing
 --   after place line      == what stands behind a line, if that one is good
---   rule_number r         == the number of a rule, from 11 on
 --   IsEndOr Keeps line    == the line is `end`, or keeps this
 --   rules left p          == the rules of a line at p, in a text of which `left` stands behind the last LF
 --   body left             == the places with their rules
@@ -26,10 +25,9 @@ use Rattle.ml_base.specs.Name.{IsName, IsAction}
 use Rattle.ml_lines.specs.Faults.{IsFault}
 use Rattle.ml_lines.specs.Lines.{Word, Line}
 use Rattle.ml_lines.specs.Reading.{AreWords, IsNumber, value, word, lines_of, left_of}
-use Rattle.ml_lists.specs.Documents.{Format, Rule, rule, IsReadable}
+use Rattle.ml_lists.specs.Documents.{Format, Rule, rule}
+use Rattle.ml_lists.specs.Readings.{IsReadable}
 use Rattle.ml_base.specs.EdgeOrder.{edge_cmp}
-use Rattle.ml_kripke.specs.declared.body_rule.BodyRule.{BodyRule}
-use Rattle.ml_kripke.specs.declared.body_rule.BodyRule.TheVariants.{OfKind, Numbers, HasStates, StartInRange, NextState, Labels, Edges}
 
 pub data Place : Type 0 where
   AtStates : Place
@@ -87,41 +85,19 @@ pub record IsEdgeBehind (n : ℕ) (before : Option Edge) (e : Edge) : Type 0 whe
 abbrev pub IsEndOr : (Line → Type 0) → Line → Type 0
 IsEndOr keeps line = (line ≡ codes "end" ∷ []) ⊎ keeps line
 
-abbrev pub rule_number : BodyRule → ℕ
-rule_number OfKind = 11
-rule_number Numbers = 12
-rule_number HasStates = 13
-rule_number StartInRange = 14
-rule_number NextState = 15
-rule_number Labels = 16
-rule_number Edges = 17
-
-abbrev asks : BodyRule → (Line → Type 0) → Rule Line
-asks r = rule (rule_number r)
-
 abbrev pub rules : List ℕ → Place → List (Rule Line)
 rules left AtStates =
-    asks OfKind (IsNumbered (codes "states"))
-    ∷ asks Numbers HasNumber
-    ∷ asks HasStates (λ line. 0 < value (word line 1))
-    ∷ []
+    rule 11 (IsNumbered (codes "states")) ∷ rule 12 HasNumber ∷ rule 13 (λ line. 0 < value (word line 1)) ∷ []
 rules left (AtStart n) =
-    asks OfKind (IsNumbered (codes "start"))
-    ∷ asks Numbers HasNumber
-    ∷ asks StartInRange (λ line. value (word line 1) < n)
-    ∷ []
+    rule 11 (IsNumbered (codes "start")) ∷ rule 12 HasNumber ∷ rule 14 (λ line. value (word line 1) < n) ∷ []
 rules left (AtState n i) =
-    asks OfKind IsStated
-    ∷ asks Numbers HasNumber
-    ∷ asks NextState (λ line. value (word line 1) ≡ i)
-    ∷ asks Labels HasLabels
-    ∷ []
+    rule 11 IsStated ∷ rule 12 HasNumber ∷ rule 15 (λ line. value (word line 1) ≡ i) ∷ rule 16 HasLabels ∷ []
 rules left (AtEdge n before) =
-    asks OfKind (IsEndOr IsEdged)
-    ∷ asks Numbers (IsEndOr HasNumbers)
-    ∷ asks Edges (IsEndOr (λ line. IsEdgeBehind n before (edge_of line)))
+    rule 11 (IsEndOr IsEdged)
+    ∷ rule 12 (IsEndOr HasNumbers)
+    ∷ rule 17 (IsEndOr (λ line. IsEdgeBehind n before (edge_of line)))
     ∷ []
-rules left AtNothing = asks OfKind (λ line. (line ≡ []) × (left ≡ [])) ∷ []
+rules left AtNothing = rule 11 (λ line. (line ≡ []) × (left ≡ [])) ∷ []
 
 abbrev pub body : List ℕ → Format Line Place
 body left = record { rules = rules left; after = after; missing = [] }

@@ -13,7 +13,7 @@ use Rattle.std.specs.Prelude.{ℕ, ◌≡◌, ◌↔◌, ◌⊎◌, List, [], sl
 use Rattle.ml_base.specs.declared.doc_fault.DocFault.{DocFault}
 use Rattle.ml_base.specs.declared.structure.Edge.{Edge}
 use Rattle.ml_base.specs.Structure.{Structure, IsStructure}
-use Rattle.ml_lists.specs.Documents.{NumbersRise}
+use Rattle.ml_lists.specs.Readings.{NumbersRise}
 use Rattle.ml_kripke.specs.BodyRules.{body, IsFaultOf, IsReadableBody}
 use Rattle.ml_kripke.specs.Ordered.{IsOrdered}
 use Rattle.ml_kripke.specs.ModelText.{IsWritten, model_text}

@@ -1,6 +1,6 @@
 // The rules of the body of a satisfiable document.
 ghost use Rattle.std.specs.Prelude.{◌≡◌};
-ghost use Rattle.ml_kripke.specs.BodyRules.{rule_number};
+ghost use Rattle.ml_kripke.specs.RuleNumbers.{rule_number};
 
 /// A rule that a line of the body of a satisfiable document keeps.
 #[derive(Clone, Copy, Debug, PartialEq, Eq)]

@@ -1,6 +1,7 @@
 // Reading a model from its text.
 ghost use Rattle.std.specs.Prelude.{◌≡◌, ◌<◌, ◌≤◌, ◌+◌, ◌^◌, [], ◌∷◌, length, map, None, IfOk, IfErr, IsErrOf};
-ghost use Rattle.ml_kripke.specs.BodyRules.{AtStates, AtStart, AtEdge, AtNothing, at_state, rule_number, IsFaultOf};
+ghost use Rattle.ml_kripke.specs.BodyRules.{AtStates, AtStart, AtEdge, AtNothing, at_state, IsFaultOf};
+ghost use Rattle.ml_kripke.specs.RuleNumbers.{rule_number};
 ghost use Rattle.ml_lines.specs.private.Fronts.{GoesOn};
 ghost use Rattle.ml_kripke.specs.private.BodyParts.{AreRows, IsWholeEnd};
 ghost use Rattle.ml_kripke.specs.ModelText.{states_line, start_line, state_lines, model_text};

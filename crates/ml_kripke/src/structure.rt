@@ -3,7 +3,8 @@ ghost use Rattle.std.specs.Prelude.{◌≡◌, ◌<◌, ◌↔◌, ◌==◌, ◌
 ghost use Rattle.std.specs.List.{flat_map, range_with_len};
 ghost use Rattle.std.specs.Str.{bytes_eq};
 ghost use Rattle.ml_base.specs.Structure.{IsStructure, lists};
-ghost use Rattle.ml_kripke.specs.Ordered.{of_parts, IsOrdered, IsBuiltFrom, first_bad_state, ends, labels_at};
+ghost use Rattle.ml_kripke.specs.Ordered.{IsOrdered};
+ghost use Rattle.ml_kripke.specs.Built.{of_parts, IsBuiltFrom, first_bad_state, ends, labels_at};
 ghost use Rattle.ml_kripke.specs.Total.{IsTotal, IsLeastDead};
 
 use crate::ascending::ascending;

@@ -12,7 +12,8 @@ use Rattle.ml_lines.specs.Lines.{Line}
 use Rattle.ml_lines.specs.Reading.{lines_of, left_of}
 use Rattle.ml_lines.specs.Faults.{IsFault}
 use Rattle.ml_lines.specs.private.Fronts.{GoesOn}
-use Rattle.ml_lists.specs.Documents.{Format, IsFirstBroken, IsFirstBad, IsReadable, IsReadTo, Judges}
+use Rattle.ml_lists.specs.Documents.{Format, IsFirstBroken, IsFirstBad}
+use Rattle.ml_lists.specs.Readings.{IsReadable, IsReadTo, Judges}
 use Rattle.ml_lists.proofs.Documents.{one_bad, readable_no_bad, readable_or_bad, bad_behind}
 
 module _ {Place : Type 0} (F : List ℕ → Format Line Place) (k : ℕ) (place : Place) (text : List ℕ) where

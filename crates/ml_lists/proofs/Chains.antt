@@ -9,7 +9,8 @@ use Rattle.std.specs.Cmp.{IsTotalOrder}
 use Rattle.std.specs.List.{AllByRecursion}
 use Rattle.std.specs.List.Sorted.{IsStrictlySortedBy}
 use Rattle.std.specs.declared.cmp.Ordering.TheVariants.{Less}
-use Rattle.ml_lists.specs.Chains.{Above, Chain, last_of}
+use Rattle.ml_lists.specs.Last.{last_of}
+use Rattle.ml_lists.specs.Chains.{Above, Chain}
 
 pub last_push : {K : Type 0} (before : Option K) (xs : List K) (y : K) → last_of before (xs ++ y ∷ []) ≡ Some y
 last_push before [] y = refl

@@ -7,7 +7,7 @@
 --   decided_leads == among numbers below a bound that is decided
 use Rattle.std.proofs.Common.{◌≡◌, ℕ, zero, suc, ◌+◌, ◌<◌, refl, sym, ◌∙◌, subst, arith}
 use Rattle.ml_lists.specs.Reach.{Reaches}
-use Rattle.ml_lists.specs.Search.{Found}
+use Rattle.ml_lists.specs.Found.{Found}
 use Rattle.ml_lists.proofs.Decided.{Decided, decided_same, decided_number}
 use Rattle.ml_lists.proofs.Reach.{reaches_self, reaches_step, reaches_short}
 use Rattle.ml_lists.proofs.Deciding.{decided_and, some_below}

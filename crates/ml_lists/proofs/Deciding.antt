@@ -19,7 +19,7 @@ use Rattle.std.proofs.Common.{◌≡◌, ℕ, zero, suc, ◌<◌, ◌≤◌, ◌
 use Rattle.std.proofs.lemmas.Bool.{cases_eq, cases_lt}
 use Rattle.ml_lists.specs.Ascending.{IsAscending, ascending}
 use Rattle.ml_lists.specs.Member.{IsMember}
-use Rattle.ml_lists.specs.Search.{Found}
+use Rattle.ml_lists.specs.Found.{Found}
 use Rattle.ml_lists.proofs.Ascending.{ascending-is, ascending-member, member-ascending}
 use Rattle.ml_lists.proofs.Decided.{Decided, decided_same, decided_both, decided_either, decided_less}
 use Rattle.ml_lists.proofs.Search.{all_below_suc}

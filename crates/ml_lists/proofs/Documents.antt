@@ -9,7 +9,8 @@
 --   read_on                       == lines that were read, and of their rest further ones
 use Rattle.std.proofs.Common.{◌≡◌, ℕ, ◌+◌, ◌⊎◌, List, [], ◌∷◌, inl, inr, refl, sym, ◌∙◌}
 use Rattle.ml_lists.proofs.Decided.{Decided}
-use Rattle.ml_lists.specs.Documents.{Rule, Format, KeepsAll, IsFirstBroken, IsJudged, IsReadable, IsFirstBad, Judges, IsReadTo, nothing_read, line_read}
+use Rattle.ml_lists.specs.Documents.{Rule, Format, KeepsAll, IsFirstBroken, IsFirstBad}
+use Rattle.ml_lists.specs.Readings.{IsReadable, Judges, IsReadTo, nothing_read, line_read, IsJudged}
 
 -- ---- the rules of a place
 

@@ -5,7 +5,7 @@
 --   iterates_least   == the iterates of a monotone operation from within a closed set stay within it
 use Rattle.std.proofs.Common.{ℕ, zero, suc, ◌≡◌, ◌<◌, ◌≤◌, ◌⊎◌, inl, inr, ⊎_elim, arith, Bool, true, false, sym, ◌∙◌}
 use Rattle.std.proofs.lemmas.Bool.{cases_Bool, false≢true}
-use Rattle.ml_lists.specs.Search.{Found}
+use Rattle.ml_lists.specs.Found.{Found}
 use Rattle.ml_lists.specs.Counting.{count}
 use Rattle.ml_lists.specs.Walk.{walk}
 use Rattle.ml_lists.specs.Growing.{Within, Grows, Stable, IsClosed}

@@ -8,7 +8,7 @@
 use Rattle.std.proofs.Common.{ℕ, zero, suc, ◌≡◌, ◌<◌, ◌≤◌, ◌⊎◌, inl, inr, arith, sym, ◌∙◌, cond, eqb, eq-eqb, ne_eqb, List, length, get_or}
 use Rattle.std.proofs.lemmas.List.{get_or_default}
 use Rattle.std.proofs.lemmas.Bool.{cases_eq, cond-true, cond-false}
-use Rattle.ml_lists.specs.Search.{Found}
+use Rattle.ml_lists.specs.Found.{Found}
 use Rattle.ml_lists.specs.Pigeons.{Twice}
 use Rattle.ml_lists.proofs.Search.{search}
 

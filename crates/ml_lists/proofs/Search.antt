@@ -10,7 +10,8 @@
 --   search_least  == a number with P at which f is least, or none below n has P
 use Rattle.std.proofs.Common.{ℕ, zero, suc, ◌≡◌, ◌<◌, ◌≤◌, ◌⊎◌, inl, inr, arith, subst, sym, ⊎_elim}
 use Rattle.std.proofs.lemmas.Bool.{cases_eq, cases_lt, cases_order}
-use Rattle.ml_lists.specs.Search.{Found, IsFirst, First, Least}
+use Rattle.ml_lists.specs.Search.{IsFirst}
+use Rattle.ml_lists.specs.Found.{Found, First, Least}
 
 -- what holds of each number below n, and of n, holds of each number below n + 1
 pub all_below_suc : (P : ℕ → Type 0) (n : ℕ) → ((k : ℕ) → k < n → P k) → P n → (k : ℕ) → k < suc n → P k

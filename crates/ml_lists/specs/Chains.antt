@@ -1,7 +1,6 @@
--- Lists in which each element is above the one before it.
+-- Chains: lists of which each element is above the one before it.
 --
 --   Above R before x        == x is above the element before it, if there is one
---   last_of before xs       == the last element of xs, which stand behind `before`, if something does
 --   Chain R before xs       == each of xs is above the one before it, the first above `before`
 use Rattle.std.specs.Prelude.{◌≡◌, ⊤, List, [], ◌∷◌, Option, None, Some}
 use Rattle.std.specs.declared.cmp.Ordering.{Ordering}
@@ -10,10 +9,6 @@ use Rattle.std.specs.declared.cmp.Ordering.TheVariants.{Less}
 abbrev pub Above : {K : Type 0} → (K → K → Ordering) → Option K → K → Type 0
 Above R None x = ⊤
 Above R (Some b) x = R b x ≡ Less
-
-abbrev pub last_of : {K : Type 0} → Option K → List K → Option K
-last_of before [] = before
-last_of before (x ∷ xs) = last_of (Some x) xs
 
 abbrev pub Chain : {K : Type 0} → (K → K → Ordering) → Option K → List K → Type 0
 Chain R before [] = ⊤

@@ -2,16 +2,22 @@
 pub mod Counting
 -- documents: lines that keep the rules of their places
 pub mod Documents
+-- what a search finds
+pub mod Found
 -- growing sequences of sets below a bound
 pub mod Growing
 -- a list of numbers with a loop start
 pub mod Lasso
+-- the last element of a list
+pub mod Last
 -- the lowest entry of a list of numbers
 pub mod Lowest
 -- a value that a sequence takes twice
 pub mod Pigeons
 -- reachability along a relation
 pub mod Reach
+-- which documents are readable, and how far they are read
+pub mod Readings
 -- a number below a bound with a property
 pub mod Search
 -- a function with one value changed

@@ -13,7 +13,8 @@ use Rattle.ml_text.proofs.TableItems.{IsShort, short_word, opening, opens_spelt}
 use Rattle.ml_text.proofs.Scans.{Spelt}
 use Rattle.ml_text.proofs.AcceptedTexts.{weight_some}
 use Rattle.ml_mu.specs.Formula as plain
-use Rattle.ml_mu.specs.Formula.{Formula, Modality, Diamond, Square, Fixpoint, Least, Greatest, names, occurrences}
+use Rattle.ml_mu.specs.Formula.{Formula, Modality, Diamond, Square, Fixpoint, Least, Greatest, occurrences}
+use Rattle.ml_mu.specs.FormulaNames.{names}
 use Rattle.ml_mu.specs.Canonical.{fixpoint_word}
 use Rattle.ml_text.specs.Signs.{bracket_of, word_sign}
 use Rattle.ml_mu.specs.Signs.{own}

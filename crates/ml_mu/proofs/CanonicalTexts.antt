@@ -28,7 +28,8 @@ use Rattle.ml_text.proofs.FirstLetters.{upper_letters}
 use Rattle.ml_text.proofs.FreeWords.{proposition_letters}
 use Rattle.ml_text.proofs.Names.{spelled_parts}
 use Rattle.ml_mu.specs.Formula as plain
-use Rattle.ml_mu.specs.Formula.{Formula, Modality, Diamond, Square, Fixpoint, Least, Greatest, names}
+use Rattle.ml_mu.specs.Formula.{Formula, Modality, Diamond, Square, Fixpoint, Least, Greatest}
+use Rattle.ml_mu.specs.FormulaNames.{names}
 use Rattle.ml_mu.specs.Canonical.{action_text, modality_text, fixpoint_word, canonical_text}
 use Rattle.ml_text.specs.Signs.{name_of, word_sign}
 use Rattle.ml_text.specs.declared.named_signs.Sign.TheVariants.{Connective, Const, Open, Close, Lower, Upper, Added}
@@ -38,7 +39,8 @@ use Rattle.ml_mu.specs.Spelling.{is_proposition, is_variable, is_action, is_spel
 use Rattle.ml_mu.specs.Grammar as grammar
 use Rattle.ml_mu.specs.Grammar.{Reads, iff_alone, iff, imp_alone, imp, or_alone, or, and, negation, modal, modal_blank, binder, group, constant, proposition, variable}
 use Rattle.ml_mu.proofs.GrammarTables.{un_raised}
-use Rattle.ml_mu.specs.Text.{mu_signs, items, IsTextOf}
+use Rattle.ml_mu.specs.Text.{mu_signs, items}
+use Rattle.ml_mu.specs.TextLaws.{IsTextOf}
 
 -- ---- the tokens of a canonical text
 

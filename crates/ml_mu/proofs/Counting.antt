@@ -12,13 +12,15 @@ use Rattle.ml_text.specs.declared.token.Operator.TheVariants as operator
 use Rattle.ml_text.specs.declared.token.Placed.{Placed}
 use Rattle.ml_text.specs.Refusals.{Item, signs_of, counted}
 use Rattle.ml_mu.specs.Formula as plain
-use Rattle.ml_mu.specs.Formula.{Formula, names, occurrences}
+use Rattle.ml_mu.specs.Formula.{Formula, occurrences}
+use Rattle.ml_mu.specs.FormulaNames.{names}
 use Rattle.ml_text.specs.declared.named_signs.Sign.TheVariants.{Lower, Upper, Added}
 use Rattle.ml_mu.specs.Signs.{Sign, action_of}
 use Rattle.ml_mu.specs.declared.signs.Own.TheVariants.{Begins, Ends, Blank}
 use Rattle.ml_mu.specs.Grammar as grammar
 use Rattle.ml_mu.specs.Grammar.{Reads, iff_alone, iff, imp_alone, imp, or_alone, or, and_alone, and, negation, modal, modal_blank, binder, group, constant, proposition, variable}
-use Rattle.ml_mu.specs.Text.{weight_of, silences, item_by, sign_at, items_from, places_from, is_variable_at}
+use Rattle.ml_mu.specs.Text.{weight_of, silences, sign_at, places_from, is_variable_at}
+use Rattle.ml_mu.specs.TextLaws.{item_by, items_from}
 use Rattle.ml_mu.specs.VariableFaults.{Around, standings_in}
 
 -- ---- occurrences

@@ -16,7 +16,8 @@ use Rattle.ml_mu.specs.Grammar.{IsReadAs}
 use Rattle.ml_mu.specs.Parsing.{IsParsedAs, IsRefusedBy, ComesFirst, HasFault}
 use Rattle.ml_mu.specs.ParsingLaws.{CanonicalStandsForOne}
 use Rattle.ml_mu.specs.private.Tables.{mu_grammar}
-use Rattle.ml_mu.specs.Text.{IsTextOf, items, variable_places}
+use Rattle.ml_mu.specs.Text.{items, variable_places}
+use Rattle.ml_mu.specs.TextLaws.{IsTextOf}
 use Rattle.ml_mu.specs.VariableFaults.{Standing, Fine, Unbound, NotPositive, standings, fault_at, are_fine}
 use Rattle.ml_mu.proofs.CanonicalTexts.{canonical_stands}
 use Rattle.ml_mu.proofs.MuGrammar.{mu_regular, read_stands}

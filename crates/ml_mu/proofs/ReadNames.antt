@@ -15,7 +15,8 @@ use Rattle.ml_text.proofs.Cover.{are_tokens}
 use Rattle.ml_text.proofs.NamedSigns.{short_name, spelled_sign}
 use Rattle.ml_text.proofs.Names.{Bears, IsSpelledName, all_both, bears_short, bears_spelled, spelled_all}
 use Rattle.ml_text.proofs.TableItems.{signs_all, signs_short}
-use Rattle.ml_mu.specs.Formula.{Formula, names}
+use Rattle.ml_mu.specs.Formula.{Formula}
+use Rattle.ml_mu.specs.FormulaNames.{names}
 use Rattle.ml_mu.specs.Grammar as grammar
 use Rattle.ml_mu.specs.Grammar.{IsReadAs, Reads, iff_alone, iff, imp_alone, imp, or_alone, or, and_alone, and, negation, modal, modal_blank, binder, group, constant, proposition, variable}
 use Rattle.ml_mu.specs.Signs.{Sign, action_of, own, sign_of}

@@ -9,9 +9,7 @@
 --   Modality       == diamond (some edge) or square (every edge), as the program's terms hold it
 --   Fixpoint       == least or greatest, likewise
 --   occurrences f  == the number of symbols of f, where iff counts as three and the action of a modality as none
---   names f        == the names in f, in the order of the text: propositions, variables, also those of binders, and actions
-use Rattle.std.specs.Prelude.{ℕ, ◌+◌, Bool, List, [], ◌∷◌, ◌++◌}
-use Rattle.ml_text.specs.Names.{KindedName, Proposition, Variable, Action}
+use Rattle.std.specs.Prelude.{ℕ, ◌+◌, Bool, List}
 use Rattle.ml_text.specs.declared.token.Operator.{Operator}
 use Rattle.ml_text.specs.Operators.{weight}
 pub use Rattle.ml_mu.specs.declared.term.Modality.{Modality}
@@ -29,19 +27,8 @@ pub data Formula : Type 0 where
   Binder : Fixpoint → List ℕ → Formula → Formula
 
 abbrev pub occurrences : Formula → ℕ
-occurrences (Const b) = 1
-occurrences (Prop p) = 1
-occurrences (Var x) = 1
 occurrences (Not f) = 1 + occurrences f
 occurrences (Binary op f g) = weight op + occurrences f + occurrences g
 occurrences (Modal m a f) = 1 + occurrences f
 occurrences (Binder q x f) = 1 + occurrences f
-
-abbrev pub names : Formula → List KindedName
-names (Const b) = []
-names (Prop p) = (Proposition, p) ∷ []
-names (Var x) = (Variable, x) ∷ []
-names (Not f) = names f
-names (Binary op f g) = names f ++ names g
-names (Modal m a f) = (Action, a) ∷ names f
-names (Binder q x f) = (Variable, x) ∷ names f
+occurrences _ = 1

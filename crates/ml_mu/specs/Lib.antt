@@ -1,9 +1,13 @@
 -- formulas
 pub mod Formula
+-- the names that stand in a formula
+pub mod FormulaNames
 -- the plain formula of a term
 pub mod Term
 -- what formulas mean
 pub mod Meaning
+-- texts by their items
+pub mod TextLaws
 -- bound and positive variables
 pub mod Variables
 -- which words are propositions, variables and actions

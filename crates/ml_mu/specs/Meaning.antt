@@ -9,7 +9,6 @@
 --   Given             == the sets that the free variables mean, innermost binder first
 --   HaveFlags n g     == each given set has n flags
 --   given_set m g x   == the set that the variable x means; a variable without a binder means the empty set
---   truth_of op a b   == the truth table of a connective
 --   first_iterate m q == the set from which a fixpoint is approached: nowhere for the least, everywhere for the greatest
 --   some_edge m a s   == has the state s an edge by the action a into the set?
 --   every_edge m a s  == do all edges by the action a from s lead into the set?
@@ -18,8 +17,7 @@ use Rattle.std.specs.Prelude.{ℕ, ◌==◌, ◌≡◌, Bool, ◌&&◌, ◌||◌
 use Rattle.std.specs.List.{list_any, list_all}
 use Rattle.std.specs.Str.{bytes_eq}
 use Rattle.ml_lists.specs.Iterate.{iterate}
-use Rattle.ml_text.specs.declared.token.Operator.{Operator}
-use Rattle.ml_text.specs.declared.token.Operator.TheVariants.{Iff, Implies, Or, And}
+pub use Rattle.ml_text.specs.Operators.{truth_of}
 use Rattle.ml_base.specs.Structure.{Structure, StateSet, lists, is_member, states_where, everywhere, nowhere}
 use Rattle.ml_mu.specs.Formula.{Formula, Const, Prop, Var, Not, Binary, Modal, Binder, Modality, Diamond, Square, Fixpoint, Least, Greatest}
 
@@ -33,12 +31,6 @@ HaveFlags n (g ∷ gs) = (length g.1 ≡ n) × HaveFlags n gs
 abbrev pub given_set : Structure → Given → List ℕ → StateSet
 given_set m [] x = nowhere m
 given_set m (g ∷ gs) x = if bytes_eq g.0 x then g.1 else given_set m gs x
-
-abbrev pub truth_of : Operator → Bool → Bool → Bool
-truth_of And a b = a && b
-truth_of Or a b = a || b
-truth_of Implies a b = not a || b
-truth_of Iff a b = (not a || b) && (not b || a)
 
 abbrev pub first_iterate : Structure → Fixpoint → StateSet
 first_iterate m Least = nowhere m

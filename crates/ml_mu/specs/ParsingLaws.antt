@@ -8,7 +8,7 @@ use Rattle.ml_mu.specs.Canonical.{canonical_text}
 use Rattle.ml_mu.specs.Formula.{Formula}
 use Rattle.ml_mu.specs.Parsing.{IsParsedAs}
 use Rattle.ml_mu.specs.Spelling.{is_spelled}
-use Rattle.ml_mu.specs.Text.{IsTextOf}
+use Rattle.ml_mu.specs.TextLaws.{IsTextOf}
 use Rattle.ml_mu.specs.WellFormed.{IsWellFormed}
 
 -- the canonical text of a formula whose names are spelled as they must be stands for it, and for no other

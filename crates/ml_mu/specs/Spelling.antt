@@ -11,10 +11,12 @@
 --   HasShortNames f      == no name in f has more bytes than a name may have
 use Rattle.std.specs.Prelude.{ℕ, Bool, List}
 use Rattle.ml_text.specs.Names.{AreShort, are_spelled}
+use Rattle.ml_text.specs.SignKinds as kinds
 use Rattle.ml_text.specs.Signs as signs
 use Rattle.ml_text.specs.Signs.{is_upper_word}
 use Rattle.ml_mu.specs.Signs.{own}
-use Rattle.ml_mu.specs.Formula.{Formula, names}
+use Rattle.ml_mu.specs.Formula.{Formula}
+use Rattle.ml_mu.specs.FormulaNames.{names}
 
 abbrev pub is_reserved : List ℕ → Bool
 is_reserved name = signs.is_reserved own name
@@ -26,7 +28,7 @@ abbrev pub is_variable : List ℕ → Bool
 is_variable name = is_upper_word name
 
 abbrev pub is_action : List ℕ → Bool
-is_action name = signs.is_action own name
+is_action name = kinds.is_action own name
 
 abbrev pub is_spelled : Formula → Bool
 is_spelled f = are_spelled own (names f)

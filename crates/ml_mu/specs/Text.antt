@@ -9,20 +9,17 @@
 --   mu_signs             == the signs of mu texts; the context of a sign is whether it is silent
 --   items text           == the items of a text
 --   variable_places is   == the offsets of the variables among the items, in the order of the text
---   IsTextOf text f      == the text is one of f by the grammar
 use Rattle.std.specs.Prelude.{ℕ, Bool, true, false, if◌then◌else◌, List}
 use Rattle.ml_text.specs.declared.token.WordStart.TheVariants.{AnyLetter}
 use Rattle.ml_text.specs.declared.token.Placed.{Placed}
 use Rattle.ml_text.specs.Items as text_items
 use Rattle.ml_text.specs.Items.{SignTable, bytes_of}
-use Rattle.ml_text.specs.Refusals.{Item, signs_of}
+use Rattle.ml_text.specs.Refusals.{Item}
 use Rattle.ml_text.specs.Signs.{bracket_of}
 use Rattle.ml_text.specs.Operators.{weight}
-use Rattle.ml_mu.specs.Formula.{Formula}
 use Rattle.ml_text.specs.declared.named_signs.Sign.TheVariants.{Not, Connective, Const, Lower, Upper, Added}
 use Rattle.ml_mu.specs.Signs.{Sign, own, sign_of}
 use Rattle.ml_mu.specs.declared.signs.Own.TheVariants.{Begins, Binds}
-use Rattle.ml_mu.specs.Grammar.{IsReadAs}
 
 abbrev pub weight_of : Sign → ℕ
 weight_of Not = 1
@@ -57,12 +54,6 @@ mu_signs = record {
   is_noted = is_variable_at;
 }
 
-abbrev pub item_by : List ℕ → Bool → Placed → Item Sign
-item_by text silent p = text_items.item_at mu_signs text silent p
-
-abbrev pub items_from : List ℕ → Bool → List Placed → List (Item Sign)
-items_from text silent ps = text_items.items_from mu_signs text silent ps
-
 abbrev pub items : List ℕ → List (Item Sign)
 items text = text_items.items mu_signs text
 
@@ -71,6 +62,3 @@ places_from silent is = text_items.noted_from mu_signs silent is
 
 abbrev pub variable_places : List (Item Sign) → List ℕ
 variable_places is = places_from false is
-
-abbrev pub IsTextOf : List ℕ → Formula → Type 0
-IsTextOf text f = IsReadAs (signs_of (items text)) f

@@ -29,8 +29,6 @@ standing_of (b ∷ bs) n i x =
     else standing_of bs n i x
 
 abbrev pub standings_in : List Around → ℕ → ℕ → Formula → List Standing
-standings_in bs n i (Const b) = []
-standings_in bs n i (Prop p) = []
 standings_in bs n i (Var x) = standing_of bs n i x ∷ []
 standings_in bs n i (Not f) = standings_in bs (n + 1) i f
 standings_in bs n i (Binary And f g) = standings_in bs n i f ++ standings_in bs n i g
@@ -39,6 +37,7 @@ standings_in bs n i (Binary Implies f g) = standings_in bs (n + 1) i f ++ standi
 standings_in bs n i (Binary Iff f g) = standings_in bs n (i + 1) f ++ standings_in bs n (i + 1) g
 standings_in bs n i (Modal m a f) = standings_in bs n i f
 standings_in bs n i (Binder q x f) = standings_in (record { name = x; negations = n; iffs = i } ∷ bs) n i f
+standings_in bs n i _ = []
 
 abbrev pub standings : Formula → List Standing
 standings f = standings_in [] 0 0 f

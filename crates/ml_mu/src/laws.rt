@@ -8,7 +8,7 @@ ghost use Rattle.ml_mu.specs.Meaning.{Given, HaveFlags, meaning};
 ghost use Rattle.ml_mu.specs.Variables.{is_positive};
 ghost use Rattle.ml_mu.specs.Parsing.{IsParsedAs, IsRefusedBy};
 ghost use Rattle.ml_mu.specs.ParsingLaws.{CanonicalIsParsed, CanonicalStandsForOne, ParsedAreWellFormed};
-ghost use Rattle.ml_mu.specs.Text.{IsTextOf};
+ghost use Rattle.ml_mu.specs.TextLaws.{IsTextOf};
 
 /// A text stands for one formula at most, by the grammar alone.
 #[tactic(auto, using(crate::proofs::OneAnswer::one_formula))]

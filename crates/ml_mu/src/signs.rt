@@ -1,6 +1,6 @@
 // The signs of mu texts: what the mu-calculus adds to those that all logics have.
 ghost use Rattle.std.specs.Prelude.{◌≡◌, ℕ, ◌≤◌, if◌then◌else◌, List};
-ghost use Rattle.ml_text.specs.Signs.{named};
+ghost use Rattle.ml_text.specs.SignKinds.{named};
 ghost use Rattle.ml_mu.specs.Text.{is_variable_at, silences, weight_of};
 
 use crate::{Fixpoint, Modality};

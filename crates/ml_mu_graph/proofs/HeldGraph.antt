@@ -7,7 +7,8 @@ use Rattle.ml_graph.specs.Graph.{Graph}
 use Rattle.ml_text.specs.declared.token.Operator.{Operator}
 use Rattle.ml_text.specs.declared.token.Operator.TheVariants as operator
 use Rattle.ml_text.specs.Names.{Proposition, Action}
-use Rattle.ml_mu.specs.Formula.{Formula, Const, Prop, Var, Not, Binary, Modal, Binder, names, occurrences}
+use Rattle.ml_mu.specs.Formula.{Formula, Const, Prop, Var, Not, Binary, Modal, Binder, occurrences}
+use Rattle.ml_mu.specs.FormulaNames.{names}
 use Rattle.ml_mu.specs.declared.term.Fixpoint.{Fixpoint}
 use Rattle.ml_mu.specs.declared.term.Fixpoint.TheVariants.{Least, Greatest}
 use Rattle.ml_mu.specs.Signs.{own}

@@ -11,7 +11,8 @@ use Rattle.ml_text.specs.NameLists.{place_of}
 use Rattle.ml_text.specs.Names.{Proposition, Action, of_kind}
 use Rattle.ml_text.proofs.NameLists.{distinct_names, place_found}
 use Rattle.ml_text.proofs.Names.{AreAmong, among_parts, names_among}
-use Rattle.ml_mu.specs.Formula.{Formula, Const, Prop, Var, Not, Binary, Modal, Binder, names, occurrences}
+use Rattle.ml_mu.specs.Formula.{Formula, Const, Prop, Var, Not, Binary, Modal, Binder, occurrences}
+use Rattle.ml_mu.specs.FormulaNames.{names}
 use Rattle.ml_mu.specs.declared.term.Modality.{Modality}
 use Rattle.ml_mu.specs.declared.term.Modality.TheVariants.{Diamond, Square}
 use Rattle.ml_nodes.specs.Nodes.{negative, positive}

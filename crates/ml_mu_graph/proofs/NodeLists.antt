@@ -12,7 +12,8 @@ use Rattle.ml_text.specs.Operators.{weight}
 use Rattle.ml_text.specs.NameLists.{place_of}
 use Rattle.ml_text.proofs.NameLists.{place_found}
 use Rattle.ml_text.proofs.Names.{AreAmong, among_parts}
-use Rattle.ml_mu.specs.Formula.{Formula, Const, Prop, Var, Not, Binary, Modal, Binder, names, occurrences}
+use Rattle.ml_mu.specs.Formula.{Formula, Const, Prop, Var, Not, Binary, Modal, Binder, occurrences}
+use Rattle.ml_mu.specs.FormulaNames.{names}
 use Rattle.ml_mu_graph.specs.MuGraph.{Around, binder_of, binder_priority, opposite, StandsAt}
 use Rattle.ml_nodes.specs.private.Connectives.{operator_nodes}
 use Rattle.ml_mu_graph.specs.private.NodeList.{operator_holes, bound, nodes_of, priorities_of}

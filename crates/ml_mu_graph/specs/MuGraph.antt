@@ -31,13 +31,11 @@ use Rattle.ml_mu.specs.declared.term.Fixpoint.{Fixpoint}
 use Rattle.ml_mu.specs.declared.term.Fixpoint.TheVariants.{Least, Greatest}
 
 abbrev pub binders : Formula → ℕ
-binders (Const b) = 0
-binders (Prop p) = 0
-binders (Var x) = 0
 binders (Not f) = binders f
 binders (Binary op f g) = binders f + binders g
 binders (Modal m a f) = binders f
 binders (Binder q x f) = 1 + binders f
+binders _ = 0
 
 abbrev pub Around : Type 0
 Around = List (List ℕ × ℕ)

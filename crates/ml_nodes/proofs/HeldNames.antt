@@ -20,7 +20,8 @@ use Rattle.ml_graph.specs.declared.node.Node.TheVariants as node
 use Rattle.ml_graph.proofs.References.{diamond_action, prop_in_range}
 use Rattle.ml_text.specs.NameLists.{with_name, with_names}
 use Rattle.ml_text.specs.Names.{Kind, Proposition, Variable, Action, KindedName, AreShort, are_spelled, is_spelled_as, is_spelled_name, of_kind}
-use Rattle.ml_text.specs.Signs.{OwnSigns, is_action, is_proposition, is_reserved, is_upper_word}
+use Rattle.ml_text.specs.Signs.{OwnSigns, is_proposition, is_reserved, is_upper_word}
+use Rattle.ml_text.specs.SignKinds.{is_action}
 use Rattle.ml_text.proofs.FirstLetters.{upper_letters}
 use Rattle.ml_text.proofs.FreeWords.{of_action, proposition_letters}
 use Rattle.ml_text.proofs.Names.{of_kind_all}

@@ -58,12 +58,11 @@ pub record Forms (P : Type 0) : Type 0 where
 -- ---- what is reached
 
 abbrev pub children : {P : Type 0} → Form P → List P
-children (Constant b) = []
-children (Literal name sign) = []
 children (And l r) = l ∷ r ∷ []
 children (Or l r) = l ∷ r ∷ []
 children (Diamond p) = p ∷ []
 children (Square p) = p ∷ []
+children _ = []
 
 pub data IsReached {P : Type 0} (F : Forms P) (root : P) : P → Type 0 where
   at_root : IsReached F root root

@@ -1,6 +1,7 @@
 // The lists of which a graph is made.
 ghost use Rattle.std.specs.Prelude.{◌≡◌, ◌<◌, ◌^◌, if◌then◌else◌, length, IfOk};
-ghost use Rattle.ml_graph.specs.Graph.{IsGraph, graph_of};
+ghost use Rattle.ml_graph.specs.Graph.{IsGraph};
+ghost use Rattle.ml_graph.specs.Building.{graph_of};
 
 use crate::draft::Draft;
 use crate::names::Names;

@@ -6,7 +6,7 @@
 use Rattle.std.proofs.Common.{ℕ, ◌≡◌, ◌+◌, ◌-◌, ◌<◌, ◌≤◌, ◌⊎◌, inl, inr, ⊎_elim, arith, subst, sym, ap, ◌∙◌, refl, lt-ltb}
 use Rattle.std.proofs.lemmas.Bool.{cases_lt}
 use borrow.Author.Tests.{ltb-true}
-use Rattle.ml_lists.specs.Search.{Found}
+use Rattle.ml_lists.specs.Found.{Found}
 use Rattle.ml_lists.proofs.Search.{search}
 use Rattle.ml_lists.proofs.Loops.{around, loop_is_flat}
 use Rattle.ml_parity.specs.declared.players.Player.{Player}

@@ -12,7 +12,7 @@
 --   solution_wins   == a choice that agrees with a solution of the board wins each vertex for its winner
 use Rattle.std.proofs.Common.{ℕ, ◌≡◌, ◌+◌, ◌-◌, ◌<◌, ◌≤◌, Bool, ◌⊎◌, inl, inr, arith, subst, subst₂, sym, ap, ◌∙◌, length, get_or, ltb, lt-ltb}
 use Rattle.std.proofs.lemmas.List.{get_or_default}
-use Rattle.ml_lists.specs.Search.{Found}
+use Rattle.ml_lists.specs.Found.{Found}
 use Rattle.ml_lists.specs.Lasso.{Lasso, entry, round, lowest_on_loop}
 use Rattle.ml_lists.proofs.Search.{search}
 use Rattle.ml_lists.proofs.Lasso.{round-entry, on_loop-entry, on_loop, loop_length, loop_closed, lasso_keeps, lowest_on_loop_is, lasso_of, lasso_of-length, lasso_of-entry}

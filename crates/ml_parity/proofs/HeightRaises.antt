@@ -16,7 +16,7 @@ use Rattle.std.proofs.lemmas.List.Sums.{sum_by-set}
 use Rattle.ml_parity.specs.declared.one_sided.graph.Arc.{Arc}
 use Rattle.ml_parity.specs.declared.one_sided.search.Pass.{Pass}
 use Rattle.ml_parity.specs.declared.one_sided.search.Pass.TheVariants.{Stays, Raised}
-use Rattle.ml_parity.specs.Heights.{OneSidedGraph, IsOneSided, count_at, Attained}
+use Rattle.ml_parity.specs.OneSided.{OneSidedGraph, IsOneSided, count_at, Attained}
 use Rattle.ml_parity.specs.private.HeightSteps.{Settled, SettledAlong, LoopAt, AreAttained, IsColumn, IsPass, RaisesAlong, number_at, room}
 use Rattle.ml_parity.proofs.HeightWalks.{attained_more, attained_loop, walk_keeps}
 

@@ -11,7 +11,8 @@ use Rattle.std.proofs.lemmas.Bool.{cases_eq}
 use Rattle.std.proofs.lemmas.List.{get_or_default, length-map}
 use Rattle.std.specs.Global.{Vec}
 use Rattle.ml_parity.specs.declared.one_sided.graph.Arc.{Arc}
-use Rattle.ml_parity.specs.Heights.{OneSidedGraph, IsOneSided, HasShape, FallsAlong}
+use Rattle.ml_parity.specs.Heights.{FallsAlong}
+use Rattle.ml_parity.specs.OneSided.{OneSidedGraph, IsOneSided, HasShape}
 use Rattle.ml_parity.specs.HeightLists.{RowsFall}
 use Rattle.ml_parity.specs.Refusal.{lists_of}
 use Rattle.ml_parity.proofs.Refusals.{lists_of-at}

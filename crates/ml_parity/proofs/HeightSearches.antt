@@ -16,7 +16,7 @@ use Rattle.std.proofs.lemmas.Bool.{cases_eq, cases_lt, false≢true}
 use Rattle.std.proofs.lemmas.List.{get_or_append_left, get_or_push, length-append, length-replicate}
 use Rattle.std.proofs.lemmas.List.Elements.{All-contains, All-push, All-nil}
 use Rattle.ml_parity.specs.declared.one_sided.graph.Arc.{Arc}
-use Rattle.ml_parity.specs.Heights.{OneSidedGraph, IsWalk, count_at, IsEvenCycle}
+use Rattle.ml_parity.specs.OneSided.{OneSidedGraph, IsWalk, count_at, IsEvenCycle}
 use Rattle.ml_parity.specs.private.HeightSteps.{LoopAt, Comes, Chain, IsWay, IsHigh, IsSearch, FoundAlong, FindsAlong, IsSpread, missing}
 use Rattle.ml_parity.specs.private.SinkGame.{flag_at}
 use Rattle.ml_parity.proofs.HeightRaises.{ArcEnds}

@@ -14,7 +14,8 @@ use Rattle.std.proofs.lemmas.Bool.{cases_eq, cases_lt}
 use Rattle.std.proofs.lemmas.List.{get_or_default, get_or_past, get_or-map, length-map, length-append, get_or_append_left, get_or_push, map-set}
 use Rattle.std.specs.Global.{Vec}
 use Rattle.ml_parity.specs.declared.one_sided.graph.Arc.{Arc}
-use Rattle.ml_parity.specs.Heights.{OneSidedGraph, IsOneSided, count_at, Attained, IsMost, IsEvenCycle, AreHeights, AreLongest, FallsAlong, AtMost, height_of}
+use Rattle.ml_parity.specs.Heights.{FallsAlong, height_of}
+use Rattle.ml_parity.specs.OneSided.{OneSidedGraph, IsOneSided, count_at, Attained, IsMost, IsEvenCycle, AreHeights, AreLongest, AtMost}
 use Rattle.ml_parity.specs.private.HeightSteps.{Settled, SettledAlong, LoopAt, IsColumn, AreLongestBelow, IsAppended}
 use Rattle.ml_parity.specs.Refusal.{lists_of}
 use Rattle.ml_parity.proofs.HeightRaises.{written}

@@ -20,7 +20,7 @@ use Rattle.std.proofs.lemmas.List.Elements.{All-contains}
 use Rattle.ml_lists.proofs.Pigeons.{pigeons_list, TwiceInList}
 use Rattle.ml_parity.specs.declared.one_sided.graph.Arc.{Arc}
 use Rattle.ml_parity.specs.private.HeightSteps.{Settled, SettledAlong, LoopAt}
-use Rattle.ml_parity.specs.Heights.{OneSidedGraph, IsOneSided, IsWalk, count_at, IsEvenCycle, Attained}
+use Rattle.ml_parity.specs.OneSided.{OneSidedGraph, IsOneSided, IsWalk, count_at, IsEvenCycle, Attained}
 
 -- a walk, and a walk from where it ends
 pub walk_join : (g : OneSidedGraph) (p v u w : ℕ) (xs ys : List Arc) → IsWalk g p v xs u → IsWalk g p u ys w

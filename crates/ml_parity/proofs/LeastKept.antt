@@ -8,7 +8,7 @@
 --   least_kept              == where i holds a move from t, the solution of the first game serves with t live
 use Rattle.std.proofs.Common.{ℕ, ◌≡◌, ◌<◌, ◌≤◌, Bool, true, false, ◌⊎◌, inl, inr, subst, sym, ap, ◌∙◌, refl}
 use Rattle.std.proofs.lemmas.Bool.{cases_eq}
-use Rattle.ml_lists.specs.Search.{Found}
+use Rattle.ml_lists.specs.Found.{Found}
 use Rattle.ml_lists.specs.Update.{update}
 use Rattle.ml_lists.proofs.Search.{search}
 use Rattle.ml_lists.proofs.Update.{update-same, update-other}

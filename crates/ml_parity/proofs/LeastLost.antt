@@ -12,7 +12,7 @@
 --   least_lost               == where j holds a move from t, both solutions together serve with t live
 use Rattle.std.proofs.Common.{ℕ, ◌≡◌, ◌+◌, ◌<◌, ◌≤◌, Bool, true, false, cond, ◌⊎◌, inl, inr, ⊎_elim, arith, subst, sym, ap, ◌∙◌, refl}
 use Rattle.std.proofs.lemmas.Bool.{cases_eq, cond-true, cond-false, cond_both}
-use Rattle.ml_lists.specs.Search.{Found}
+use Rattle.ml_lists.specs.Found.{Found}
 use Rattle.ml_lists.specs.Update.{update}
 use Rattle.ml_lists.proofs.Search.{search}
 use Rattle.ml_lists.proofs.Update.{update-same, update-other}

@@ -11,7 +11,7 @@ use Rattle.std.proofs.lemmas.List.{get_or_default}
 use Rattle.std.proofs.lemmas.List.Sums.{sum_by-cons}
 use Rattle.std.specs.List.{count_by, Contains}
 use Rattle.std.proofs.Math.Path.{fun_ext}
-use Rattle.ml_lists.specs.Search.{Found}
+use Rattle.ml_lists.specs.Found.{Found}
 use Rattle.ml_parity.specs.private.Parts.{part}
 use Rattle.ml_parity.specs.private.SolverSteps.{times}
 

@@ -11,7 +11,7 @@
 --   solution      == every game with finitely many live vertices has a solution
 use Rattle.std.proofs.Common.{ℕ, zero, suc, ◌≡◌, ◌<◌, ◌≤◌, Bool, true, false, ◌⊎◌, inl, inr, ⊎_elim, arith, subst, sym, ◌∙◌, refl}
 use Rattle.std.proofs.lemmas.Bool.{cond_both}
-use Rattle.ml_lists.specs.Search.{Least}
+use Rattle.ml_lists.specs.Found.{Least}
 use Rattle.ml_lists.specs.Update.{update}
 use Rattle.ml_lists.specs.Counting.{count}
 use Rattle.ml_lists.proofs.Search.{search_least}

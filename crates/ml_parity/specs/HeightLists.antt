@@ -6,7 +6,7 @@
 use Rattle.std.specs.Prelude.{ℕ, ◌≡◌, ◌/◌, ◌%◌, ◌<◌, ◌≤◌, List, map, get_or}
 use Rattle.std.specs.Global.{Vec}
 use Rattle.ml_parity.specs.declared.one_sided.graph.Arc.{Arc}
-use Rattle.ml_parity.specs.Heights.{OneSidedGraph}
+use Rattle.ml_parity.specs.OneSided.{OneSidedGraph}
 
 -- the graph that these values hold
 abbrev pub graph_of : ℕ → ℕ → Vec Arc → OneSidedGraph

@@ -2,10 +2,12 @@
 pub mod Game
 -- what the values of the program for heights stand for
 pub mod HeightLists
--- one-sided graphs, walks in them, and heights
+-- heights, and that they fall along an arc
 pub mod Heights
 -- the determinacy law
 pub mod Law
+-- one-sided graphs, walks in them, and which numbers are heights
+pub mod OneSided
 -- the two players
 pub mod Player
 -- which lists are no parity game

@@ -14,7 +14,8 @@ use Rattle.ml_text.proofs.TableItems.{IsShort, short_word, opening, opens_spelt}
 use Rattle.ml_text.proofs.Scans.{Spelt, spelt_at}
 use Rattle.ml_text.proofs.AcceptedTexts.{weight_some}
 use Rattle.ml_pdl.specs.Formula as plain
-use Rattle.ml_pdl.specs.Formula.{Formula, Program, names, program_names, occurrences, program_occurrences}
+use Rattle.ml_pdl.specs.Formula.{Formula, Program, occurrences, program_occurrences}
+use Rattle.ml_pdl.specs.FormulaNames.{names, program_names}
 use Rattle.ml_pdl.specs.declared.term.Modality.{Modality}
 use Rattle.ml_pdl.specs.declared.term.Modality.TheVariants.{Diamond, Square}
 use Rattle.ml_pdl.specs.Marks.{is_test_behind, with_mark}

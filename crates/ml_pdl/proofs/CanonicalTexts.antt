@@ -30,7 +30,8 @@ use Rattle.ml_text.proofs.Scans.{Spelt, spelt_at, Scans, ends, scans_tokens}
 use Rattle.ml_text.proofs.FreeWords.{proposition_letters}
 use Rattle.ml_text.proofs.Names.{spelled_parts}
 use Rattle.ml_pdl.specs.Formula as plain
-use Rattle.ml_pdl.specs.Formula.{Formula, Program, names, program_names}
+use Rattle.ml_pdl.specs.Formula.{Formula, Program}
+use Rattle.ml_pdl.specs.FormulaNames.{names, program_names}
 use Rattle.ml_pdl.specs.declared.term.Modality.{Modality}
 use Rattle.ml_pdl.specs.declared.term.Modality.TheVariants.{Diamond, Square}
 use Rattle.ml_pdl.specs.Canonical.{whole_program, modality_text, canonical_text, program_text}
@@ -40,12 +41,14 @@ use Rattle.ml_pdl.specs.Signs.{Sign, own as added, sign_of, action_of}
 use Rattle.ml_pdl.specs.declared.signs.Own.TheVariants.{Begins, Ends, Repeats, Question, Paren}
 use Rattle.ml_pdl.specs.declared.signs.Mark.{Mark}
 use Rattle.ml_pdl.specs.declared.signs.Mark.TheVariants.{Marked}
-use Rattle.ml_pdl.specs.Marks.{asks, is_test_behind, mark_of, with_mark, marked}
+use Rattle.ml_pdl.specs.Marks.{asks, is_test_behind, mark_of, with_mark}
+use Rattle.ml_pdl.specs.MarkLaws.{marked}
 use Rattle.ml_pdl.specs.Spelling.{is_action, is_proposition, is_reserved, is_spelled, program_is_spelled}
 use Rattle.ml_pdl.specs.Grammar as grammar
 use Rattle.ml_pdl.specs.Grammar.{Reads, iff_alone, iff, imp_alone, imp, or_alone, or, and, negation, modal, modal_blank, repetition, group, constant}
 use Rattle.ml_pdl.specs.Grammar.{proposition, ReadsProgram, alt_alone, alt, seq_alone, seq, star_alone, star, action, test, program_group, tested_group}
-use Rattle.ml_pdl.specs.Text.{items, sign_by, IsTextOf}
+use Rattle.ml_pdl.specs.Text.{items, sign_by}
+use Rattle.ml_pdl.specs.TextLaws.{IsTextOf}
 use Rattle.ml_pdl.proofs.FromTables.{un_raised}
 use Rattle.ml_pdl.proofs.MarkBytes.{neutral_test, neutral_word, weaker}
 use Rattle.ml_pdl.proofs.MarkedTexts.{marks_are_of_texts}

@@ -9,7 +9,8 @@ use Rattle.ml_text.specs.declared.token.Placed.{Placed}
 use Rattle.ml_text.specs.Refusals.{Item, signs_of, counted}
 use Rattle.ml_text.specs.Items as text_items
 use Rattle.ml_pdl.specs.Formula as plain
-use Rattle.ml_pdl.specs.Formula.{Formula, Program, names, program_names, occurrences, program_occurrences}
+use Rattle.ml_pdl.specs.Formula.{Formula, Program, occurrences, program_occurrences}
+use Rattle.ml_pdl.specs.FormulaNames.{names, program_names}
 use Rattle.ml_text.specs.declared.named_signs.Sign.TheVariants.{Lower, Upper, Added}
 use Rattle.ml_pdl.specs.Signs.{Sign, action_of}
 use Rattle.ml_pdl.specs.declared.signs.Own.TheVariants.{Blank}
@@ -17,7 +18,8 @@ use Rattle.ml_pdl.specs.Grammar as grammar
 use Rattle.ml_pdl.specs.Grammar.{Reads, iff_alone, iff, imp_alone, imp, or_alone, or, and_alone, and, negation, modal, modal_blank, repetition}
 use Rattle.ml_pdl.specs.Grammar.{group, constant, proposition, ReadsProgram, alt_alone, alt, seq_alone, seq, star_alone, star, action, test}
 use Rattle.ml_pdl.specs.Grammar.{program_group, ReadsTested, tested_negation, tested_constant, tested_proposition, tested_group}
-use Rattle.ml_pdl.specs.Text.{weight_of, begins_modality, pdl_signs, sign_at, items_from}
+use Rattle.ml_pdl.specs.Text.{weight_of, begins_modality, pdl_signs, sign_at}
+use Rattle.ml_pdl.specs.TextLaws.{items_from}
 
 abbrev pub count_signs : Bool → List Sign → ℕ
 count_signs b [] = 0

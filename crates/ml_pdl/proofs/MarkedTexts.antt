@@ -9,8 +9,9 @@ use Rattle.ml_text.specs.declared.token.Placed.{Placed}
 use Rattle.ml_text.specs.Refusals.{signs_of}
 use Rattle.ml_text.specs.Tokens.{tokens, tokens_from}
 use Rattle.ml_text.proofs.Scan.{tokens_from-end, tokens_from-blank, tokens_from-token, front_token-within, front_at, placed}
-use Rattle.ml_pdl.specs.Marks.{marked}
-use Rattle.ml_pdl.specs.Text.{items_from, sign_by, sign_at, begins_modality, MarksAreOfTexts}
+use Rattle.ml_pdl.specs.MarkLaws.{marked}
+use Rattle.ml_pdl.specs.Text.{sign_by, sign_at, begins_modality}
+use Rattle.ml_pdl.specs.TextLaws.{items_from, MarksAreOfTexts}
 
 abbrev AreMarked : List ℕ → Bool → List Placed → Type 0
 AreMarked text b ps = signs_of (items_from text b ps) ≡ marked (map (sign_by text) ps)

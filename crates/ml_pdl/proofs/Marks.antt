@@ -5,7 +5,8 @@ use Rattle.std.proofs.Common.{◌≡◌, ℕ, zero, suc, true, List, [], ◌∷�
 use Rattle.ml_text.specs.declared.named_signs.Sign.TheVariants.{Close, Open, Added}
 use Rattle.ml_pdl.specs.Signs.{Sign}
 use Rattle.ml_pdl.specs.declared.signs.Own.TheVariants.{Question}
-use Rattle.ml_pdl.specs.Marks.{open_behind, asks, is_test_behind, MarksAreOfTests}
+use Rattle.ml_pdl.specs.Marks.{asks, is_test_behind}
+use Rattle.ml_pdl.specs.MarkLaws.{open_behind, MarksAreOfTests}
 
 -- where n further parentheses are open
 abbrev pub TestBehind : ℕ → List Sign → Type 0

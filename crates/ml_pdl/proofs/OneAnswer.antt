@@ -8,7 +8,8 @@ use Rattle.ml_text.proofs.OneAnswer as answer
 use Rattle.ml_pdl.specs.Grammar.{IsReadAs}
 use Rattle.ml_pdl.specs.Parsing.{IsParsedAs, IsRefusedBy}
 use Rattle.ml_pdl.specs.Tables.{formula_of}
-use Rattle.ml_pdl.specs.Text.{IsTextOf, items}
+use Rattle.ml_pdl.specs.Text.{items}
+use Rattle.ml_pdl.specs.TextLaws.{IsTextOf}
 use Rattle.ml_pdl.proofs.Parsed.{pdl_outcome, found_parsed, comes_first}
 use Rattle.ml_pdl.proofs.PdlGrammar.{one_formula}
 

@@ -12,13 +12,14 @@ use Rattle.ml_text.specs.Tokens.{tokens}
 use Rattle.ml_text.specs.Refusals.{NameTooLong, IsAccepted}
 use Rattle.ml_text.specs.Items.{bytes_of}
 use Rattle.ml_text.specs.Names.{Action, KindedName, IsShortName}
-use Rattle.ml_text.specs.Signs.{HasShortName}
+use Rattle.ml_text.specs.SignKinds.{HasShortName}
 use Rattle.ml_text.specs.declared.named_signs.Sign.TheVariants.{Open, Lower, Upper, Added}
 use Rattle.ml_text.proofs.Cover.{are_tokens}
 use Rattle.ml_text.proofs.NamedSigns.{IsSpelledSign, short_name, spelled_sign}
 use Rattle.ml_text.proofs.Names.{Bears, IsSpelledName, all_both, bears_short, bears_spelled, spelled_all}
 use Rattle.ml_text.proofs.TableItems.{signs_all, signs_short}
-use Rattle.ml_pdl.specs.Formula.{Formula, Program, names, program_names}
+use Rattle.ml_pdl.specs.Formula.{Formula, Program}
+use Rattle.ml_pdl.specs.FormulaNames.{names, program_names}
 use Rattle.ml_pdl.specs.Grammar as grammar
 use Rattle.ml_pdl.specs.Grammar.{IsReadAs, Reads, iff_alone, iff, imp_alone, imp, or_alone, or, and_alone, and, negation, modal, modal_blank}
 use Rattle.ml_pdl.specs.Grammar.{repetition, group, constant, proposition, ReadsProgram, alt_alone, alt, seq_alone, seq, star_alone, star, action}

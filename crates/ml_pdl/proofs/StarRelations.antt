@@ -11,7 +11,7 @@ use Rattle.std.proofs.lemmas.Bool.{false≢true, or_cases, or_left, or_right, eq
 use Rattle.std.proofs.lemmas.List.{get_or-replicate}
 use Rattle.ml_lists.specs.Growing.{Grows, Stable}
 use Rattle.ml_lists.specs.Iterate.{iterate}
-use Rattle.ml_lists.specs.Search.{Found}
+use Rattle.ml_lists.specs.Found.{Found}
 use Rattle.ml_lists.proofs.Growing.{stable_soon}
 use Rattle.ml_base.specs.Structure.{Structure, StateSet, is_member, everywhere}
 use Rattle.ml_base.proofs.StateSets.{member_where}

@@ -20,7 +20,7 @@ use Rattle.ml_pdl.specs.declared.term.Modality.TheVariants.{Diamond, Square}
 use Rattle.ml_text.specs.declared.named_signs.Sign.TheVariants.{Open, Not, Connective, Const, Close, Lower, Upper, Added}
 use Rattle.ml_pdl.specs.Signs.{Sign}
 use Rattle.ml_pdl.specs.declared.signs.Own.TheVariants.{Begins, Ends, Plus, Semicolon, Star, Question, Blank}
-use Rattle.ml_pdl.specs.Marks.{marked}
+use Rattle.ml_pdl.specs.MarkLaws.{marked}
 use Rattle.ml_pdl.specs.Tables.{Phrase, OfFormula, pdl_grammar}
 
 abbrev items_from : ℕ → List Sign → List (Item Sign)

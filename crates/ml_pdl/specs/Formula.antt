@@ -9,9 +9,7 @@
 --   Operator       == and, or, implies, iff (of `ml_text`, since all logics share them)
 --   Modality       == diamond (some run of the program) or square (every run), as trees have it (`src/term.rt`)
 --   occurrences f, program_occurrences p == the number of symbols, where iff counts as three and each action as one
---   names f, program_names p             == the names there, in the order of the text: propositions and actions
-use Rattle.std.specs.Prelude.{ℕ, ◌+◌, Bool, List, [], ◌∷◌, ◌++◌}
-use Rattle.ml_text.specs.Names.{KindedName, Proposition, Action}
+use Rattle.std.specs.Prelude.{ℕ, ◌+◌, Bool, List}
 use Rattle.ml_text.specs.declared.token.Operator.{Operator}
 use Rattle.ml_text.specs.Operators.{weight}
 use Rattle.ml_pdl.specs.declared.term.Modality.{Modality}
@@ -35,12 +33,11 @@ mutual
 
 abbrev mutual
   pub occurrences : Formula → ℕ
-  occurrences (Const b) = 1
-  occurrences (Prop p) = 1
   occurrences (Not f) = 1 + occurrences f
   occurrences (Binary op f g) = weight op + occurrences f + occurrences g
   occurrences (Modal m p f) = 1 + program_occurrences p + occurrences f
   occurrences (Repeat p) = 1 + program_occurrences p
+  occurrences _ = 1
 
   pub program_occurrences : Program → ℕ
   program_occurrences (Act a) = 1
@@ -48,19 +45,3 @@ abbrev mutual
   program_occurrences (Alt p q) = 1 + program_occurrences p + program_occurrences q
   program_occurrences (Star p) = 1 + program_occurrences p
   program_occurrences (Test f) = 1 + occurrences f
-
-abbrev mutual
-  pub names : Formula → List KindedName
-  names (Const b) = []
-  names (Prop p) = (Proposition, p) ∷ []
-  names (Not f) = names f
-  names (Binary op f g) = names f ++ names g
-  names (Modal m p f) = program_names p ++ names f
-  names (Repeat p) = program_names p
-
-  pub program_names : Program → List KindedName
-  program_names (Act a) = (Action, a) ∷ []
-  program_names (Seq p q) = program_names p ++ program_names q
-  program_names (Alt p q) = program_names p ++ program_names q
-  program_names (Star p) = program_names p
-  program_names (Test f) = names f

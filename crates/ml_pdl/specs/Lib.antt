@@ -1,5 +1,9 @@
 -- formulas and programs
 pub mod Formula
+-- the names that stand in a formula or a program
+pub mod FormulaNames
+-- that marks are those of tests
+pub mod MarkLaws
 -- what formulas and programs mean
 pub mod Meaning
 -- problems
@@ -10,6 +14,8 @@ pub mod Laws
 pub mod Term
 -- which words are propositions and actions
 pub mod Spelling
+-- texts by their items
+pub mod TextLaws
 -- the formulas that the program holds
 pub mod WellFormed
 -- the signs of texts

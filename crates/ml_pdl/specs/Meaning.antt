@@ -8,7 +8,6 @@
 -- of "a run leads into what we have", from the set of all states.
 --
 --   Relation              == a relation between states
---   truth_of op a b       == the truth table of a connective
 --   has_edge m a          == an edge by the action a leads from the one state to the other
 --   identity              == the relation of each state to itself
 --   either r q            == one of two relations
@@ -22,8 +21,7 @@ use Rattle.std.specs.Prelude.{ℕ, ◌==◌, Bool, ◌&&◌, ◌||◌, not, List
 use Rattle.std.specs.List.{list_any, list_all, range_with_len}
 use Rattle.std.specs.Str.{bytes_eq}
 use Rattle.ml_lists.specs.Iterate.{iterate}
-use Rattle.ml_text.specs.declared.token.Operator.{Operator}
-use Rattle.ml_text.specs.declared.token.Operator.TheVariants as operator
+pub use Rattle.ml_text.specs.Operators.{truth_of}
 use Rattle.ml_base.specs.Structure.{Structure, StateSet, lists, is_member, states_where, everywhere}
 use Rattle.ml_pdl.specs.Formula.{Formula, Const, Prop, Not, Binary, Modal, Repeat, Program, Act, Seq, Alt, Star, Test}
 use Rattle.ml_pdl.specs.declared.term.Modality.{Modality}
@@ -31,12 +29,6 @@ use Rattle.ml_pdl.specs.declared.term.Modality.TheVariants.{Diamond, Square}
 
 abbrev pub Relation : Type 0
 Relation = ℕ → ℕ → Bool
-
-abbrev pub truth_of : Operator → Bool → Bool → Bool
-truth_of operator.And a b = a && b
-truth_of operator.Or a b = a || b
-truth_of operator.Implies a b = not a || b
-truth_of operator.Iff a b = (not a || b) && (not b || a)
 
 abbrev pub has_edge : Structure → List ℕ → Relation
 has_edge m a s t = list_any (λ e. (e.source == s) && bytes_eq e.action a && (e.target == t)) m.edges

@@ -8,7 +8,7 @@ use Rattle.ml_pdl.specs.Canonical.{canonical_text}
 use Rattle.ml_pdl.specs.Formula.{Formula}
 use Rattle.ml_pdl.specs.Parsing.{IsParsedAs}
 use Rattle.ml_pdl.specs.Spelling.{is_spelled}
-use Rattle.ml_pdl.specs.Text.{IsTextOf}
+use Rattle.ml_pdl.specs.TextLaws.{IsTextOf}
 use Rattle.ml_pdl.specs.WellFormed.{IsWellFormed}
 
 -- the canonical text of a formula whose names are spelled as they must be stands for it, and for no other

@@ -10,9 +10,11 @@
 --   HasShortNames f, ProgramHasShortNames p  == no name there has more bytes than a name may have
 use Rattle.std.specs.Prelude.{ℕ, Bool, List}
 use Rattle.ml_text.specs.Names.{AreShort, are_spelled}
+use Rattle.ml_text.specs.SignKinds as kinds
 use Rattle.ml_text.specs.Signs as signs
 use Rattle.ml_pdl.specs.Signs.{own}
-use Rattle.ml_pdl.specs.Formula.{Formula, Program, names, program_names}
+use Rattle.ml_pdl.specs.Formula.{Formula, Program}
+use Rattle.ml_pdl.specs.FormulaNames.{names, program_names}
 
 abbrev pub is_reserved : List ℕ → Bool
 is_reserved name = signs.is_reserved own name
@@ -21,7 +23,7 @@ abbrev pub is_proposition : List ℕ → Bool
 is_proposition name = signs.is_proposition own name
 
 abbrev pub is_action : List ℕ → Bool
-is_action name = signs.is_action own name
+is_action name = kinds.is_action own name
 
 abbrev pub is_spelled : Formula → Bool
 is_spelled f = are_spelled own (names f)

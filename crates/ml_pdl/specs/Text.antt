@@ -11,23 +11,19 @@
 --   sign_at text p       == the sign that a token of the text is: a `(` with its mark
 --   pdl_signs            == the signs of PDL texts; the context of a sign is whether it stands directly behind `<` or `[`
 --   items text           == the items of a text
---   IsTextOf text f      == the text is one of f by the grammar
---   MarksAreOfTexts      == the law that the signs of a text are those of its tokens, marked as `Marks.antt` says
-use Rattle.std.specs.Prelude.{ℕ, ◌≡◌, Bool, true, false, List, map}
+use Rattle.std.specs.Prelude.{ℕ, Bool, true, false, List, map}
 use Rattle.ml_text.specs.declared.token.WordStart.TheVariants.{AnyLetter}
 use Rattle.ml_text.specs.declared.token.Placed.{Placed}
-use Rattle.ml_text.specs.Tokens.{tokens, tokens_from}
+use Rattle.ml_text.specs.Tokens.{tokens_from}
 use Rattle.ml_text.specs.Items as text_items
 use Rattle.ml_text.specs.Items.{SignTable, bytes_of}
-use Rattle.ml_text.specs.Refusals.{Item, signs_of}
+use Rattle.ml_text.specs.Refusals.{Item}
 use Rattle.ml_text.specs.Signs.{bracket_of}
 use Rattle.ml_text.specs.Operators.{weight}
-use Rattle.ml_pdl.specs.Formula.{Formula}
 use Rattle.ml_text.specs.declared.named_signs.Sign.TheVariants.{Connective, Open, Close, Unknown, Added}
 use Rattle.ml_pdl.specs.Signs.{Sign, own, sign_of}
 use Rattle.ml_pdl.specs.declared.signs.Own.TheVariants.{Begins, Ends, Paren}
-use Rattle.ml_pdl.specs.Marks.{is_test_behind, marked, with_mark}
-use Rattle.ml_pdl.specs.Grammar.{IsReadAs}
+use Rattle.ml_pdl.specs.Marks.{is_test_behind, with_mark}
 
 abbrev pub end_weight : Bool → ℕ
 end_weight true = 1
@@ -66,14 +62,5 @@ pdl_signs = record {
   is_noted = λ b s. false;
 }
 
-abbrev pub items_from : List ℕ → Bool → List Placed → List (Item Sign)
-items_from text b ps = text_items.items_from pdl_signs text b ps
-
 abbrev pub items : List ℕ → List (Item Sign)
 items text = text_items.items pdl_signs text
-
-abbrev pub IsTextOf : List ℕ → Formula → Type 0
-IsTextOf text f = IsReadAs (signs_of (items text)) f
-
-abbrev pub MarksAreOfTexts : Type 0
-MarksAreOfTexts = (text : List ℕ) → signs_of (items text) ≡ marked (map (sign_by text) (tokens AnyLetter text))

@@ -5,10 +5,10 @@ ghost use Rattle.ml_text.specs.Grammar.{IsRegular, IsCompletable, StandsFor};
 ghost use Rattle.ml_pdl.specs.Formula.{Formula};
 ghost use Rattle.ml_pdl.specs.Signs.{Sign};
 ghost use Rattle.ml_pdl.specs.Grammar.{IsReadAs};
-ghost use Rattle.ml_pdl.specs.Marks.{MarksAreOfTests};
+ghost use Rattle.ml_pdl.specs.MarkLaws.{MarksAreOfTests};
 ghost use Rattle.ml_pdl.specs.Parsing.{IsParsedAs, IsRefusedBy};
 ghost use Rattle.ml_pdl.specs.ParsingLaws.{CanonicalIsParsed, CanonicalStandsForOne, ParsedAreWellFormed};
-ghost use Rattle.ml_pdl.specs.Text.{IsTextOf, MarksAreOfTexts};
+ghost use Rattle.ml_pdl.specs.TextLaws.{IsTextOf, MarksAreOfTexts};
 ghost use Rattle.ml_pdl.specs.Laws.{StarsAreLeast, RepetitionsAreGreatest};
 ghost use Rattle.ml_pdl.specs.Tables.{Phrase, OfFormula, pdl_grammar};
 

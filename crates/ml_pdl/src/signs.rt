@@ -1,7 +1,7 @@
 // The signs of PDL texts: what PDL adds to those that all logics have.
 ghost use Rattle.std.specs.Prelude.{◌≡◌, ℕ, ◌≤◌, List};
 ghost use Rattle.ml_text.specs.Operators as operators;
-ghost use Rattle.ml_text.specs.Signs.{named};
+ghost use Rattle.ml_text.specs.SignKinds.{named};
 ghost use Rattle.ml_pdl.specs.Marks.{mark_of, with_mark};
 ghost use Rattle.ml_pdl.specs.Text.{begins_modality, weight_of};
 

@@ -11,7 +11,8 @@ use Rattle.ml_text.specs.NameLists.{place_of}
 use Rattle.ml_text.specs.Names.{Proposition, Action, of_kind}
 use Rattle.ml_text.proofs.NameLists.{distinct_names, place_found}
 use Rattle.ml_text.proofs.Names.{AreAmong, among_parts, names_among}
-use Rattle.ml_pdl.specs.Formula.{Formula, Const, Prop, Not, Binary, Modal, Repeat, Program, Act, Seq, Alt, Star, Test, names, program_names, occurrences, program_occurrences}
+use Rattle.ml_pdl.specs.Formula.{Formula, Const, Prop, Not, Binary, Modal, Repeat, Program, Act, Seq, Alt, Star, Test, occurrences, program_occurrences}
+use Rattle.ml_pdl.specs.FormulaNames.{names, program_names}
 use Rattle.ml_pdl.specs.declared.term.Modality.{Modality}
 use Rattle.ml_pdl.specs.declared.term.Modality.TheVariants.{Diamond, Square}
 use Rattle.ml_nodes.specs.Nodes.{lead_to, negative, positive}

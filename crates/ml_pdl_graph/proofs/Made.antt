@@ -4,7 +4,8 @@
 use Rattle.std.proofs.Common.{◌≡◌, Bool, [], length, sym, ◌∙◌, ap, subst, if◌then◌else◌}
 use Rattle.ml_graph.specs.Graph.{Graph}
 use Rattle.ml_text.proofs.Names.{names_among}
-use Rattle.ml_pdl.specs.Formula.{Formula, names}
+use Rattle.ml_pdl.specs.Formula.{Formula}
+use Rattle.ml_pdl.specs.FormulaNames.{names}
 use Rattle.ml_pdl_graph.specs.PdlGraph.{IsGraphOf}
 use Rattle.ml_pdl_graph.specs.private.NodeList.{props_onto, actions_onto, nodes_of, priorities_of}
 use Rattle.ml_nodes.proofs.StandingLists.{all_stand}

@@ -23,7 +23,7 @@ use Rattle.ml_trace.specs.declared.letters.Transition.{Transition}
 use Rattle.ml_trace.specs.declared.marks.Mark.{Mark}
 use Rattle.ml_trace.specs.declared.marks.Mark.TheVariants.{Red, Green, Neutral}
 use Rattle.ml_trace.specs.Automaton.{states_per_node}
-use Rattle.ml_trace.specs.Marks.{FitsBelow}
+use Rattle.ml_trace.specs.MarkOrder.{FitsBelow}
 use Rattle.ml_trace.specs.NamesCondition.{NamesCondition, bound}
 use Rattle.ml_trace.specs.Run.{in_letter}
 use Rattle.ml_trace.specs.Stack.{Item}

@@ -20,7 +20,8 @@ use Rattle.ml_trace.specs.declared.letters.Triple.{Triple}
 use Rattle.ml_trace.specs.Automaton.{number, IsState, IsGuess, Leads, Gives}
 use Rattle.ml_trace.specs.Stack.{Item}
 use Rattle.ml_history.specs.CycleLaws.{HasState, IsLedTo}
-use Rattle.ml_history.specs.History.{IsHistory, start}
+use Rattle.ml_history.specs.History.{IsHistory}
+use Rattle.ml_history.specs.HistoryStep.{start}
 use Rattle.ml_history.specs.HistoryStep.{stepped}
 use Rattle.ml_history.proofs.definition.StepKeeps.{start-is, step_is_history}
 use Rattle.ml_history.proofs.definition.SteppedStates.{steps_follow_letters}

@@ -11,7 +11,8 @@ use Rattle.ml_graph.specs.Graph.{Graph, IsGraph, size, node_at, odd_priorities}
 use Rattle.ml_graph.specs.declared.node.Node.TheVariants as node
 use Rattle.ml_graph.proofs.References.{root_in_range, diamond_target, square_target}
 use Rattle.ml_trace.specs.declared.letters.Triple.{Triple}
-use Rattle.ml_trace.specs.Automaton.{states_per_node, HasRoom, AllHaveRoom}
+use Rattle.ml_trace.specs.Automaton.{states_per_node}
+use Rattle.ml_trace.specs.AutomatonNumbers.{HasRoom, AllHaveRoom}
 use Rattle.ml_sequent.specs.Spread.{SpreadList, IsSpreadOf}
 use Rattle.ml_sequent.specs.Step.{LeadsOut, IsTrace, IsStep}
 use Rattle.ml_product.specs.Position.{Position, automaton_states, Follows}

@@ -12,7 +12,7 @@
 --   Follows g p sp d q   == the step along the diamond d, from p with the spread sp, leads to q
 use Rattle.std.specs.Prelude.{ℕ, ◌≡◌, ◌+◌, ◌*◌, List, [], ◌∷◌, None}
 use Rattle.ml_graph.specs.Graph.{Graph, size, odd_priorities}
-use Rattle.ml_history.specs.History.{start}
+use Rattle.ml_history.specs.HistoryStep.{start}
 use Rattle.ml_history.specs.HistoryStep.{stepped, step_mark}
 use Rattle.ml_sequent.specs.declared.choice.Side.{Side}
 use Rattle.ml_sequent.specs.Choice.{with_side}

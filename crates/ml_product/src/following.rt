@@ -1,7 +1,8 @@
 // The step along a diamond, with the history and the mark that it leads to.
 ghost use Rattle.std.specs.Prelude.{◌≡◌, ◌≤◌, ◌^◌, IfOk};
 ghost use Rattle.ml_graph.specs.Graph.{IsGraph};
-ghost use Rattle.ml_trace.specs.Marks.{priority, FitsBelow};
+ghost use Rattle.ml_trace.specs.Marks.{priority};
+ghost use Rattle.ml_trace.specs.MarkOrder.{FitsBelow};
 ghost use Rattle.ml_sequent.specs.Spread.{IsSpreadOf};
 ghost use Rattle.ml_sequent.specs.Step.{IsDiamondOf};
 ghost use Rattle.ml_product.specs.Position.{automaton_states, Follows};

@@ -8,7 +8,7 @@ use Rattle.std.proofs.Common.{ℕ, zero, suc, ◌≡◌, ◌<◌, ◌≤◌, ◌
 use Rattle.std.proofs.lemmas.Bool.{cases_lt}
 use Rattle.ml_lists.specs.Ascending.{IsAscending}
 use Rattle.ml_lists.specs.Member.{IsMember}
-use Rattle.ml_lists.specs.Search.{First}
+use Rattle.ml_lists.specs.Found.{First}
 use Rattle.ml_lists.proofs.Decided.{decided_less}
 use Rattle.ml_lists.proofs.Search.{search_first}
 use Rattle.ml_progress.specs.Measure.{ComesBefore}

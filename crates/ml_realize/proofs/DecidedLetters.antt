@@ -4,7 +4,7 @@
 --   decided_walks   == whether a walk from p comes to n is decided
 --   decided_leads   == so is whether p has a transition to q
 use Rattle.std.proofs.Common.{◌≡◌, ℕ, suc, ◌<◌, ◌⊎◌, ◌==◌, Bool, true, [], inl, inr, refl, sym, ◌∙◌, subst}
-use Rattle.ml_lists.specs.Search.{Found}
+use Rattle.ml_lists.specs.Found.{Found}
 use Rattle.ml_lists.proofs.Decided.{Decided, decided_both, decided_either, decided_number, decided_same}
 use Rattle.ml_lists.proofs.DecidedReach as ways
 use Rattle.ml_lists.proofs.Deciding.{decided_truth, some_below}

@@ -22,7 +22,7 @@ use Rattle.ml_trace.specs.Stack.{Item}
 use Rattle.ml_trace.specs.WordAutomata.{state_behind}
 use Rattle.ml_trace.specs.declared.letters.Transition.{Transition}
 use Rattle.ml_trace.proofs.Priorities.{priority-most}
-use Rattle.ml_history.specs.History.{start}
+use Rattle.ml_history.specs.HistoryStep.{start}
 use Rattle.ml_history.specs.HistoryOrder.{history_eq, history_eq-decides}
 use Rattle.ml_history.specs.HistoryStep.{step_mark, stepped}
 use Rattle.ml_determinise.specs.Histories.{StaysBelow, histories_of, letter_at, neutral}

@@ -13,7 +13,7 @@ use Rattle.ml_lists.proofs.Ascending.{ascending_same}
 use Rattle.ml_trace.specs.Marks.{priority}
 use Rattle.ml_trace.specs.Stack.{Item}
 use Rattle.ml_trace.specs.declared.letters.Transition.{Transition}
-use Rattle.ml_history.specs.History.{start}
+use Rattle.ml_history.specs.HistoryStep.{start}
 use Rattle.ml_history.specs.HistoryStep.{step_mark, stepped}
 use Rattle.ml_history.proofs.definition.LetterSets.{letters_are_sets}
 use Rattle.ml_determinise.specs.Histories.{histories_of, letter_at, neutral}

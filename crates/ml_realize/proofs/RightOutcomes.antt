@@ -17,7 +17,8 @@ use Rattle.ml_base.specs.Structure.{Structure}
 use Rattle.ml_blocks.specs.Laws.{QuantifiersAreDecided}
 use Rattle.ml_blocks.proofs.DecidedTruth.{truth_is_decided}
 use Rattle.ml_ctl.specs.Formula as plain
-use Rattle.ml_ctl.specs.Formula.{Formula, is_linear}
+use Rattle.ml_ctl.specs.Formula.{Formula}
+use Rattle.ml_ctl.specs.Sorts.{is_linear}
 use Rattle.ml_ctl.specs.Laws.{IsDecided}
 use Rattle.ml_determinise.specs.Histories.{IsBelow, StaysBelow, neutral}
 use Rattle.ml_determinise.specs.Numbering.{IsNumbered, automaton_of}

@@ -8,7 +8,7 @@ use Rattle.std.proofs.Common.{◌≡◌, ℕ, ◌<◌, ◌⊎◌, Bool, true, fa
 use Rattle.std.specs.List.{flat_map, range_with_len}
 use Rattle.std.proofs.lemmas.List.FromFn.{get_or-map-range_with_len, length-map-range_with_len}
 use Rattle.ml_lists.specs.Member.{IsMember}
-use Rattle.ml_lists.specs.Search.{Found}
+use Rattle.ml_lists.specs.Found.{Found}
 use Rattle.ml_lists.proofs.Decided.{Decided, decided_both, decided_either, decided_less, decided_number, decided_same}
 use Rattle.ml_lists.proofs.Deciding.{Sieved, decided_and, sieve, some_below}
 use Rattle.ml_lists.proofs.Member.{InList, member-flat_map, member-flat_map_from}

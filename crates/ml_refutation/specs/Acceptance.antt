@@ -31,7 +31,7 @@ use Rattle.ml_parity.specs.Heights.{FallsAlong}
 use Rattle.ml_trace.specs.declared.letters.AutomatonState.{AutomatonState}
 use Rattle.ml_trace.specs.declared.marks.Mark.{Mark}
 use Rattle.ml_trace.specs.Automaton.{IsState}
-use Rattle.ml_trace.specs.LabelledLoop.{EachNameStands}
+use Rattle.ml_trace.specs.NamesCondition.{EachNameStands}
 use Rattle.ml_trace.specs.Marks.{priority}
 use Rattle.ml_trace.specs.NamesCondition.{NamesCondition}
 use Rattle.ml_trace.specs.Stack as traced
@@ -63,8 +63,7 @@ pub record Branch : Type 0 where
 abbrev pub branches : List (ℕ × Side) → Decision → List Branch
 branches c (Split n left right) =
     record { choice = c; decision = Split n left right } ∷ (branches (with_side c n Left) left ++ branches (with_side c n Right) right)
-branches c (Clash x) = record { choice = c; decision = Clash x } ∷ []
-branches c (Go d f m) = record { choice = c; decision = Go d f m } ∷ []
+branches c d = record { choice = c; decision = d } ∷ []
 
 pub data Part : Type 0 where
   Sequent : Part

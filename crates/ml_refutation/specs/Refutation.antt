@@ -47,8 +47,7 @@ pub record Refutation : Type 0 where
 -- how deep splits are nested
 abbrev pub nesting : Decision → ℕ
 nesting (Split n left right) = 1 + max (nesting left) (nesting right)
-nesting (Clash x) = 0
-nesting (Go d e m) = 0
+nesting _ = 0
 
 -- ---- what every refutation keeps
 

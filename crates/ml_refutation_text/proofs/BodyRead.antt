@@ -19,7 +19,7 @@ use Rattle.ml_lines.specs.Lines.{Line, text_of}
 use Rattle.ml_lines.specs.Reading.{lines_of, left_of, words_of, fronts, is_line_end, is_blank}
 use Rattle.ml_lines.proofs.Cuts.{some_part}
 use Rattle.ml_lines.proofs.WrittenLines.{text_read}
-use Rattle.ml_lists.specs.Documents.{IsReadTo, nothing_read, line_read}
+use Rattle.ml_lists.specs.Readings.{IsReadTo, nothing_read, line_read}
 use Rattle.ml_refutation.specs.Refutation.{Refutation, Entry, Fits, IsRefutation}
 use Rattle.ml_refutation_text.specs.RefutationText.{Form, names_line, entries_line, end_line}
 use Rattle.ml_refutation_text.specs.BodyRules.{IsTextOf}

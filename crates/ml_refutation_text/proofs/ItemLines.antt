@@ -12,7 +12,7 @@ use Rattle.std.proofs.lemmas.Option.{slice_get-get_or}
 use Rattle.ml_lines.specs.Lines.{Word, Line, number}
 use Rattle.ml_lines.specs.Reading.{AreWords, IsNumber, value, words_of}
 use Rattle.ml_lists.specs.Ascending.{IsAscending}
-use Rattle.ml_lists.specs.Chains.{last_of}
+use Rattle.ml_lists.specs.Last.{last_of}
 use Rattle.ml_lists.specs.Documents.{IsFirstBroken}
 use Rattle.ml_trace.specs.declared.letters.AutomatonState.{AutomatonState}
 use Rattle.ml_trace.specs.Stack as traced

@@ -10,8 +10,8 @@ use Rattle.ml_lines.specs.Lines.{Word, Line}
 use Rattle.ml_lines.specs.Reading.{IsNumber, value, word}
 use Rattle.ml_lines.proofs.DecidedWords.{decided_line, decided_words, decided_number}
 use Rattle.ml_lists.specs.Ascending.{IsAscending}
-use Rattle.ml_lists.specs.Chains.{last_of}
-use Rattle.ml_lists.specs.Documents.{Judges}
+use Rattle.ml_lists.specs.Last.{last_of}
+use Rattle.ml_lists.specs.Readings.{Judges}
 use Rattle.ml_lists.specs.Member.{IsMember}
 use Rattle.ml_lists.proofs.Decided as is
 use Rattle.ml_lists.proofs.Decided.{Decided}

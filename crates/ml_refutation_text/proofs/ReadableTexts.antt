@@ -15,7 +15,8 @@ use Rattle.ml_lines.proofs.Fronts.{HaveWords, have_words}
 use Rattle.ml_lines.proofs.WrittenLines.{text_read}
 use Rattle.ml_refutation_text.proofs.PlainLines.{kinds_plain, place_plain}
 use Rattle.ml_lists.specs.Ascending.{IsAscending}
-use Rattle.ml_lists.specs.Documents.{IsGood, IsReadable}
+use Rattle.ml_lists.specs.Documents.{IsGood}
+use Rattle.ml_lists.specs.Readings.{IsReadable}
 use Rattle.ml_trace.specs.Stack as traced
 use Rattle.ml_trace.specs.declared.letters.AutomatonState.{AutomatonState}
 use Rattle.ml_refutation.specs.Refutation.{Refutation, Entry, Fits, AreAbove, IsStack, IsItem, IsEntry, IsRefutation}

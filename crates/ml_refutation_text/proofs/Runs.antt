@@ -4,7 +4,8 @@
 --   one_end            == behind the same lines stands one place
 --   run_readable       == where the place behind them may be the end, the lines are readable
 use Rattle.std.proofs.Common.{◌≡◌, List, [], ◌∷◌, ◌++◌, sym, subst, ◌∙◌}
-use Rattle.ml_lists.specs.Documents.{Format, IsGood, IsReadable}
+use Rattle.ml_lists.specs.Documents.{Format, IsGood}
+use Rattle.ml_lists.specs.Readings.{IsReadable}
 pub use Rattle.ml_refutation_text.specs.BodyRules.{Runs}
 
 module _ {Line Place : Type 0} (F : Format Line Place) where

@@ -16,7 +16,7 @@ use Rattle.ml_base.specs.declared.version.Version.{Version}
 use Rattle.ml_base.specs.declared.version.Version.TheVariants.{Two}
 use Rattle.ml_lines.specs.Lines.{Word, Line}
 use Rattle.ml_lists.specs.Ascending.{IsAscending}
-use Rattle.ml_lists.specs.Chains.{last_of}
+use Rattle.ml_lists.specs.Last.{last_of}
 use Rattle.ml_trace.specs.Stack as traced
 use Rattle.ml_trace.specs.declared.letters.AutomatonState.{AutomatonState}
 use Rattle.ml_refutation.specs.Refutation.{Refutation, Entry, Decision, Split, Fits, IsAbove, AreAbove, IsStack, IsItem, IsDecided, IsEntry, IsRefutation, nesting}

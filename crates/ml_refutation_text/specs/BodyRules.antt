@@ -33,8 +33,9 @@ use Rattle.ml_lines.specs.Faults.{IsFault}
 use Rattle.ml_lines.specs.Lines.{Word, Line}
 use Rattle.ml_lines.specs.Reading.{value, word, lines_of, left_of}
 use Rattle.ml_lists.specs.Ascending.{IsAscending}
-use Rattle.ml_lists.specs.Chains.{last_of}
-use Rattle.ml_lists.specs.Documents.{Format, Rule, rule, IsGood, IsReadable}
+use Rattle.ml_lists.specs.Last.{last_of}
+use Rattle.ml_lists.specs.Documents.{Format, Rule, rule, IsGood}
+use Rattle.ml_lists.specs.Readings.{IsReadable}
 use Rattle.ml_trace.specs.declared.letters.AutomatonState.{AutomatonState}
 use Rattle.ml_trace.specs.declared.marks.Mark.{Mark}
 use Rattle.ml_trace.specs.declared.marks.Mark.TheVariants.{Red, Green, Neutral}

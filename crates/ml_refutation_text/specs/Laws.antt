@@ -14,7 +14,7 @@ use Rattle.ml_base.specs.declared.version.Version.{Version}
 use Rattle.ml_refutation.specs.Refutation.{Refutation, IsRefutation}
 use Rattle.ml_refutation_text.specs.BodyRules.{IsTextOf}
 use Rattle.ml_refutation_text.specs.WrittenText.{written_text}
-use Rattle.ml_lists.specs.Documents.{NumbersRise}
+use Rattle.ml_lists.specs.Readings.{NumbersRise}
 use Rattle.ml_refutation_text.specs.BodyRules.{body, IsFaultOf, IsReadableBody}
 
 abbrev pub IsRefutationText : Version → List ℕ → Type 0

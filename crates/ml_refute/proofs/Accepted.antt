@@ -9,7 +9,8 @@ use Rattle.ml_lists.specs.Member.{IsMember}
 use Rattle.ml_lists.proofs.Member.{member-append, member-append_left, member-append_right, member-map, member-map_from, member-filter_from, member-All, Image}
 use Rattle.ml_graph.specs.Graph.{size, node_at, odd_priorities}
 use Rattle.ml_parity.specs.declared.one_sided.graph.Arc.{Arc}
-use Rattle.ml_parity.specs.Heights.{AreLongest, FallsAlong}
+use Rattle.ml_parity.specs.Heights.{FallsAlong}
+use Rattle.ml_parity.specs.OneSided.{AreLongest}
 use Rattle.ml_product.specs.Position.{Position, with_chosen}
 use Rattle.ml_product.proofs.Reached.{Facts, IsTraced}
 use Rattle.ml_refutation.specs.Acceptance.{entry_at, Branch, branches, Part, Item, Decided, parts, rules, OfSpread, IsWellStarted, StandsIn, TracesNames, heights_of, IsAccepted}
@@ -22,8 +23,9 @@ use Rattle.ml_sequent.specs.Spread.{IsOpenOr, IsCause, is_diamond}
 use Rattle.ml_sequent.specs.Step.{IsDiamondOf, IsTarget}
 use Rattle.ml_trace.specs.declared.letters.AutomatonState.{AutomatonState}
 use Rattle.ml_trace.specs.declared.marks.Mark.{Mark}
-use Rattle.ml_trace.specs.LabelledLoop.{EachNameStands}
-use Rattle.ml_trace.specs.Automaton.{state_of, IsState}
+use Rattle.ml_trace.specs.NamesCondition.{EachNameStands}
+use Rattle.ml_trace.specs.Automaton.{IsState}
+use Rattle.ml_trace.specs.AutomatonNumbers.{state_of}
 use Rattle.ml_trace.specs.NamesCondition.{NamesCondition}
 use Rattle.ml_trace.specs.Stack as traced
 use Rattle.ml_trace.proofs.Stacks.{ends-has}

@@ -17,7 +17,8 @@ use Rattle.ml_product.specs.Position.{Position, neutral, with_chosen, Follows}
 use Rattle.ml_product.proofs.OnePlace.{same_spread, same_place}
 use Rattle.ml_refutation.specs.Refutation.{Decision, Split, Clash, Go}
 use Rattle.ml_sequent.specs.declared.choice.Side.TheVariants.{Left, Right}
-use Rattle.ml_sequent.specs.Spread.{SpreadList, IsLeastOpenOr, IsFirstCause}
+use Rattle.ml_sequent.specs.Spread.{SpreadList, IsLeastOpenOr}
+use Rattle.ml_sequent.specs.FirstCause.{IsFirstCause}
 use Rattle.ml_trace.specs.declared.marks.Mark.{Mark}
 use Rattle.ml_refute.specs.Extracted.{leads_to, Chooses, IsGo, IsDecisionAt}
 use Rattle.ml_refute.proofs.FirstCauses.{one_first_cause}

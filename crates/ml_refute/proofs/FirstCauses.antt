@@ -6,7 +6,8 @@ use Rattle.std.proofs.lemmas.Bool.{cases_lt, cases_eq}
 use Rattle.ml_graph.specs.Graph.{Graph}
 use Rattle.ml_sequent.specs.declared.clashes.ClashCause.{ClashCause}
 use Rattle.ml_sequent.specs.declared.clashes.ClashCause.TheVariants as cause
-use Rattle.ml_sequent.specs.Spread.{SpreadList, IsFirstCause, comes_before}
+use Rattle.ml_sequent.specs.Spread.{SpreadList}
+use Rattle.ml_sequent.specs.FirstCause.{IsFirstCause, comes_before}
 
 -- causes of which neither comes before the other are one
 apart : (x y : ClashCause) → (comes_before x y → ⊥) → (comes_before y x → ⊥) → x ≡ y

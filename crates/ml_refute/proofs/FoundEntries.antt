@@ -34,9 +34,10 @@ use Rattle.ml_refutation.specs.Refutation.{Decision, Split, Clash, Go}
 use Rattle.ml_sequent.specs.declared.choice.Side.{Side}
 use Rattle.ml_sequent.specs.declared.choice.Side.TheVariants.{Left, Right}
 use Rattle.ml_sequent.specs.declared.clashes.ClashCause.{ClashCause}
-use Rattle.ml_sequent.specs.Spread.{IsFirstCause}
+use Rattle.ml_sequent.specs.FirstCause.{IsFirstCause}
 use Rattle.ml_trace.specs.declared.marks.Mark.{Mark}
-use Rattle.ml_trace.specs.Marks.{priority, FitsBelow}
+use Rattle.ml_trace.specs.Marks.{priority}
+use Rattle.ml_trace.specs.MarkOrder.{FitsBelow}
 use Rattle.ml_refute.specs.Extracted.{IsDecisionAt, IsGo, leads_to}
 use Rattle.ml_refute.specs.private.Found.{OddWins, IsWon, LeavesTo, AreSides, AreNumbered, IsNumberOf, IsDecided, AreLooked, position_at}
 use Rattle.ml_lists.specs.InTurn.{RunsOn}

@@ -15,7 +15,7 @@ use Rattle.ml_lists.proofs.Members.{member_of_contains}
 use Rattle.ml_parity.specs.declared.one_sided.graph.Arc.{Arc}
 use Rattle.ml_parity.specs.declared.players.Player.TheVariants.{Even, Odd}
 use Rattle.ml_parity.specs.Player.{side}
-use Rattle.ml_parity.specs.Heights.{IsWalk, count_at, IsEvenCycle, EvenCycleIn}
+use Rattle.ml_parity.specs.OneSided.{IsWalk, count_at, IsEvenCycle, EvenCycleIn}
 use Rattle.ml_parity.specs.Solution.{IsSolution, choice_at, winner_at}
 use Rattle.ml_parity.specs.Winner.{WinsFrom}
 use Rattle.ml_parity.proofs.FollowedWalks.{won_behind, walks_joined, closed_walk_good}
@@ -25,7 +25,8 @@ use Rattle.ml_product.specs.Position.{Position, neutral}
 use Rattle.ml_refutation.specs.Acceptance.{entry_at}
 use Rattle.ml_trace.specs.declared.marks.Mark.{Mark}
 use Rattle.ml_trace.specs.declared.marks.Mark.TheVariants.{Red, Green, Neutral}
-use Rattle.ml_trace.specs.Marks.{priority, FitsBelow}
+use Rattle.ml_trace.specs.Marks.{priority}
+use Rattle.ml_trace.specs.MarkOrder.{FitsBelow}
 use Rattle.std.proofs.lemmas.Option.{slice_get_within}
 use Rattle.ml_refute.specs.Extracted.{arcs_of, go_graph}
 use Rattle.ml_refute.proofs.Decisions.{GoIn}

@@ -10,7 +10,8 @@ use Rattle.ml_lists.specs.Member.{IsMember}
 use Rattle.ml_lists.proofs.Member.{member-append, member-append_left, member-append_right, member-All, All-member, place-member}
 use Rattle.ml_history.specs.HistoryStep.{live}
 use Rattle.ml_parity.specs.declared.one_sided.graph.Arc.{Arc}
-use Rattle.ml_parity.specs.Heights.{IsOneSided, FallsAlong, AreLongest, AreHeights}
+use Rattle.ml_parity.specs.Heights.{FallsAlong}
+use Rattle.ml_parity.specs.OneSided.{IsOneSided, AreLongest, AreHeights}
 use Rattle.ml_parity.proofs.HeightTables.{longest_heights}
 use Rattle.ml_product.specs.Position.{Position}
 use Rattle.ml_product.proofs.Reached.{Facts, numbered, IsTraced}

@@ -14,7 +14,8 @@ use Rattle.ml_lists.specs.Member.{IsMember}
 use Rattle.ml_lists.proofs.Ascending.{ascending-apart}
 use Rattle.ml_refutation.specs.Refutation.{guess_before, comes_before, IsAbove, AreAbove}
 use Rattle.ml_trace.specs.declared.letters.AutomatonState.{AutomatonState}
-use Rattle.ml_trace.specs.Automaton.{states_per_node, guess_at, state_of}
+use Rattle.ml_trace.specs.Automaton.{states_per_node}
+use Rattle.ml_trace.specs.AutomatonNumbers.{guess_at, state_of}
 use Rattle.ml_trace.specs.Stack.{Item}
 use Rattle.ml_refute.proofs.CarriedNames.{carried_item}
 

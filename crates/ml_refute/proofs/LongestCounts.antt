@@ -10,10 +10,10 @@ use Rattle.std.specs.List.{range_with_len}
 use Rattle.std.proofs.lemmas.Bool.{cases_lt}
 use Rattle.std.proofs.lemmas.List.{get_or_default, length-replicate}
 use Rattle.std.proofs.lemmas.List.FromFn.{length-map-range_with_len, get_or-map-range_with_len}
-use Rattle.ml_lists.specs.Search.{Found}
+use Rattle.ml_lists.specs.Found.{Found}
 use Rattle.ml_lists.proofs.Search.{search}
 use Rattle.ml_parity.specs.declared.one_sided.graph.Arc.{Arc}
-use Rattle.ml_parity.specs.Heights.{OneSidedGraph, IsOneSided, EvenCycleIn, AreLongest, IsMost, Attained, count_at}
+use Rattle.ml_parity.specs.OneSided.{OneSidedGraph, IsOneSided, EvenCycleIn, AreLongest, IsMost, Attained, count_at}
 use Rattle.ml_parity.specs.private.HeightSteps.{SettledAlong, LoopAt, AreAttained, IsColumn, number_at, room}
 use Rattle.ml_parity.proofs.HeightRaises.{arc_ends, attained_set, too_high, room_falls, column_of}
 use Rattle.ml_parity.proofs.HeightTables.{longest_done}

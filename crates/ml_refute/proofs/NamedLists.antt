@@ -13,7 +13,7 @@ use Rattle.ml_refutation.specs.Refutation as plain
 use Rattle.ml_refutation.specs.Views.{item_of, entry_of}
 use Rattle.ml_refutation.specs.declared.refutation.Entry.{Entry}
 use Rattle.ml_refutation.specs.declared.refutation.Item.{Item}
-use Rattle.ml_trace.specs.Automaton.{state_of}
+use Rattle.ml_trace.specs.AutomatonNumbers.{state_of}
 use Rattle.ml_trace.specs.Stack as traced
 use Rattle.ml_refute.specs.private.PutTogether.{carried}
 use Rattle.ml_refute.specs.private.Tables.{AreCarried, IsMade, IsPutBehind}

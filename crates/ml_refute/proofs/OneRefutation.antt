@@ -11,7 +11,8 @@ use Rattle.std.proofs.lemmas.List.{get_or-map, ext_get_or}
 use Rattle.std.proofs.lemmas.Option.{slice_get_past}
 use Rattle.ml_lists.proofs.Member.{Place, member-place, All-member, place-member}
 use Rattle.ml_graph.specs.Graph.{Graph}
-use Rattle.ml_parity.specs.Heights.{OneSidedGraph, IsMost, AreLongest, height_of}
+use Rattle.ml_parity.specs.Heights.{height_of}
+use Rattle.ml_parity.specs.OneSided.{OneSidedGraph, IsMost, AreLongest}
 use Rattle.ml_parity.specs.Solution.{GameSolution}
 use Rattle.ml_product.specs.Arena.{Arena, IsArenaOf}
 use Rattle.ml_product.specs.Position.{Position}

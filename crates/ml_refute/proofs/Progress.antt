@@ -15,7 +15,8 @@ use Rattle.std.proofs.lemmas.List.{get_or-append-add, length-map}
 use Rattle.std.proofs.lemmas.Option.{slice_get_within}
 use Rattle.ml_lists.specs.Ascending.{IsAscending}
 use Rattle.ml_lists.specs.Member.{IsMember}
-use Rattle.ml_lists.specs.Search.{First, IsFirst}
+use Rattle.ml_lists.specs.Search.{IsFirst}
+use Rattle.ml_lists.specs.Found.{First}
 use Rattle.ml_lists.proofs.Ascending.{ascending_same, ascending-apart, ascending-filter}
 use Rattle.ml_lists.proofs.Member.{member-place, place-member, Place}
 use Rattle.ml_lists.proofs.Members.{member_of_contains, contains_of_member}
@@ -41,7 +42,8 @@ use Rattle.ml_trace.specs.declared.letters.Transition.{Transition}
 use Rattle.ml_trace.specs.declared.letters.Triple.{Triple}
 use Rattle.ml_trace.specs.declared.marks.Mark.{Mark}
 use Rattle.ml_trace.specs.Automaton.{Gives}
-use Rattle.ml_trace.specs.Marks.{priority, FitsBelow}
+use Rattle.ml_trace.specs.Marks.{priority}
+use Rattle.ml_trace.specs.MarkOrder.{FitsBelow}
 use Rattle.ml_refute.specs.Extracted.{Chooses, IsLeastTo}
 
 -- the members of an ascending list that pass a test ascend

@@ -21,7 +21,7 @@ use Rattle.ml_lists.proofs.Member.{place-member, member-place, Place}
 use Rattle.ml_graph.specs.Graph.{Graph, IsGraph, size, odd_priorities}
 use Rattle.ml_history.specs.HistoryStep.{live}
 use Rattle.ml_parity.specs.declared.one_sided.graph.Arc.{Arc}
-use Rattle.ml_parity.specs.Heights.{AtMost, AreLongest, IsOneSided, EvenCycleIn}
+use Rattle.ml_parity.specs.OneSided.{AtMost, AreLongest, IsOneSided, EvenCycleIn}
 use Rattle.ml_parity.specs.Solution.{GameSolution}
 use Rattle.ml_product.specs.Arena.{Arena}
 use Rattle.ml_product.specs.Position.{Position, start_of}

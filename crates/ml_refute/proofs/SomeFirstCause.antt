@@ -6,14 +6,15 @@
 use Rattle.std.proofs.Common.{◌≡◌, ℕ, ◌<◌, ◌⊎◌, true, false, List, Option, None, Some, find, is_some, inl, inr, refl}
 use Rattle.ml_lists.specs.Ascending.{IsAscending}
 use Rattle.ml_lists.specs.Member.{IsMember}
-use Rattle.ml_lists.specs.Search.{First}
+use Rattle.ml_lists.specs.Found.{First}
 use Rattle.ml_lists.proofs.Decided.{Decided, decided_same, decided_number}
 use Rattle.ml_lists.proofs.Search.{search_first}
 use Rattle.ml_graph.specs.Graph.{Graph, IsGraph, size, node_at}
 use Rattle.ml_sequent.specs.declared.choice.Side.{Side}
 use Rattle.ml_sequent.specs.declared.clashes.ClashCause.{ClashCause}
 use Rattle.ml_sequent.specs.declared.clashes.ClashCause.TheVariants as cause
-use Rattle.ml_sequent.specs.Spread.{SpreadList, IsSpreadOf, IsCause, IsFirstCause, IsOddCycle}
+use Rattle.ml_sequent.specs.Spread.{SpreadList, IsSpreadOf, IsCause, IsOddCycle}
+use Rattle.ml_sequent.specs.FirstCause.{IsFirstCause}
 use Rattle.ml_sequent.specs.private.Tests.{is_false, partner, IsFirstPair, IsFirstOddCycle}
 use Rattle.ml_sequent.proofs.Causes.{false_cause, pair_cause, cycle_cause, no_cause}
 use Rattle.ml_sequent.proofs.Firsts.{FoundFirst, found_first, found_none}

@@ -17,7 +17,7 @@ use Rattle.ml_lists.proofs.Member.{All-member, member-All, member-place, member-
 use Rattle.ml_graph.specs.Graph.{IsGraph, size, odd_priorities, node_at}
 use Rattle.ml_history.specs.HistoryStep.{live}
 use Rattle.ml_history.proofs.definition.NamesInUse.{live-has}
-use Rattle.ml_parity.specs.Heights.{AreLongest}
+use Rattle.ml_parity.specs.OneSided.{AreLongest}
 use Rattle.ml_parity.proofs.HeightTables.{longest_low}
 use Rattle.ml_product.specs.Position.{Position, automaton_states, with_chosen}
 use Rattle.ml_product.proofs.NeutralPriority.{names_fit, sequent_low}
@@ -31,7 +31,8 @@ use Rattle.ml_sequent.specs.declared.clashes.ClashCause.{ClashCause}
 use Rattle.ml_sequent.specs.declared.clashes.ClashCause.TheVariants as cause
 use Rattle.ml_sequent.specs.Spread.{SpreadList, IsCause, is_diamond}
 use Rattle.ml_trace.specs.declared.letters.AutomatonState.{AutomatonState}
-use Rattle.ml_trace.specs.Automaton.{states_per_node, state_of, IsGuess}
+use Rattle.ml_trace.specs.Automaton.{states_per_node, IsGuess}
+use Rattle.ml_trace.specs.AutomatonNumbers.{state_of}
 use Rattle.ml_trace.specs.Stack as traced
 use Rattle.ml_trace.proofs.Stacks.{member-has}
 use Rattle.std.proofs.lemmas.Option.{slice_get_within}

@@ -18,7 +18,8 @@ use Rattle.ml_graph.specs.Graph.{Graph, node_at, priority_at, odd_priorities}
 use Rattle.ml_history.specs.HistoryStep.{stepped, step_mark}
 use Rattle.ml_parity.specs.declared.one_sided.graph.Arc.{Arc}
 use Rattle.ml_parity.specs.declared.players.Player.TheVariants.{Even, Odd}
-use Rattle.ml_parity.specs.Heights.{IsMost, Attained, AreLongest, height_of}
+use Rattle.ml_parity.specs.Heights.{height_of}
+use Rattle.ml_parity.specs.OneSided.{IsMost, Attained, AreLongest}
 use Rattle.ml_parity.specs.Solution.{GameSolution}
 use Rattle.ml_parity.specs.private.HeightSteps.{SettledAlong, Settled}
 use Rattle.ml_parity.proofs.HeightWalks.{walk_keeps, counts-none}
@@ -39,7 +40,8 @@ use Rattle.ml_trace.specs.declared.letters.Triple.{Triple}
 use Rattle.ml_trace.specs.declared.marks.Mark.{Mark}
 use Rattle.ml_trace.specs.declared.marks.Mark.TheVariants.{Green, Neutral}
 use Rattle.ml_trace.specs.Automaton.{number, Leads, Gives, IsLetterOf}
-use Rattle.ml_trace.specs.Marks.{FitsBelow, priority}
+use Rattle.ml_trace.specs.Marks.{priority}
+use Rattle.ml_trace.specs.MarkOrder.{FitsBelow}
 use Rattle.ml_trace.specs.Stack as traced
 use Rattle.ml_refute.specs.Extracted.{IsDecisionAt, IsEntryAt, IsOutlineOf, go_graph, IsRefutationOf}
 

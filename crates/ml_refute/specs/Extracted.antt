@@ -23,7 +23,7 @@ use Rattle.ml_lists.specs.BreadthFirst.{IsBreadthFirst}
 use Rattle.ml_lists.specs.Member.{IsMember}
 use Rattle.ml_graph.specs.Graph.{Graph, odd_priorities}
 use Rattle.ml_history.specs.HistoryStep.{live}
-use Rattle.ml_parity.specs.Heights.{OneSidedGraph, AreLongest}
+use Rattle.ml_parity.specs.OneSided.{OneSidedGraph, AreLongest}
 use Rattle.ml_parity.specs.declared.one_sided.graph.Arc.{Arc}
 use Rattle.ml_parity.specs.Solution.{GameSolution, choice_at}
 use Rattle.ml_product.specs.Arena.{Arena}
@@ -32,11 +32,13 @@ use Rattle.ml_product.specs.Position.{Position, neutral, with_chosen, Follows}
 use Rattle.ml_refutation.specs.Acceptance.{OfSpread, entry_at, heights_of}
 use Rattle.ml_refutation.specs.Refutation.{Refutation, Entry, Decision, Split, Clash, Go}
 use Rattle.ml_sequent.specs.declared.choice.Side.TheVariants.{Left, Right}
-use Rattle.ml_sequent.specs.Spread.{SpreadList, IsFirstCause}
+use Rattle.ml_sequent.specs.Spread.{SpreadList}
+use Rattle.ml_sequent.specs.FirstCause.{IsFirstCause}
 use Rattle.ml_trace.specs.declared.letters.AutomatonState.{AutomatonState}
 use Rattle.ml_trace.specs.declared.marks.Mark.{Mark}
-use Rattle.ml_trace.specs.Automaton.{state_of}
-use Rattle.ml_trace.specs.Marks.{priority, FitsBelow}
+use Rattle.ml_trace.specs.AutomatonNumbers.{state_of}
+use Rattle.ml_trace.specs.Marks.{priority}
+use Rattle.ml_trace.specs.MarkOrder.{FitsBelow}
 use Rattle.ml_trace.specs.Stack as traced
 
 -- ---- an entry

@@ -18,7 +18,7 @@ use Rattle.ml_lists.specs.Member.{IsMember}
 use Rattle.ml_graph.specs.Graph.{Graph, IsGraph, size}
 use Rattle.ml_parity.specs.declared.players.Player.TheVariants.{Odd}
 use Rattle.ml_parity.specs.Game.{HasMove, owner_of}
-use Rattle.ml_parity.specs.Heights.{IsOneSided, EvenCycleIn}
+use Rattle.ml_parity.specs.OneSided.{IsOneSided, EvenCycleIn}
 use Rattle.ml_parity.specs.Solution.{GameSolution, IsSolution, choice_at, winner_at}
 use Rattle.ml_product.specs.Arena.{Arena, IsArenaOf, game_of}
 use Rattle.ml_product.specs.Position.{Position}

@@ -1,6 +1,6 @@
 // Heights of entries: the longest counts along their go's.
 ghost use Rattle.std.specs.Prelude.{◌≡◌, ◌+◌, ◌*◌, ◌^◌, ◌<◌, ◌++◌, length, map, All, IfOk, OnOk};
-ghost use Rattle.ml_parity.specs.Heights.{AreLongest, AtMost, EvenCycleIn, IsOneSided};
+ghost use Rattle.ml_parity.specs.OneSided.{AreLongest, AtMost, EvenCycleIn, IsOneSided};
 ghost use Rattle.ml_refutation.specs.Refutation.{IsMarkOf};
 ghost use Rattle.ml_refutation.specs.Views.{decision_of};
 ghost use Rattle.ml_trace.specs.Marks.{priority};

@@ -4,7 +4,8 @@ ghost use Rattle.std.specs.List.{position_or_len};
 ghost use Rattle.ml_parity.specs.Solution.{choice_at};
 ghost use Rattle.ml_product.specs.DecisionGame.{IsResolved};
 ghost use Rattle.ml_product.specs.Position.{neutral, start_of};
-ghost use Rattle.ml_trace.specs.Marks.{priority, FitsBelow};
+ghost use Rattle.ml_trace.specs.Marks.{priority};
+ghost use Rattle.ml_trace.specs.MarkOrder.{FitsBelow};
 ghost use Rattle.ml_refute.specs.private.Found.{OddWins, IsWon, IsSpreadAt, LeavesTo, IsTurnAt, AreSides};
 
 use ml_base::NoMemory;

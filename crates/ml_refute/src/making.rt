@@ -4,7 +4,7 @@ ghost use Rattle.ml_graph.specs.Graph.{size, odd_priorities};
 ghost use Rattle.ml_history.specs.HistoryStep.{live};
 ghost use Rattle.ml_parity.specs.declared.players.Player.TheVariants.{Odd};
 ghost use Rattle.ml_parity.specs.Solution.{IsSolution, winner_at};
-ghost use Rattle.ml_parity.specs.Heights.{AtMost};
+ghost use Rattle.ml_parity.specs.OneSided.{AtMost};
 ghost use Rattle.ml_parity.specs.Refusal.{lists_of};
 ghost use Rattle.ml_product.specs.Arena.{IsArenaOf, game_of};
 ghost use Rattle.ml_refutation.specs.Acceptance.{IsAccepted};

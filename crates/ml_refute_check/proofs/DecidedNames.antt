@@ -7,7 +7,7 @@
 --   decided_falls      == so is whether heights fall along an arc
 use Rattle.std.proofs.Common.{◌≡◌, ℕ, ◌+◌, ◌%◌, ◌==◌, ◌<◌, ◌≤◌, ◌⊎◌, Bool, true, false, List, Option, None, Some, inl, inr, refl, sym, subst, arith}
 use Rattle.ml_lists.specs.Member.{IsMember}
-use Rattle.ml_lists.specs.Search.{Found}
+use Rattle.ml_lists.specs.Found.{Found}
 use Rattle.ml_lists.proofs.Decided.{Decided, decided_same, decided_both, decided_either, decided_less, decided_number, decided_test}
 use Rattle.ml_lists.proofs.Member.{All-member}
 use Rattle.ml_parity.specs.Heights.{FallsAlong, height_of}
@@ -17,7 +17,7 @@ use Rattle.ml_trace.specs.declared.letters.Triple.{Triple}
 use Rattle.ml_trace.specs.declared.marks.Mark.{Mark}
 use Rattle.ml_trace.specs.declared.marks.Mark.TheVariants.{Red, Green, Neutral}
 use Rattle.ml_trace.specs.Automaton as automaton
-use Rattle.ml_trace.specs.LabelledLoop.{EachNameStands}
+use Rattle.ml_trace.specs.NamesCondition.{EachNameStands}
 use Rattle.ml_trace.specs.NamesCondition.{NamesCondition, Predecessor, Progress, bound}
 use Rattle.ml_trace.specs.Stack.{Item, Entry, has, ends_in, IsAdvanced}
 use Rattle.ml_graph.specs.Graph.{Graph, IsGraph, size, priority_at, odd_priorities}

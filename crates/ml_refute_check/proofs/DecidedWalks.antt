@@ -10,7 +10,7 @@
 --   decided_spread  == so is whether a node is in the spread of nodes
 use Rattle.std.proofs.Common.{◌≡◌, ℕ, ◌<◌, ◌≤◌, ◌⊎◌, min, List, All, inl, inr, refl, subst, arith}
 use Rattle.std.proofs.lemmas.Bool.{cases_lt}
-use Rattle.ml_lists.specs.Search.{Found}
+use Rattle.ml_lists.specs.Found.{Found}
 use Rattle.ml_lists.proofs.Decided.{Decided, decided_same, decided_both, decided_number}
 use Rattle.ml_lists.proofs.Member.{All-member}
 use Rattle.ml_graph.specs.Graph.{Graph, IsGraph, size, priority_at}

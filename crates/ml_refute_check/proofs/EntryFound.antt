@@ -17,7 +17,7 @@ use Rattle.ml_lists.specs.Member.{IsMember}
 use Rattle.ml_lists.proofs.Ascending.{ascending-is, ascending_same, ascending-member, member-ascending}
 use Rattle.ml_graph.specs.Graph.{Graph, size, odd_priorities}
 use Rattle.ml_trace.specs.Automaton.{IsGuess}
-use Rattle.ml_trace.specs.LabelledLoop.{EachNameStands}
+use Rattle.ml_trace.specs.NamesCondition.{EachNameStands}
 use Rattle.ml_refutation.specs.Refutation as plain
 use Rattle.ml_refutation.specs.Refutation.{IsEntry, IsTraced}
 use Rattle.ml_refutation.specs.Acceptance as acceptance

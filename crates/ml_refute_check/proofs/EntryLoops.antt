@@ -30,7 +30,8 @@ use Rattle.ml_trace.specs.declared.letters.AutomatonState.{AutomatonState}
 use Rattle.ml_trace.specs.declared.marks.Mark.{Mark}
 use Rattle.ml_trace.specs.declared.marks.Mark.TheVariants.{Red, Green, Neutral}
 use Rattle.ml_trace.specs.LabelledLoop.{MarkedStep, IsPath, letters, marks, CyclicRun}
-use Rattle.ml_trace.specs.Marks.{priority, FitsBelow, is_odd, lowest_mark}
+use Rattle.ml_trace.specs.Marks.{priority}
+use Rattle.ml_trace.specs.MarkOrder.{FitsBelow, is_odd, lowest_mark}
 use Rattle.ml_trace.specs.Stack as traced
 use Rattle.ml_trace.proofs.OddLoop.{odd_loop}
 use Rattle.ml_trace.proofs.Priorities.{priorities_agree}

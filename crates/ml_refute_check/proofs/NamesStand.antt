@@ -10,7 +10,7 @@ use Rattle.std.specs.List.{list_any}
 use Rattle.ml_lists.specs.Member.{IsMember}
 use Rattle.ml_lists.proofs.Member.{member-map, member-map_from, list_any-member, member-list_any, member-append_left, place-member}
 use Rattle.ml_trace.specs.declared.letters.AutomatonState.{AutomatonState}
-use Rattle.ml_trace.specs.LabelledLoop.{EachNameStands}
+use Rattle.ml_trace.specs.NamesCondition.{EachNameStands}
 use Rattle.ml_trace.specs.Stack as traced
 use Rattle.ml_trace.specs.Stack.{has}
 use Rattle.ml_refutation.specs.declared.refutation.Item.{Item}

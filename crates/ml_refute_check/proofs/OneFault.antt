@@ -7,7 +7,7 @@ use Rattle.std.proofs.Common.{ℕ, ◌≡◌, ◌<◌, ◌≤◌, ◌⊎◌, inl
 use Rattle.std.proofs.lemmas.Bool.{cases_lt}
 use Rattle.ml_lists.specs.Member.{IsMember}
 use Rattle.ml_lists.specs.Ascending.{IsAscending}
-use Rattle.ml_lists.specs.Documents.{numbers}
+use Rattle.ml_lists.specs.Readings.{numbers}
 use Rattle.ml_lists.proofs.Documents.{kept_not_broken, one_broken}
 use Rattle.ml_lists.proofs.Member.{place-member}
 use Rattle.ml_graph.specs.Graph.{Graph}

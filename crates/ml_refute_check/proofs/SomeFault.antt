@@ -9,7 +9,8 @@
 --   judged_entry == of each entry, one of the two
 --   some_fault   == the refutation is accepted, or has a first bad part
 use Rattle.std.proofs.Common.{◌≡◌, ℕ, zero, suc, ◌*◌, ◌<◌, ◌⊎◌, List, [], ◌∷◌, Option, None, Some, All, length, get_or, inl, inr, subst, arith}
-use Rattle.ml_lists.specs.Documents.{KeepsAll, IsFirstBroken, IsJudged}
+use Rattle.ml_lists.specs.Documents.{KeepsAll, IsFirstBroken}
+use Rattle.ml_lists.specs.Readings.{IsJudged}
 use Rattle.ml_lists.specs.Member.{IsMember}
 use Rattle.ml_lists.proofs.Decided as is
 use Rattle.ml_lists.proofs.Documents.{judged}

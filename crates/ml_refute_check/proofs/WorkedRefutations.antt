@@ -44,7 +44,7 @@ use Rattle.ml_sequent.proofs.LocalWalks.{stays_inside}
 use Rattle.ml_refutation.specs.Refutation.{Refutation, Split, Clash, Go, Fits, IsStack, IsItem, IsTraced, IsMarkOf, IsEntry, IsRefutation}
 use Rattle.ml_refutation.specs.GoStep.{GoStep, HasTransition}
 use Rattle.ml_refutation.specs.Acceptance.{entry_at, Part, Sequent, Live, Decided, rules, IsAccepted, heights_of, HeightsFall, parts, OfSpread, IsFirstBad}
-use Rattle.ml_trace.specs.LabelledLoop.{EachNameStands}
+use Rattle.ml_trace.specs.NamesCondition.{EachNameStands}
 use Rattle.ml_refute_check.proofs.EntryLoops.{accepted_holds_nowhere}
 
 abbrev item : ℕ → Option ℕ → List ℕ → traced.Item AutomatonState

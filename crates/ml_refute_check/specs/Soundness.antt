@@ -11,7 +11,7 @@
 use Rattle.std.specs.Prelude.{ℕ, ◌<◌, ◌≡◌, ◌⊎◌}
 use Rattle.ml_base.specs.Structure.{Structure, IsStructure}
 use Rattle.ml_lists.specs.Ascending.{IsAscending}
-use Rattle.ml_lists.specs.Documents.{numbers}
+use Rattle.ml_lists.specs.Readings.{numbers}
 use Rattle.ml_graph.specs.Graph.{Graph, IsGraph}
 use Rattle.ml_graph.specs.CheckingGame.{Holds}
 use Rattle.ml_refutation.specs.Refutation.{Refutation, IsRefutation}

@@ -5,7 +5,7 @@ ghost use Rattle.ml_lists.specs.Ascending.{IsAscending};
 ghost use Rattle.ml_lists.specs.Member.{IsMember};
 ghost use Rattle.ml_refutation.specs.Views.{item_of};
 ghost use Rattle.ml_trace.specs.Automaton.{IsGuess};
-ghost use Rattle.ml_trace.specs.LabelledLoop.{EachNameStands};
+ghost use Rattle.ml_trace.specs.NamesCondition.{EachNameStands};
 ghost use Rattle.ml_trace.specs.Stack.{has};
 
 use ml_base::NoMemory;

@@ -24,7 +24,7 @@ use Rattle.ml_base.specs.EdgeOrder.{edge_cmp}
 use Rattle.ml_base.specs.Structure.{Structure}
 use Rattle.ml_lists.specs.Counting.{count}
 use Rattle.ml_lists.specs.Member.{IsMember}
-use Rattle.ml_lists.specs.Search.{Found}
+use Rattle.ml_lists.specs.Found.{Found}
 use Rattle.ml_lists.proofs.Counting.{count_none}
 use Rattle.ml_lists.proofs.Member.{member-filter, member-map}
 use Rattle.ml_lists.proofs.Search.{search}

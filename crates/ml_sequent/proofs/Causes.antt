@@ -19,7 +19,8 @@ use Rattle.ml_graph.specs.Graph.{Graph, IsGraph, size, node_at}
 use Rattle.ml_graph.proofs.References.{prop_in_range}
 use Rattle.ml_sequent.specs.declared.clashes.ClashCause.{ClashCause}
 use Rattle.ml_sequent.specs.declared.clashes.ClashCause.TheVariants as cause
-use Rattle.ml_sequent.specs.Spread.{SpreadList, IsCause, IsFirstCause, IsPair, IsOddCycle, comes_before}
+use Rattle.ml_sequent.specs.Spread.{SpreadList, IsCause, IsPair, IsOddCycle}
+use Rattle.ml_sequent.specs.FirstCause.{IsFirstCause, comes_before}
 use Rattle.ml_sequent.specs.private.Tests.{is_false, is_negative, negative_sign, negative_of, partner, partner_of, positive_prop}
 use Rattle.ml_sequent.specs.private.Tests.{negative_prop, if_positive, if_negative, HasNegatives, IsFirstPair, IsFirstOddCycle}
 use Rattle.ml_sequent.proofs.Firsts.{FoundFirst, found_first, found_none, all_fail}

@@ -8,7 +8,8 @@ use Rattle.std.proofs.Common.{ℕ, ◌≡◌, ◌≤◌, min, List, subst, arith
 use Rattle.ml_lists.specs.Member.{IsMember}
 use Rattle.ml_graph.specs.Graph.{Graph, priority_at}
 use Rattle.ml_sequent.specs.declared.choice.Side.{Side}
-use Rattle.ml_sequent.specs.LocalWalk.{LocalWalk, stays, goes, children, IsClosed, SpreadIsLeast}
+use Rattle.ml_sequent.specs.LocalWalk.{LocalWalk, stays, goes, children}
+use Rattle.ml_sequent.specs.LeastSpread.{IsClosed, SpreadIsLeast}
 
 module _ (g : Graph) (c : List (ℕ × Side)) where
   -- the lowest priority is at most that of the first node

@@ -2,6 +2,10 @@
 pub mod Choice
 -- when choices are equal
 pub mod ChoiceEquality
+-- which cause of a clash comes first
+pub mod FirstCause
+-- that a spread is the least set that is closed
+pub mod LeastSpread
 -- local walks, with the lowest priority on them
 pub mod LocalWalk
 -- spreads, clashes, open or-nodes

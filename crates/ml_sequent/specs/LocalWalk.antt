@@ -7,9 +7,6 @@
 --   children g c n      == the nodes to which n leads locally: both children of an And, the chosen one of an Or
 --   LocalWalk g c n k m == some local walk leads from n to m, and k is the lowest priority on it, both ends counted
 --   InSpread g c C m    == a local walk leads from a node of C to m
---   IsClosed g c S      == S has the local children of its nodes
---   SpreadIsLeast       == the spread of C is the least closed set that has C
---   LeastSpreadLaw      == so is every spread
 use Rattle.std.specs.Prelude.{ℕ, min, List, [], ◌∷◌, Option, Some, None}
 use Rattle.ml_lists.specs.Member.{IsMember}
 use Rattle.ml_graph.specs.declared.node.Node.{Node}
@@ -25,13 +22,9 @@ chosen_child (Some s) l r = chosen s l r ∷ []
 
 -- to which nodes a node leads locally
 abbrev pub children_of : List (ℕ × Side) → ℕ → Node → List ℕ
-children_of c n node.True = []
-children_of c n node.False = []
-children_of c n (node.Lit p positive) = []
 children_of c n (node.And l r) = l ∷ r ∷ []
 children_of c n (node.Or l r) = chosen_child (side_of c n) l r
-children_of c n (node.Diamond a to) = []
-children_of c n (node.Square a to) = []
+children_of c n _ = []
 
 -- to which nodes node n leads locally
 abbrev pub children : Graph → List (ℕ × Side) → ℕ → List ℕ
@@ -51,22 +44,3 @@ pub record InSpread (g : Graph) (c : List (ℕ × Side)) (C : List ℕ) (m : ℕ
   pub member : IsMember from C
   pub lowest : ℕ
   pub walk : LocalWalk g c from lowest m
-
--- S has the local children of its nodes
-abbrev pub IsClosed : Graph → List (ℕ × Side) → List ℕ → Type 0
-IsClosed g c S = (n m : ℕ) → IsMember n S → IsMember m (children g c n) → IsMember m S
-
--- the spread of C has C and is closed, and each closed set that has C has the spread
-pub record SpreadIsLeast (g : Graph) (c : List (ℕ × Side)) (C : List ℕ) : Type 0 where
-  pub has : (m : ℕ) → IsMember m C → InSpread g c C m
-  pub closed : (n m : ℕ) → InSpread g c C n → IsMember m (children g c n) → InSpread g c C m
-  pub least : (S : List ℕ)
-      → IsClosed g c S
-      → ((m : ℕ) → IsMember m C → IsMember m S)
-      → (m : ℕ)
-      → InSpread g c C m
-      → IsMember m S
-
--- the spread of any set of nodes, in any graph and under any choice
-abbrev pub LeastSpreadLaw : Type 0
-LeastSpreadLaw = (g : Graph) (c : List (ℕ × Side)) (C : List ℕ) → SpreadIsLeast g c C

@@ -8,13 +8,11 @@
 --   IsSpread g sp         == sp is a spread in g
 --   IsCause g sp x        == x is a cause of a clash in sp: False; both literals of a proposition; or a node of odd
 --                            priority on a closed local walk, of at least one move, through nodes of no lower priority
---   comes_before x y      == in the order of causes: False, pairs, cycles, and in each by the numbers
---   IsFirstCause g sp x   == x is a cause, and no cause comes before it
 --   IsOpenNode g c n      == n is an or-node without a choice
 --   IsOpenOr g sp n       == it is one of the spread
 --   IsLeastOpenOr g sp n  == the least such node
 --   is_diamond x          == is x a Diamond?
-use Rattle.std.specs.Prelude.{ℕ, ◌≡◌, ◌<◌, ◌≤◌, ◌%◌, ◌↔◌, ◌⊎◌, Bool, true, false, List, None}
+use Rattle.std.specs.Prelude.{ℕ, ◌≡◌, ◌<◌, ◌≤◌, ◌%◌, ◌↔◌, Bool, true, false, List, None}
 use Rattle.ml_lists.specs.Ascending.{IsAscending}
 use Rattle.ml_lists.specs.Member.{IsMember}
 use Rattle.ml_graph.specs.declared.node.Node.{Node}
@@ -66,23 +64,6 @@ IsCause g sp (cause.False n) = IsMember n sp.nodes × (node_at g n ≡ node.Fals
 IsCause g sp (cause.Pair p q) = IsMember p sp.nodes × IsMember q sp.nodes × IsPair g p q
 IsCause g sp (cause.Cycle n) = IsMember n sp.nodes × IsOddCycle g sp.choice n
 
--- the order of causes
-abbrev pub comes_before : ClashCause → ClashCause → Type 0
-comes_before (cause.False n) (cause.False m) = n < m
-comes_before (cause.False n) (cause.Pair p q) = Unit {0}
-comes_before (cause.False n) (cause.Cycle m) = Unit {0}
-comes_before (cause.Pair p q) (cause.False m) = ⊥
-comes_before (cause.Pair p q) (cause.Pair r s) = (p < r) ⊎ ((p ≡ r) × (q < s))
-comes_before (cause.Pair p q) (cause.Cycle m) = Unit {0}
-comes_before (cause.Cycle n) (cause.False m) = ⊥
-comes_before (cause.Cycle n) (cause.Pair p q) = ⊥
-comes_before (cause.Cycle n) (cause.Cycle m) = n < m
-
--- the first cause
-pub record IsFirstCause (g : Graph) (sp : SpreadList) (x : ClashCause) : Type 0 where
-  pub is_cause : IsCause g sp x
-  pub first : (y : ClashCause) → IsCause g sp y → comes_before y x → ⊥
-
 -- node n is an or-node without a choice
 pub record IsOpenNode (g : Graph) (c : List (ℕ × Side)) (n : ℕ) : Type 0 where
   pub left : ℕ
@@ -102,10 +83,5 @@ pub record IsLeastOpenOr (g : Graph) (sp : SpreadList) (n : ℕ) : Type 0 where
 
 -- is the node a Diamond?
 abbrev pub is_diamond : Node → Bool
-is_diamond node.True = false
-is_diamond node.False = false
-is_diamond (node.Lit p positive) = false
-is_diamond (node.And l r) = false
-is_diamond (node.Or l r) = false
 is_diamond (node.Diamond a to) = true
-is_diamond (node.Square a to) = false
+is_diamond _ = false

@@ -1,6 +1,6 @@
 // Laws about the definitions alone: empty functions, each of whose contract is a theorem.
 
-ghost use Rattle.ml_sequent.specs.LocalWalk.{LeastSpreadLaw};
+ghost use Rattle.ml_sequent.specs.LeastSpread.{LeastSpreadLaw};
 
 /// The spread of a set of nodes is the least closed set that has them: it has them, it has the local children of its
 /// nodes, and each closed set that has them has the spread. Graphs are of any size.

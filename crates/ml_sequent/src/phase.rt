@@ -2,7 +2,8 @@
 ghost use Rattle.std.specs.Prelude.{◌≡◌, ◌<◌, ◌↔◌, ℕ, List, IfOk, IsTrue, MatchOption, All, filter};
 ghost use Rattle.ml_graph.specs.Graph.{size, node_at};
 ghost use Rattle.ml_sequent.specs.Choice.{with_side};
-ghost use Rattle.ml_sequent.specs.Spread.{SpreadList, IsSpread, IsSpreadOf, IsCause, IsFirstCause, IsOddCycle, IsOpenOr, IsLeastOpenOr, is_diamond};
+ghost use Rattle.ml_sequent.specs.Spread.{SpreadList, IsSpread, IsSpreadOf, IsCause, IsOddCycle, IsOpenOr, IsLeastOpenOr, is_diamond};
+ghost use Rattle.ml_sequent.specs.FirstCause.{IsFirstCause};
 ghost use Rattle.ml_sequent.specs.declared.clashes.ClashCause.{ClashCause};
 ghost use Rattle.ml_sequent.specs.Step.{IsDiamondOf, IsStep};
 

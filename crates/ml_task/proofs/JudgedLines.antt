@@ -11,7 +11,7 @@ use Rattle.ml_ctl.specs.declared.language.Language.TheVariants.{Ltl}
 use Rattle.ml_ctl.proofs.OneAnswer.{one_answer}
 use Rattle.ml_lines.specs.Lines.{Word, Line}
 use Rattle.ml_lines.proofs.DecidedWords.{decided_line, decided_words}
-use Rattle.ml_lists.specs.Documents.{Judges, IsJudged}
+use Rattle.ml_lists.specs.Readings.{Judges, IsJudged}
 use Rattle.ml_lists.proofs.Decided as is
 use Rattle.ml_lists.proofs.Decided.{Decided}
 use Rattle.ml_lists.proofs.Documents.{judged}

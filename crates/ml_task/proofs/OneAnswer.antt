@@ -15,7 +15,7 @@ use Rattle.ml_ctl.proofs.OneAnswer as formulas
 use Rattle.ml_lines.specs.Lines.{Line}
 use Rattle.ml_lines.specs.Reading.{words_of}
 use Rattle.ml_lists.specs.Ascending.{IsAscending}
-use Rattle.ml_lists.specs.Documents.{IsReadable}
+use Rattle.ml_lists.specs.Readings.{IsReadable}
 use Rattle.ml_lists.proofs.Ascending.{ascending-one, ascending-cons}
 use Rattle.ml_lists.proofs.Documents.{one_bad, readable_no_bad, readable_or_bad}
 use Rattle.ml_task.specs.Laws.{OneTask, SomeAnswer, TaskOrFault, OneFault, TaskRulesRise}

@@ -20,7 +20,8 @@ use Rattle.ml_lines.specs.Lines.{Word, Line}
 use Rattle.ml_lines.specs.Reading.{fronts, is_blank, is_line_end, is_word, left_of, words_of}
 use Rattle.ml_lines.proofs.Cuts.{some_part}
 use Rattle.ml_lines.proofs.LineFronts.{none_passes}
-use Rattle.ml_lists.specs.Documents.{IsReadable, KeepsAll}
+use Rattle.ml_lists.specs.Documents.{KeepsAll}
+use Rattle.ml_lists.specs.Readings.{IsReadable}
 use Rattle.ml_task.specs.Task.{Task, IsTask, are_new, is_named, knows, most_names, names_of, task_of}
 use Rattle.ml_task.specs.TaskText.{IsTaskText, AtInputs, AtOutputs, AtFormula, formula_bytes, last_line, names_rules, rules, task, task_lines}
 use Rattle.ml_task.proofs.FormulaRead.{given_bytes, is_formula_line}

@@ -7,7 +7,7 @@
 --   TaskRulesRise    == the numbers of the rules of a line rise
 use Rattle.std.specs.Prelude.{ℕ, ◌≡◌, ◌⊎◌, List}
 use Rattle.ml_base.specs.declared.doc_fault.DocFault.{DocFault}
-use Rattle.ml_lists.specs.Documents.{NumbersRise}
+use Rattle.ml_lists.specs.Readings.{NumbersRise}
 use Rattle.ml_task.specs.Task.{Task}
 use Rattle.ml_task.specs.TaskText.{IsTaskText, IsTaskFault, task}
 

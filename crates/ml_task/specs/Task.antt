@@ -16,7 +16,9 @@ use Rattle.std.specs.Prelude.{ℕ, ◌≤◌, Bool, true, not, ◌&&◌, nat_le,
 use Rattle.std.specs.List.{list_all, list_any}
 use Rattle.std.specs.Str.{bytes_eq}
 use Rattle.ml_base.specs.Name.{longest_name}
-use Rattle.ml_ctl.specs.Formula.{Formula, is_linear, names}
+use Rattle.ml_ctl.specs.Formula.{Formula}
+use Rattle.ml_ctl.specs.FormulaNames.{names}
+use Rattle.ml_ctl.specs.Sorts.{is_linear}
 use Rattle.ml_ctl.specs.Spelling.{is_proposition}
 use Rattle.ml_task.specs.declared.task.TheConstants.{MOST_NAMES}
 

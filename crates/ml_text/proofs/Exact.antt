@@ -10,7 +10,7 @@ use Rattle.std.proofs.lemmas.List.{append-nil}
 use Rattle.ml_text.specs.Grammar.{Grammar}
 use Rattle.ml_text.specs.private.Machine.{State, start_state, step, finish, parse}
 use Rattle.ml_text.specs.Refusals.{Item, Cause, Syntax, TooMany, TooNested, NameTooLong, signs_of, counted, open_behind, open_behind_one}
-use Rattle.ml_text.specs.Refusals.{most_occurrences, most_open, IsSyntaxFault, IsCountFault, IsFault, IsRefused, IsAccepted, offset_of}
+use Rattle.ml_text.specs.Refusals.{most_occurrences, most_open, IsSyntaxFault, Passes, IsFault, IsRefused, IsAccepted, offset_of}
 use Rattle.ml_text.specs.private.Reading.{Outcome, Found, Refused, cause_at, next_outcome, end_outcome, outcome, text_outcome}
 use Rattle.ml_text.proofs.Complete.{found}
 use Rattle.ml_text.proofs.Sound.{stands}
@@ -232,7 +232,7 @@ exact g R fits items end =
 few_from : {Sign : Type 0} (items before rest : List (Item Sign))
     → items ≡ before ++ rest
     → counted before ≤ most_occurrences
-    → ((k : ℕ) → IsCountFault items k → ⊥)
+    → ((k : ℕ) → Passes counted most_occurrences items k → ⊥)
     → counted items ≤ most_occurrences
 few_from items before [] split few none = omega (arith, few, ap counted (split ∙ append-nil before))
 few_from items before (i ∷ rest) split few none =
@@ -253,6 +253,6 @@ few_from items before (i ∷ rest) split few none =
     (cases_lt most_occurrences (counted before + i.weight))
 
 pub few_items : {Sign : Type 0} (items : List (Item Sign))
-    → ((k : ℕ) → IsCountFault items k → ⊥)
+    → ((k : ℕ) → Passes counted most_occurrences items k → ⊥)
     → counted items ≤ most_occurrences
 few_items items none = few_from items [] items refl (omega arith) none

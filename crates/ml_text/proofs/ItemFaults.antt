@@ -11,7 +11,7 @@ use Rattle.std.proofs.lemmas.List.{map-append}
 use Rattle.ml_text.specs.Grammar.{Grammar}
 use Rattle.ml_text.specs.private.Machine.{State, start_state, step, run}
 use Rattle.ml_text.specs.Refusals.{Item, Cause, Syntax, TooMany, TooNested, NameTooLong, signs_of, counted, open_behind, open_behind_one, most_occurrences}
-use Rattle.ml_text.specs.Refusals.{most_open, rank, BeginsText, IsSyntaxFault, IsCountFault, IsNestingFault, IsFault, IsRefused, is_long_at, offset_of}
+use Rattle.ml_text.specs.Refusals.{most_open, rank, BeginsText, IsSyntaxFault, Passes, IsFault, IsRefused, is_long_at, offset_of}
 use Rattle.ml_text.proofs.Viable.{run-last}
 use Rattle.ml_text.proofs.FirstItems.{take_all, take_one, counted-last, open_from-last, is_long_at-last, offset-last}
 use Rattle.ml_text.proofs.Fits.{Fits, fits_viable, fits_not_viable, first_run}
@@ -133,7 +133,7 @@ pub count_here : (g : Grammar) (R : List g.Sign → g.Tree → Type 0) (items be
     (i : Item g.Sign) (s : State g)
     → Progress g R items before (i ∷ rest) s
     → most_occurrences < counted before + i.weight
-    → IsCountFault items (length before)
+    → Passes counted most_occurrences items (length before)
 count_here g R items before rest i s p passes = record {
   within = within_here items before i rest p.split;
   before = omega (arith, p.few, ap counted (take_all items before (i ∷ rest) p.split));
@@ -143,7 +143,7 @@ count_here g R items before rest i s p passes = record {
 pub no_count_here : (g : Grammar) (items before rest : List (Item g.Sign)) (i : Item g.Sign)
     → items ≡ before ++ i ∷ rest
     → counted before + i.weight ≤ most_occurrences
-    → IsCountFault items (length before)
+    → Passes counted most_occurrences items (length before)
     → ⊥
 no_count_here g items before rest i split fits fault =
     absurd (omega (arith, fault.passes, counted_here g items before rest i split))
@@ -152,7 +152,7 @@ pub nesting_here : (g : Grammar) (R : List g.Sign → g.Tree → Type 0) (items 
     (i : Item g.Sign) (s : State g)
     → Progress g R items before (i ∷ rest) s
     → most_open < open_behind_one i.bracket (open_behind before)
-    → IsNestingFault items (length before)
+    → Passes open_behind most_open items (length before)
 nesting_here g R items before rest i s p passes = record {
   within = within_here items before i rest p.split;
   before = omega (arith, p.flat, ap open_behind (take_all items before (i ∷ rest) p.split));
@@ -162,7 +162,7 @@ nesting_here g R items before rest i s p passes = record {
 pub no_nesting_here : (g : Grammar) (items before rest : List (Item g.Sign)) (i : Item g.Sign)
     → items ≡ before ++ i ∷ rest
     → open_behind_one i.bracket (open_behind before) ≤ most_open
-    → IsNestingFault items (length before)
+    → Passes open_behind most_open items (length before)
     → ⊥
 no_nesting_here g items before rest i split fits fault =
     absurd (omega (arith, fault.passes, open_here g items before rest i split))
@@ -199,7 +199,7 @@ least_count g R items k a NameTooLong fault = omega arith
 
 pub least_nesting : (g : Grammar) (R : List g.Sign → g.Tree → Type 0) (items : List (Item g.Sign)) (k : ℕ)
     → (IsSyntaxFault R items k → ⊥)
-    → (IsCountFault items k → ⊥)
+    → (Passes counted most_occurrences items k → ⊥)
     → (d : Cause)
     → IsFault R d items k
     → rank TooNested ≤ rank d
@@ -210,8 +210,8 @@ least_nesting g R items k a b NameTooLong fault = omega arith
 
 pub least_name : (g : Grammar) (R : List g.Sign → g.Tree → Type 0) (items : List (Item g.Sign)) (k : ℕ)
     → (IsSyntaxFault R items k → ⊥)
-    → (IsCountFault items k → ⊥)
-    → (IsNestingFault items k → ⊥)
+    → (Passes counted most_occurrences items k → ⊥)
+    → (Passes open_behind most_open items k → ⊥)
     → (d : Cause)
     → IsFault R d items k
     → rank NameTooLong ≤ rank d
@@ -222,8 +222,8 @@ least_name g R items k a b c NameTooLong fault = omega arith
 
 pub no_fault : (g : Grammar) (R : List g.Sign → g.Tree → Type 0) (items : List (Item g.Sign)) (k : ℕ)
     → (IsSyntaxFault R items k → ⊥)
-    → (IsCountFault items k → ⊥)
-    → (IsNestingFault items k → ⊥)
+    → (Passes counted most_occurrences items k → ⊥)
+    → (Passes open_behind most_open items k → ⊥)
     → (is_long_at items k ≡ true → ⊥)
     → (d : Cause)
     → IsFault R d items k

@@ -10,7 +10,8 @@ use Rattle.std.proofs.Common.{◌≡◌, ℕ, ◌+◌, ◌-◌, ◌≤◌, Bool,
 use Rattle.std.specs.Option.{option_map}
 use Rattle.ml_base.specs.declared.parse_refusal.ParseRefusal.{ParseRefusal}
 use Rattle.ml_text.specs.Grammar.{Grammar, Mode}
-use Rattle.ml_text.specs.Items.{bytes_of, name_bytes, is_long_word}
+use Rattle.ml_text.specs.Items.{bytes_of, is_long_word}
+use Rattle.ml_text.specs.NotedItems.{name_bytes}
 use Rattle.ml_text.specs.Refusals.{Item, Cause, Syntax, TooMany, TooNested, NameTooLong, open_behind_one, most_occurrences, most_open}
 use Rattle.ml_text.specs.private.Machine.{Stack, State, step}
 use Rattle.ml_text.specs.private.Progress.{IsRefusal, refusal_of, limit_refusal}

@@ -21,8 +21,10 @@ use Rattle.std.proofs.lemmas.Bool.{cases_Bool, cond-true, cond-false, or_from, o
 use Rattle.ml_base.specs.Name.{longest_name}
 use Rattle.ml_text.specs.Bytes.{is_letter, is_lower, is_upper}
 use Rattle.ml_text.specs.Grammar.{Grammar}
-use Rattle.ml_text.specs.Items.{is_word, is_long_word, bytes_of, name_bytes}
-use Rattle.ml_text.specs.Signs.{OwnSigns, Named, HasShortName, bracket_of, byte_in, is_action, is_proposition, is_reserved, is_upper_word, name_of, name_sign, named, own_or, reserved, sign_of, word_in, word_sign, word_sign_by, words_of}
+use Rattle.ml_text.specs.Items.{is_word, is_long_word, bytes_of}
+use Rattle.ml_text.specs.NotedItems.{name_bytes}
+use Rattle.ml_text.specs.Signs.{OwnSigns, Named, bracket_of, byte_in, is_proposition, is_reserved, is_upper_word, name_of, name_sign, own_or, reserved, sign_of, word_in, word_sign, word_sign_by, words_of}
+use Rattle.ml_text.specs.SignKinds.{HasShortName, is_action, named}
 use Rattle.ml_text.specs.Words.{IsWord, IsWordOf, constant_of, is_word_from}
 use Rattle.ml_text.specs.declared.named_signs.Sign.{Sign}
 use Rattle.ml_text.specs.declared.named_signs.Sign.TheVariants.{Not, Connective, Const, Open, Close, Lower, Upper, Added, Unknown}

@@ -17,7 +17,8 @@ use Rattle.std.proofs.lemmas.List.Folds.{list_all-append}
 use Rattle.ml_text.specs.NameLists.{with_names}
 use Rattle.ml_text.specs.Names.{Kind, Proposition, Variable, Action, KindedName, AreShort, IsShortName, are_spelled, is_kind, is_spelled_name, of_kind}
 use Rattle.ml_text.specs.Bytes.{is_upper}
-use Rattle.ml_text.specs.Signs.{OwnSigns, Named, HasShortName, is_reserved, is_upper_word, reserved}
+use Rattle.ml_text.specs.Signs.{OwnSigns, Named, is_reserved, is_upper_word, reserved}
+use Rattle.ml_text.specs.SignKinds.{HasShortName}
 use Rattle.ml_text.specs.declared.named_signs.Sign.TheVariants.{Lower, Upper}
 use Rattle.ml_text.proofs.FirstLetters.{none_of}
 use Rattle.ml_text.proofs.FreeWords.{proposition_action, upper_action}

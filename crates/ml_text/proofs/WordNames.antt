@@ -16,7 +16,8 @@ use Rattle.std.proofs.lemmas.List.{take-take}
 use Rattle.ml_base.specs.Name.{is_name, is_name_byte, longest_name}
 use Rattle.ml_text.specs.Bytes.{is_lower, is_upper, is_letter, is_digit, is_word_byte}
 use Rattle.ml_text.specs.Words.{is_word_from}
-use Rattle.ml_text.specs.Items.{is_word, is_long_word, bytes_of, name_bytes}
+use Rattle.ml_text.specs.Items.{is_word, is_long_word, bytes_of}
+use Rattle.ml_text.specs.NotedItems.{name_bytes}
 use Rattle.ml_text.specs.declared.token.Placed.{Placed}
 use Rattle.ml_text.proofs.ItemSteps.{short_bytes}
 

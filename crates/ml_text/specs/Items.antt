@@ -7,10 +7,8 @@
 --   SignTable             == what a logic says of its signs
 --   bytes_of text p       == the bytes of a token
 --   is_long_word p        == is the token a word with more bytes than a name may have?
---   name_bytes text p     == the bytes of a token, but of such a word no more than a name may have
 --   item_at t text c p    == the item that a token of the text is, in the context c
 --   items t text          == the items of a text
---   noted t text          == the offsets of the items whose places the logic wants, in the order of the text
 use Rattle.std.specs.Prelude.{ℕ, ◌-◌, ◌&&◌, Bool, true, false, nat_lt, if◌then◌else◌, List, [], ◌∷◌, take, drop}
 use Rattle.ml_base.specs.Name.{longest_name}
 use Rattle.ml_text.specs.Refusals.{Item}
@@ -46,12 +44,6 @@ is_word _ = false
 abbrev pub is_long_word : Placed → Bool
 is_long_word p = is_word p.token && nat_lt longest_name (p.end - p.start)
 
-abbrev pub name_size : Placed → ℕ
-name_size p = if is_long_word p then longest_name else p.end - p.start
-
-abbrev pub name_bytes : List ℕ → Placed → List ℕ
-name_bytes text p = take (name_size p) (drop p.start text)
-
 abbrev pub item_at : {Sign Context : Type 0} → SignTable Sign Context → List ℕ → Context → Placed → Item Sign
 item_at t text c p = record {
   sign = t.sign_at text p;
@@ -77,6 +69,3 @@ abbrev pub noted_from : {Sign Context : Type 0} → SignTable Sign Context → C
 noted_from t c [] = []
 noted_from t c (i ∷ is) =
     if t.is_noted c i.sign then i.at ∷ noted_from t (t.behind i.sign) is else noted_from t (t.behind i.sign) is
-
-abbrev pub noted : {Sign Context : Type 0} → SignTable Sign Context → List ℕ → List ℕ
-noted t text = noted_from t t.first (items t text)

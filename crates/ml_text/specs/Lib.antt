@@ -1,5 +1,9 @@
 -- blanks, letters and the bytes of a word
 pub mod Bytes
+-- names of items, and places that are noted
+pub mod NotedItems
+-- signs with their names apart
+pub mod SignKinds
 -- the tokens of a text
 pub mod Tokens
 -- words, and the words for the constants

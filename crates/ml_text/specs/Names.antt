@@ -12,7 +12,8 @@
 use Rattle.std.specs.Prelude.{ℕ, ◌≤◌, Bool, true, false, List, [], ◌∷◌, length, if◌then◌else◌}
 use Rattle.std.specs.List.{AllByRecursion, list_all}
 use Rattle.ml_base.specs.Name.{longest_name}
-use Rattle.ml_text.specs.Signs.{OwnSigns, is_action, is_proposition, is_upper_word}
+use Rattle.ml_text.specs.Signs.{OwnSigns, is_proposition, is_upper_word}
+use Rattle.ml_text.specs.SignKinds.{is_action}
 
 pub data Kind : Type 0 where
   Proposition : Kind

@@ -3,7 +3,8 @@
 --   operator_level o == the level of a connective; a greater level binds tighter
 --   spelling_of o    == `&`, `|`, `->` or `<->`
 --   weight o         == as how many symbols a connective counts
-use Rattle.std.specs.Prelude.{ℕ, List, codes}
+--   truth_of o a b   == the truth table of a connective
+use Rattle.std.specs.Prelude.{ℕ, Bool, ◌&&◌, ◌||◌, not, List, codes}
 use Rattle.ml_text.specs.declared.token.Operator.{Operator}
 use Rattle.ml_text.specs.declared.token.Operator.TheVariants.{Iff, Implies, Or, And}
 
@@ -22,6 +23,10 @@ spelling_of Iff = codes "<->"
 -- iff counts as three
 abbrev pub weight : Operator → ℕ
 weight Iff = 3
-weight Implies = 1
-weight Or = 1
-weight And = 1
+weight _ = 1
+
+abbrev pub truth_of : Operator → Bool → Bool → Bool
+truth_of And a b = a && b
+truth_of Or a b = a || b
+truth_of Implies a b = not a || b
+truth_of Iff a b = (not a || b) && (not b || a)

@@ -13,9 +13,8 @@
 --   BeginsText R ts         == with some signs behind them, the signs ts stand for some tree
 --   Cause                   == syntax, too many occurrences, too many open parentheses, a name too long
 --   IsSyntaxFault R items k == the first k items begin a text, and with the next one they begin none; at the end: they are none
---   IsCountFault items k    == the item with which the count passes the limit
---   IsNestingFault items k  == the parenthesis with which more are open than the limit
---   IsNameFault items k     == a name that is too long
+--   Passes amount most items k == with the item k the amount of the items passes what it may be at most
+--   is_long_at items k      == is the item k a name that is too long?
 --   IsFault R c items k     == the cause c comes at the place k
 --   IsRefused R items c k   == c at k is the first of all
 --   IsAccepted R items f    == the signs stand for f, and no cause comes at all
@@ -62,9 +61,6 @@ open_from n (i ∷ items) = open_from (open_behind_one i.bracket n) items
 abbrev pub open_behind : {Sign : Type 0} → List (Item Sign) → ℕ
 open_behind items = open_from 0 items
 
-abbrev pub BeginsText : {Sign Tree : Type 0} → (List Sign → Tree → Type 0) → List Sign → Type 0
-BeginsText {Sign} {Tree} R ts = (us : List Sign) × (f : Tree) × R (ts ++ us) f
-
 pub data Cause : Type 0 where
   Syntax TooMany TooNested NameTooLong : Cause
 
@@ -74,21 +70,10 @@ rank TooMany = 4
 rank TooNested = 5
 rank NameTooLong = 6
 
-pub record IsSyntaxFault {Sign Tree : Type 0} (R : List Sign → Tree → Type 0) (items : List (Item Sign)) (k : ℕ) : Type 0 where
-  pub within : k ≤ length items
-  pub begins : BeginsText R (signs_of (take k items))
-  pub ends : k < length items → BeginsText R (signs_of (take (k + 1) items)) → ⊥
-  pub is_none : k ≡ length items → (f : Tree) → R (signs_of items) f → ⊥
-
-pub record IsCountFault {Sign : Type 0} (items : List (Item Sign)) (k : ℕ) : Type 0 where
+pub record Passes {Sign : Type 0} (amount : List (Item Sign) → ℕ) (most : ℕ) (items : List (Item Sign)) (k : ℕ) : Type 0 where
   pub within : k < length items
-  pub before : counted (take k items) ≤ most_occurrences
-  pub passes : most_occurrences < counted (take (k + 1) items)
-
-pub record IsNestingFault {Sign : Type 0} (items : List (Item Sign)) (k : ℕ) : Type 0 where
-  pub within : k < length items
-  pub before : open_behind (take k items) ≤ most_open
-  pub passes : most_open < open_behind (take (k + 1) items)
+  pub before : amount (take k items) ≤ most
+  pub passes : most < amount (take (k + 1) items)
 
 -- is the item with this number a name that is too long?
 abbrev pub is_long_at : {Sign : Type 0} → List (Item Sign) → ℕ → Bool
@@ -96,48 +81,43 @@ is_long_at [] k = false
 is_long_at (i ∷ items) zero = i.is_long
 is_long_at (i ∷ items) (suc k) = is_long_at items k
 
-abbrev pub IsNameFault : {Sign : Type 0} → List (Item Sign) → ℕ → Type 0
-IsNameFault items k = is_long_at items k ≡ true
-
-abbrev pub IsFault : {Sign Tree : Type 0} → (List Sign → Tree → Type 0) → Cause → List (Item Sign) → ℕ → Type 0
-IsFault R Syntax items k = IsSyntaxFault R items k
-IsFault R TooMany items k = IsCountFault items k
-IsFault R TooNested items k = IsNestingFault items k
-IsFault R NameTooLong items k = IsNameFault items k
-
-pub record IsRefused {Sign Tree : Type 0} (R : List Sign → Tree → Type 0) (items : List (Item Sign)) (c : Cause) (k : ℕ) : Type 0 where
-  pub comes : IsFault R c items k
-  pub first : (d : Cause) (j : ℕ) → IsFault R d items j → (k < j) ⊎ ((k ≡ j) × (rank c ≤ rank d))
-
-pub record IsAccepted {Sign Tree : Type 0} (R : List Sign → Tree → Type 0) (items : List (Item Sign)) (f : Tree) : Type 0 where
-  pub stands : R (signs_of items) f
-  pub keeps : (c : Cause) (k : ℕ) → IsFault R c items k → ⊥
-
 abbrev pub offset_of : {Sign : Type 0} → List (Item Sign) → ℕ → ℕ → ℕ
 offset_of [] end k = end
 offset_of (i ∷ items) end zero = i.at
 offset_of (i ∷ items) end (suc k) = offset_of items end k
 
-abbrev pub ComesFirst : {Sign Tree : Type 0}
-    → (List Sign → Tree → Type 0)
-    → List (Item Sign)
-    → ℕ
-    → Cause
-    → ℕ
-    → Type 0
-ComesFirst R items end c at = (k : ℕ) × IsRefused R items c k × (at ≡ offset_of items end k)
+module _ {Sign Tree : Type 0} (R : List Sign → Tree → Type 0) where
+  abbrev pub BeginsText : List Sign → Type 0
+  BeginsText ts = (us : List Sign) × (f : Tree) × R (ts ++ us) f
 
-abbrev pub IsRefusedBy : {Sign Tree : Type 0}
-    → (List Sign → Tree → Type 0)
-    → List (Item Sign)
-    → ℕ
-    → ParseRefusal
-    → Type 0
-IsRefusedBy R items end (refusal.Syntax at) = ComesFirst R items end Syntax at
-IsRefusedBy R items end (refusal.Unbound at) = ⊥
-IsRefusedBy R items end (refusal.NotPositive at) = ⊥
-IsRefusedBy R items end (refusal.TooMany at) = ComesFirst R items end TooMany at
-IsRefusedBy R items end (refusal.TooNested at) = ComesFirst R items end TooNested at
-IsRefusedBy R items end (refusal.NameTooLong at) = ComesFirst R items end NameTooLong at
--- want of memory is the one answer that says nothing of the text
-IsRefusedBy R items end refusal.NoMemory = Unit {0}
+  pub record IsSyntaxFault (items : List (Item Sign)) (k : ℕ) : Type 0 where
+    pub within : k ≤ length items
+    pub begins : BeginsText (signs_of (take k items))
+    pub ends : k < length items → BeginsText (signs_of (take (k + 1) items)) → ⊥
+    pub is_none : k ≡ length items → (f : Tree) → R (signs_of items) f → ⊥
+
+  abbrev pub IsFault : Cause → List (Item Sign) → ℕ → Type 0
+  IsFault Syntax items k = IsSyntaxFault items k
+  IsFault TooMany items k = Passes counted most_occurrences items k
+  IsFault TooNested items k = Passes open_behind most_open items k
+  IsFault NameTooLong items k = is_long_at items k ≡ true
+
+  pub record IsRefused (items : List (Item Sign)) (c : Cause) (k : ℕ) : Type 0 where
+    pub comes : IsFault c items k
+    pub first : (d : Cause) (j : ℕ) → IsFault d items j → (k < j) ⊎ ((k ≡ j) × (rank c ≤ rank d))
+
+  pub record IsAccepted (items : List (Item Sign)) (f : Tree) : Type 0 where
+    pub stands : R (signs_of items) f
+    pub keeps : (c : Cause) (k : ℕ) → IsFault c items k → ⊥
+
+  abbrev pub ComesFirst : List (Item Sign) → ℕ → Cause → ℕ → Type 0
+  ComesFirst items end c at = (k : ℕ) × IsRefused items c k × (at ≡ offset_of items end k)
+
+  -- want of memory is the one answer that says nothing of the text
+  abbrev pub IsRefusedBy : List (Item Sign) → ℕ → ParseRefusal → Type 0
+  IsRefusedBy items end (refusal.Syntax at) = ComesFirst items end Syntax at
+  IsRefusedBy items end (refusal.TooMany at) = ComesFirst items end TooMany at
+  IsRefusedBy items end (refusal.TooNested at) = ComesFirst items end TooNested at
+  IsRefusedBy items end (refusal.NameTooLong at) = ComesFirst items end NameTooLong at
+  IsRefusedBy items end refusal.NoMemory = Unit {0}
+  IsRefusedBy items end _ = ⊥

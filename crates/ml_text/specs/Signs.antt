@@ -10,18 +10,14 @@
 --   is_reserved own w   == is w a word of a constant, or of the logic?
 --   is_proposition own w == a word that begins with a lower-case letter and isn't reserved
 --   is_upper_word w     == a word that begins with an upper-case letter
---   is_action own w     == a word that isn't reserved, or `_`
 --   name_of s           == the name of a sign that has one
 --   word_sign own w     == the sign that a word is
 --   byte_sign own b     == the sign that a byte is that is a token by itself
 --   sign_of own t bytes == the sign that a token with these bytes is
 --   bracket_of own s    == which parenthesis a sign is
---   HasShortName s      == if the sign has a name, it is one that the program can hold
---   named k w           == the sign of a kind, where its name, if it has one, has these bytes
-use Rattle.std.specs.Prelude.{ℕ, ◌==◌, ◌&&◌, ◌||◌, Bool, not, List, [], ◌∷◌, Option, Some, None, if◌then◌else◌, bytes_eq, codes, IsTrue}
+use Rattle.std.specs.Prelude.{ℕ, ◌==◌, ◌&&◌, Bool, not, List, [], ◌∷◌, Option, Some, None, if◌then◌else◌, bytes_eq, codes}
 use Rattle.std.specs.List.{list_any}
-use Rattle.ml_base.specs.Name.{is_name}
-use Rattle.ml_text.specs.Bytes.{is_letter, is_lower, is_upper}
+use Rattle.ml_text.specs.Bytes.{is_lower, is_upper}
 use Rattle.ml_text.specs.Words.{constant_of, is_word_from}
 use Rattle.ml_text.specs.declared.limits.Bracket.{Bracket}
 use Rattle.ml_text.specs.declared.limits.Bracket.TheVariants.{Opening, Closing, Neither}
@@ -65,9 +61,6 @@ is_proposition own w = is_word_from is_lower w && not (is_reserved own w)
 abbrev pub is_upper_word : List ℕ → Bool
 is_upper_word w = is_word_from is_upper w
 
-abbrev pub is_action : {X : Type 0} → OwnSigns X → List ℕ → Bool
-is_action own w = bytes_eq w (codes "_") || (is_word_from is_letter w && not (is_reserved own w))
-
 abbrev pub name_sign : {X : Type 0} → OwnSigns X → List ℕ → Named X
 name_sign own w = if is_proposition own w then Lower w else (if is_upper_word w then Upper w else Unknown)
 
@@ -110,19 +103,3 @@ abbrev pub name_of : {X : Type 0} → Named X → Option (List ℕ)
 name_of (Lower p) = Some p
 name_of (Upper x) = Some x
 name_of _ = None
-
-abbrev pub HasShortName : {X : Type 0} → Named X → Type 0
-HasShortName (Lower p) = IsTrue (is_name p)
-HasShortName (Upper x) = IsTrue (is_name x)
-HasShortName _ = Unit {0}
-
-abbrev pub named : {X : Type 0} → Sign (Unit {0}) X → List ℕ → Named X
-named Not w = Not
-named (Connective o) w = Connective o
-named (Const b) w = Const b
-named Open w = Open
-named Close w = Close
-named (Lower u) w = Lower w
-named (Upper u) w = Upper w
-named (Added x) w = Added x
-named Unknown w = Unknown

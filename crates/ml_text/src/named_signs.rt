@@ -1,7 +1,8 @@
 // Signs: the tokens of a text as a grammar sees them, those that all logics have and those that a logic adds.
 ghost use Rattle.std.specs.Prelude.{◌≡◌, false, IfOk, List, ℕ};
 ghost use Rattle.ml_text.specs.Signs as signs;
-ghost use Rattle.ml_text.specs.Signs.{HasShortName, OwnSigns, bracket_of, byte_in, byte_sign, is_reserved, name_sign, named, word_in, word_sign};
+ghost use Rattle.ml_text.specs.Signs.{OwnSigns, bracket_of, byte_in, byte_sign, is_reserved, name_sign, word_in, word_sign};
+ghost use Rattle.ml_text.specs.SignKinds.{HasShortName, named};
 ghost use Rattle.ml_text.specs.Spelling.{Spells};
 ghost use Rattle.ml_text.specs.Words.{IsWordOf};
 

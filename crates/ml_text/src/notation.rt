@@ -1,7 +1,8 @@
 // What a logic tells the reader of texts.
 ghost use Rattle.std.specs.Prelude.{◌≡◌, ◌<◌, ◌≤◌, ℕ, List, length, IfOk};
 ghost use Rattle.std.specs.Option.{option_map};
-ghost use Rattle.ml_text.specs.Items.{bytes_of, name_bytes};
+ghost use Rattle.ml_text.specs.Items.{bytes_of};
+ghost use Rattle.ml_text.specs.NotedItems.{name_bytes};
 ghost use Rattle.ml_text.specs.Spelling.{Spells};
 ghost use Rattle.ml_text.specs.private.Tables.{IsLike, Tables};
 ghost use Rattle.ml_text.specs.private.Views.{GivesBack, mode_view, turn_view};

@@ -1,6 +1,7 @@
 // The reader of texts: one token at a time, within the limits.
 ghost use Rattle.std.specs.Prelude.{◌≡◌, ℕ, ◌≤◌, ◌<◌, [], ◌∷◌, ◌++◌, ◌+◌, if◌then◌else◌, length, MatchResult, OnOk};
 ghost use Rattle.ml_text.specs.Items as text_items;
+ghost use Rattle.ml_text.specs.NotedItems as noted_items;
 ghost use Rattle.ml_text.specs.Items.{bytes_of, is_long_word};
 ghost use Rattle.ml_text.specs.Refusals as limit;
 ghost use Rattle.ml_text.specs.Spelling.{Spells};
@@ -77,7 +78,7 @@ fn limit_refusal(count: u32, depth: u32, is_long: bool, at: u64) -> Option<Parse
 // how many bytes of a token its name is made of, if it has one; a name that is too long is cut
 fn name_size(placed: Placed) -> usize
     requires { placed.start ≤ placed.end }
-    ensures size { result ≡ text_items.name_size placed }
+    ensures size { result ≡ noted_items.name_size placed }
     ensures fits { placed.start + result ≤ placed.end }
 {
     if is_long(placed) {
@@ -159,7 +160,7 @@ pub fn read<L: Notation>(
     requires { L.IsFor logic.now text.now }
     ensures { let out = outcome.text_outcome L.tables.grammar (length text.now) (text_items.items L.tables.signs text.now) in
         MatchResult result
-        (λ reading. (out ≡ outcome.Found (L.tables.tree reading.tree)) × (reading.places.items ≡ text_items.noted L.tables.signs text.now))
+        (λ reading. (out ≡ outcome.Found (L.tables.tree reading.tree)) × (reading.places.items ≡ noted_items.noted L.tables.signs text.now))
         (λ refusal. IsRefusal refusal out) }
 {
     let mut progress = Progress {

@@ -23,7 +23,8 @@ use Rattle.ml_lists.proofs.Member.{Image, InList, member-append, member-append_l
 use Rattle.ml_lists.proofs.Member.{member-flat_map, member-flat_map_from, member-place, place-member, All-member, member-All}
 use Rattle.ml_trace.specs.declared.letters.Transition.{Transition}
 use Rattle.ml_trace.specs.declared.letters.Triple.{Triple}
-use Rattle.ml_trace.specs.Automaton.{states_per_node, guess_place, Leads, Gives, IsLetterOf, HasRoom, AllHaveRoom, HasSmallEnds}
+use Rattle.ml_trace.specs.Automaton.{states_per_node, guess_place, Leads, Gives, IsLetterOf}
+use Rattle.ml_trace.specs.AutomatonNumbers.{HasRoom, AllHaveRoom, HasSmallEnds}
 use Rattle.ml_trace.specs.private.LetterMoves.{plain, plain_move, move_at, rows_below, rows}
 
 -- in an ascending list each odd priority stands at its own index

@@ -10,7 +10,7 @@ use Rattle.std.proofs.lemmas.Bool.{cases_Bool, cond-true, cond-false, leb-true, 
 use Rattle.ml_lists.specs.Member.{IsMember}
 use Rattle.ml_trace.specs.declared.marks.Mark.{Mark}
 use Rattle.ml_trace.specs.declared.marks.Mark.TheVariants.{Red, Green, Neutral}
-use Rattle.ml_trace.specs.Marks.{mark_le, lower_mark, lowest_mark, is_odd, is_green}
+use Rattle.ml_trace.specs.MarkOrder.{mark_le, lower_mark, lowest_mark, is_odd, is_green}
 
 -- each mark is at or below itself
 pub mark_le_refl : (m : Mark) → mark_le m m ≡ true

@@ -13,7 +13,8 @@ use Rattle.std.specs.List.{position_or_len, slice_get}
 use Rattle.ml_lists.specs.Ascending.{IsAscending}
 use Rattle.ml_lists.proofs.Member.{member-place}
 use Rattle.ml_trace.specs.declared.letters.AutomatonState.{AutomatonState}
-use Rattle.ml_trace.specs.Automaton.{states_per_node, guess_place, guess_at, number, state_of, IsGuess, IsState, NumbersAreStates}
+use Rattle.ml_trace.specs.Automaton.{states_per_node, guess_place, number, IsGuess, IsState}
+use Rattle.ml_trace.specs.AutomatonNumbers.{guess_at, state_of, NumbersAreStates}
 use Rattle.ml_trace.proofs.LetterLemmas.{odd_place}
 
 -- the place of a guess is among those of a node

@@ -20,10 +20,11 @@ use Rattle.ml_lists.proofs.Member.{member-map, member-map_from, member-append, m
 use Rattle.ml_lists.proofs.Repeated.{repeated-add, repeated-two}
 use Rattle.ml_lists.proofs.Predecessors.{Before, Loop, has_loop}
 use Rattle.ml_trace.specs.declared.marks.Mark.TheVariants.{Green, Neutral}
-use Rattle.ml_trace.specs.Marks.{mark_le, is_green, is_odd, lowest_mark}
+use Rattle.ml_trace.specs.MarkOrder.{mark_le, is_green, is_odd, lowest_mark}
 use Rattle.ml_trace.specs.Stack.{Item, Entry, has}
 use Rattle.ml_trace.specs.Run.{AcceptingRun}
-use Rattle.ml_trace.specs.LabelledLoop.{MarkedStep, IsPath, letters, marks, EachNameStands, CyclicRun}
+use Rattle.ml_trace.specs.LabelledLoop.{MarkedStep, IsPath, letters, marks, CyclicRun}
+use Rattle.ml_trace.specs.NamesCondition.{EachNameStands}
 use Rattle.ml_trace.proofs.MarkOrder.{lowest_mark_le, lowest_mark_is, odd-is_green, is_green-refl}
 use Rattle.ml_trace.proofs.Runs.{accepting-append, accepting-is_run}
 use Rattle.ml_trace.proofs.TraceBack.{greens, trace_back, traced_twice, step_keeps_use}

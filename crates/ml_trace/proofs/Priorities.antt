@@ -14,7 +14,8 @@ use Rattle.ml_lists.specs.Lowest.{lowest}
 use Rattle.ml_lists.specs.Member.{IsMember}
 use Rattle.ml_trace.specs.declared.marks.Mark.{Mark}
 use Rattle.ml_trace.specs.declared.marks.Mark.TheVariants.{Red, Green, Neutral}
-use Rattle.ml_trace.specs.Marks.{mark_le, lower_mark, lowest_mark, is_odd, priority, FitsBelow, PrioritiesAgree}
+use Rattle.ml_trace.specs.Marks.{priority}
+use Rattle.ml_trace.specs.MarkOrder.{mark_le, lower_mark, lowest_mark, is_odd, FitsBelow, PrioritiesAgree}
 use Rattle.ml_trace.proofs.MarkOrder.{lowest_mark_is}
 
 -- a mark at or below another has a number at or below its number

@@ -15,7 +15,7 @@ use Rattle.std.proofs.lemmas.Bool.{cases_Bool, cond-true, cond-false, leb-true, 
 use Rattle.ml_lists.specs.Member.{IsMember}
 use Rattle.ml_trace.specs.declared.marks.Mark.{Mark}
 use Rattle.ml_trace.specs.declared.marks.Mark.TheVariants.{Red, Green, Neutral}
-use Rattle.ml_trace.specs.Marks.{mark_le, is_green}
+use Rattle.ml_trace.specs.MarkOrder.{mark_le, is_green}
 use Rattle.ml_trace.specs.Stack.{Item, Entry, has, ends_in, IsAdvanced}
 use Rattle.ml_trace.specs.NamesCondition.{NamesCondition, Predecessor, Progress, bound}
 use Rattle.ml_trace.specs.Run.{Run, AcceptingRun}

@@ -9,20 +9,12 @@
 --
 --   states_per_node odds           == how many states each node has: 1 + o
 --   number odds s                  == the number of the state s
---   state_of odds n                == the state with the number n
---   NumbersAreStates               == numbers and states are one-to-one, where the odd priorities ascend
 --   IsState odds s                 == the odd priority of s, if it has one, is one of the list
 --   Leads odds k g g' accepting    == a triple with the lowest priority k leads from the guess g to the guess g'
 --   Gives odds t m                 == the triple t gives the transition m
 --   IsLetterOf odds traces letter  == the letter has exactly the transitions that some triple of the traces gives
---   HasRoom odds n                 == all states of the node n have numbers below 2^30
---   HasSmallEnds letter            == all ends of transitions are below 2^30
---   RiseByTarget letter            == the targets of its transitions do not descend
---   IsLetter letter                == what the program's letters keep: small ends, and targets that do not descend
-use Rattle.std.specs.Prelude.{◌≡◌, ◌↔◌, ℕ, zero, suc, ◌+◌, ◌*◌, ◌/◌, ◌%◌, ◌^◌, ◌<◌, ◌≤◌, Bool, false, ◌==◌, Option, Some, None, List, length, slice_get, All}
+use Rattle.std.specs.Prelude.{◌≡◌, ◌↔◌, ℕ, ◌+◌, ◌*◌, ◌≤◌, Bool, false, ◌==◌, Option, Some, None, List, length}
 use Rattle.std.specs.List.{position_or_len}
-use Rattle.std.specs.List.Sorted.{IsNonDecreasingBy}
-use Rattle.ml_lists.specs.Ascending.{IsAscending}
 use Rattle.ml_lists.specs.Member.{IsMember}
 use Rattle.ml_trace.specs.declared.letters.AutomatonState.{AutomatonState}
 use Rattle.ml_trace.specs.declared.letters.Transition.{Transition}
@@ -39,18 +31,9 @@ abbrev pub guess_place : List ℕ → Option ℕ → ℕ
 guess_place odds None = 0
 guess_place odds (Some d) = position_or_len (λ e. e == d) odds + 1
 
--- the guess at a place
-abbrev pub guess_at : List ℕ → ℕ → Option ℕ
-guess_at odds zero = None
-guess_at odds (suc j) = slice_get odds j
-
 -- the number of a state
 abbrev pub number : List ℕ → AutomatonState → ℕ
 number odds s = s.node * states_per_node odds + guess_place odds s.odd
-
--- the state with a number
-abbrev pub state_of : List ℕ → ℕ → AutomatonState
-state_of odds n = record { node = n / states_per_node odds; odd = guess_at odds (n % states_per_node odds) }
 
 -- the guess is one of the odd priorities, or none
 abbrev pub IsGuess : List ℕ → Option ℕ → Type 0
@@ -60,11 +43,6 @@ IsGuess odds (Some d) = IsMember d odds
 -- the odd priority of the state, if it has one, is one of the list
 abbrev pub IsState : List ℕ → AutomatonState → Type 0
 IsState odds s = IsGuess odds s.odd
-
--- numbers and states are one-to-one, whichever odd priorities ascend
-abbrev pub NumbersAreStates : Type 0
-NumbersAreStates =
-    (odds : List ℕ) → IsAscending odds → ((s : AutomatonState) → IsState odds s → state_of odds (number odds s) ≡ s) × ((n : ℕ) → number odds (state_of odds n) ≡ n)
 
 -- ---- transitions
 
@@ -86,26 +64,3 @@ pub record Gives (odds : List ℕ) (t : Triple) (m : Transition) : Type 0 where
 -- the letter has exactly the transitions that some triple of the traces gives
 abbrev pub IsLetterOf : List ℕ → List Triple → List Transition → Type 0
 IsLetterOf odds traces letter = (m : Transition) → IsMember m letter ↔ ((t : Triple) × IsMember t traces × Gives odds t m)
-
--- ---- letters that a program holds
-
--- all states of the node have numbers below 2^30
-abbrev pub HasRoom : List ℕ → ℕ → Type 0
-HasRoom odds n = (n + 1) * states_per_node odds ≤ 2 ^ 30
-
--- all states of both nodes of each triple have
-abbrev pub AllHaveRoom : List ℕ → List Triple → Type 0
-AllHaveRoom odds traces = All (λ (t : Triple). HasRoom odds t.from × HasRoom odds t.to) traces
-
--- all ends of transitions are below 2^30
-abbrev pub HasSmallEnds : List Transition → Type 0
-HasSmallEnds letter = All (λ (m : Transition). (m.from < 2 ^ 30) × (m.to < 2 ^ 30)) letter
-
--- the targets do not descend
-abbrev pub RiseByTarget : List Transition → Type 0
-RiseByTarget letter = IsNonDecreasingBy (λ (m : Transition). m.to) letter
-
--- what the program's letters keep
-pub record IsLetter (letter : List Transition) : Type 0 where
-  pub small_ends : HasSmallEnds letter
-  pub by_target : RiseByTarget letter

@@ -9,18 +9,17 @@
 --   MarkedStep               == the letter and the mark of a step
 --   letters, marks           == those of a list of steps
 --   IsPath leads steps e f   == the steps lead from the entry e to the entry f
---   EachNameStands e         == each name in use stands in some item of e
 --   CyclicRun leads e w      == some item of e has an accepting run to its own state along w, one or more times over
 --   OddLoopHasRun            == the theorem, for letters of the trace automaton
-use Rattle.std.specs.Prelude.{◌≡◌, ℕ, ◌<◌, ◌≤◌, Bool, true, List, [], ◌∷◌, map}
+use Rattle.std.specs.Prelude.{◌≡◌, ℕ, ◌≤◌, Bool, true, List, [], ◌∷◌, map}
 use Rattle.ml_lists.specs.Member.{IsMember}
 use Rattle.ml_lists.specs.Repeated.{repeated}
 use Rattle.ml_trace.specs.declared.letters.Transition.{Transition}
 use Rattle.ml_trace.specs.declared.marks.Mark.{Mark}
-use Rattle.ml_trace.specs.Marks.{lowest_mark, is_odd}
-use Rattle.ml_trace.specs.NamesCondition.{NamesCondition}
+use Rattle.ml_trace.specs.MarkOrder.{lowest_mark, is_odd}
+use Rattle.ml_trace.specs.NamesCondition.{NamesCondition, EachNameStands}
 use Rattle.ml_trace.specs.Run.{AcceptingRun, in_letter}
-use Rattle.ml_trace.specs.Stack.{Item, Entry, has}
+use Rattle.ml_trace.specs.Stack.{Item, Entry}
 
 -- the letter and the mark of a step
 pub record MarkedStep (L : Type 0) : Type 0 where
@@ -39,10 +38,6 @@ marks steps = map (λ s. s.mark) steps
 abbrev pub IsPath : {S L : Type 0} → (L → S → S → Bool → Type 0) → List (MarkedStep L) → Entry S → Entry S → Type 0
 IsPath leads [] e f = e ≡ f
 IsPath {S} leads (s ∷ steps) e f = (next : Entry S) × NamesCondition leads s.letter s.mark e next × IsPath leads steps next f
-
--- each name in use stands in some item of e
-abbrev pub EachNameStands : {S : Type 0} → Entry S → Type 0
-EachNameStands {S} e = (y : ℕ) → y < e.live → (a : Item S) × IsMember a e.items × (has y a.stack ≡ true)
 
 -- some item of e has an accepting run to its own state along w, one or more times over
 pub record CyclicRun {S L : Type 0} (leads : L → S → S → Bool → Type 0) (e : Entry S) (w : List L) : Type 0 where

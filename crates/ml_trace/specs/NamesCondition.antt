@@ -9,6 +9,7 @@
 --   Predecessor leads l e y a        == an item of e with the name y, and a transition from it to the item a
 --   Progress leads l e y a           == one that is advanced in y, or whose transition accepts
 --   NamesCondition leads l m e f     == the condition, of a step from e to f along l with the mark m
+--   EachNameStands e                 == each name in use stands in some item of e
 use Rattle.std.specs.Prelude.{◌≡◌, ◌⊎◌, ℕ, ◌<◌, ◌≤◌, Bool, true}
 use Rattle.ml_lists.specs.Member.{IsMember}
 use Rattle.ml_trace.specs.declared.marks.Mark.{Mark}
@@ -47,3 +48,7 @@ pub record NamesCondition {S L : Type 0} (leads : L → S → S → Bool → Typ
   pub green_traced : (x : ℕ) → m ≡ Green x → (a : Item S) → IsMember a f.items → has x a.stack ≡ true → Progress leads l e x a
   -- and none is advanced in x
   pub green_reset : (x : ℕ) → m ≡ Green x → (a : Item S) → IsMember a f.items → IsAdvanced x a.stack → ⊥
+
+-- each name in use stands in some item of e
+abbrev pub EachNameStands : {S : Type 0} → Entry S → Type 0
+EachNameStands {S} e = (y : ℕ) → y < e.live → (a : Item S) × IsMember a e.items × (has y a.stack ≡ true)

@@ -1,7 +1,7 @@
 // Laws over the definitions of this crate alone. Each stands on a function that does nothing.
-ghost use Rattle.ml_trace.specs.Automaton.{NumbersAreStates};
+ghost use Rattle.ml_trace.specs.AutomatonNumbers.{NumbersAreStates};
 ghost use Rattle.ml_trace.specs.LabelledLoop.{OddLoopHasRun};
-ghost use Rattle.ml_trace.specs.Marks.{PrioritiesAgree};
+ghost use Rattle.ml_trace.specs.MarkOrder.{PrioritiesAgree};
 
 /// Where the odd priorities ascend, the numbering is one-to-one: the state with the number of a state of the automaton is
 /// that state, and the number of the state with a number is that number.

@@ -2,7 +2,7 @@
 
 ghost use Rattle.std.specs.Prelude.{◌≡◌, IfSome, IfNone};
 ghost use Rattle.std.specs.List.Sorted.{IsPermutation};
-ghost use Rattle.ml_trace.specs.Automaton.{HasSmallEnds, RiseByTarget};
+ghost use Rattle.ml_trace.specs.AutomatonNumbers.{HasSmallEnds, RiseByTarget};
 
 use std::marker::Model;
 
@@ -88,7 +88,7 @@ impl Model for Letter {
 
     ghost Value = { List Transition };
 
-    ghost use Rattle.ml_trace.specs.Automaton.{IsLetter};
+    ghost use Rattle.ml_trace.specs.AutomatonNumbers.{IsLetter};
 
     ghost view = { λ a. a.transitions.items };
 

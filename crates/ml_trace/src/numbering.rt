@@ -3,7 +3,8 @@ ghost use Rattle.std.specs.Prelude.{◌≡◌, ◌<◌, ◌≤◌, ◌==◌, ◌
 ghost use Rattle.std.specs.List.{position_or_len, flat_map};
 ghost use Rattle.std.specs.List.Sorted.{IsPermutation, IsNonDecreasingBy};
 ghost use Rattle.ml_lists.specs.Ascending.{IsAscending};
-ghost use Rattle.ml_trace.specs.Automaton.{number, state_of, IsState, HasRoom, AllHaveRoom, IsLetterOf};
+ghost use Rattle.ml_trace.specs.Automaton.{number, IsState, IsLetterOf};
+ghost use Rattle.ml_trace.specs.AutomatonNumbers.{state_of, HasRoom, AllHaveRoom};
 ghost use Rattle.ml_trace.specs.private.LetterMoves.{move_at, rows};
 
 use crate::letters::{AutomatonState, Letter, LocalTraces, Transition, Triple};

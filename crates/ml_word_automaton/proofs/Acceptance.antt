@@ -8,7 +8,8 @@ use Rattle.ml_parity.specs.declared.players.Player.TheVariants.{Even, Odd}
 use Rattle.ml_parity.specs.Winner.{Wins}
 use Rattle.ml_graph.specs.Graph.{Graph}
 use Rattle.ml_trace.specs.WordAutomata.{WordLasso, IsWordLasso, IsAcceptedFrom}
-use Rattle.ml_ctl.specs.Formula.{Formula, is_linear, occurrences}
+use Rattle.ml_ctl.specs.Formula.{Formula, occurrences}
+use Rattle.ml_ctl.specs.Sorts.{is_linear}
 use Rattle.ml_ltl.specs.Problem.{in_sense}
 use Rattle.ml_blocks.specs.Items.{Item, now}
 use Rattle.ml_blocks.proofs.Agreement.{stands_smaller, states_told}

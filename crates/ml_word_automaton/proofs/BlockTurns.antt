@@ -21,7 +21,8 @@ use Rattle.ml_graph.specs.CheckingGame.{mover, pairs_or_sink, successors_of, tar
 use Rattle.ml_graph.specs.declared.node.Node.TheVariants as node
 use Rattle.ml_graph.specs.Graph.{Graph, node_at, priority_at}
 use Rattle.ml_trace.specs.WordAutomata.{WordLasso, IsWordLasso}
-use Rattle.ml_ctl.specs.Formula.{Formula, is_linear}
+use Rattle.ml_ctl.specs.Formula.{Formula}
+use Rattle.ml_ctl.specs.Sorts.{is_linear}
 use Rattle.ml_ctl.specs.Paths.{has_step}
 use Rattle.ml_blocks.specs.Items.{Item, Row, OfState, Waits, Becomes, Either, now, row}
 use Rattle.ml_blocks.specs.ItemSets.{put_all, without, next_items, eventualities}

@@ -15,7 +15,7 @@ use Rattle.ml_graph.specs.Graph.{Graph, IsGraph, node_at, priority_at, size}
 use Rattle.ml_graph.specs.declared.node.Node.{Node}
 use Rattle.ml_graph.specs.declared.node.Node.TheVariants as node
 use Rattle.ml_graph.proofs.References.{diamond_target, root_in_range}
-use Rattle.ml_trace.specs.Automaton.{HasSmallEnds}
+use Rattle.ml_trace.specs.AutomatonNumbers.{HasSmallEnds}
 use Rattle.ml_trace.specs.declared.letters.Transition.{Transition}
 use Rattle.ml_word_automaton.specs.Letters.{Automaton, AreThoseIn, HasTransitions, IsState, IsTransition, begins, behind, is_true, node_of}
 use Rattle.ml_word_automaton.specs.WordAutomaton.{Leads, Walks}

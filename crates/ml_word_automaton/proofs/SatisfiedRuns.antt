@@ -24,7 +24,8 @@ use Rattle.ml_graph.specs.declared.node.Node.TheVariants as node
 use Rattle.ml_graph.specs.Graph.{Graph, node_at, size}
 use Rattle.ml_trace.specs.Run.{Run, AcceptingRun}
 use Rattle.ml_trace.specs.WordAutomata.{WordLasso, IsWordLasso, IsAcceptedFrom, stem, turn}
-use Rattle.ml_ctl.specs.Formula.{Formula, is_linear}
+use Rattle.ml_ctl.specs.Formula.{Formula}
+use Rattle.ml_ctl.specs.Sorts.{is_linear}
 use Rattle.ml_blocks.specs.Items.{Item, now}
 use Rattle.ml_blocks.specs.Places.{Constant}
 use Rattle.ml_blocks.proofs.ItemSetMembers.{alone}

@@ -6,7 +6,8 @@ use Rattle.std.specs.Bool.{IsTrue, beq}
 use Rattle.std.proofs.lemmas.Bool.{false≢true}
 use Rattle.ml_base.specs.Structure.{Structure}
 use Rattle.ml_lists.specs.Lasso.{Lasso}
-use Rattle.ml_ctl.specs.Formula.{Formula, is_linear}
+use Rattle.ml_ctl.specs.Formula.{Formula}
+use Rattle.ml_ctl.specs.Sorts.{is_linear}
 use Rattle.ml_ctl.specs.Meaning.{Satisfies}
 use Rattle.ml_word_graph.specs.Problem.{HoldsAt, IsAdmitted, IsWordFrom}
 use Rattle.ml_word_graph.proofs.Complement.{here_says}

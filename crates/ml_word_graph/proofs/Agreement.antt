@@ -14,7 +14,8 @@ use Rattle.ml_graph.specs.Graph.{Graph, size}
 use Rattle.ml_graph.specs.CheckingGame.{Holds, Pair, checking_game, vertex_number}
 use Rattle.ml_graph.proofs.CheckingGame.{is_game}
 use Rattle.ml_graph.proofs.OneStep.{vertex_low}
-use Rattle.ml_ctl.specs.Formula.{Formula, is_linear}
+use Rattle.ml_ctl.specs.Formula.{Formula}
+use Rattle.ml_ctl.specs.Sorts.{is_linear}
 use Rattle.ml_ctl.specs.Meaning.{Satisfies}
 use Rattle.ml_ctl.specs.Problem.{in_sense}
 use Rattle.ml_word_graph.specs.Laws.{GraphsAgree}

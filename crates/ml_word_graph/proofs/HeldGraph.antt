@@ -8,7 +8,8 @@ use Rattle.ml_graph.specs.Graph.{Graph}
 use Rattle.ml_nodes.proofs.HeldClosures.{IsNamedForm, held}
 use Rattle.ml_nodes.proofs.HeldNames.{IsHeld, kind_named}
 use Rattle.ml_text.specs.Names.{Proposition}
-use Rattle.ml_ctl.specs.Formula.{Formula, names}
+use Rattle.ml_ctl.specs.Formula.{Formula}
+use Rattle.ml_ctl.specs.FormulaNames.{names}
 use Rattle.ml_ctl.specs.Signs.{own}
 use Rattle.ml_ctl.specs.Spelling.{HasShortNames, is_spelled}
 use Rattle.ml_word_graph.specs.WordGraph.{Place, Form, Root, Total, HasEdge, LeadsOn, True, Now, Later, Rest, Both, Neither}

@@ -16,7 +16,8 @@ use Rattle.std.proofs.lemmas.Bool.{and_parts}
 use Rattle.ml_lists.specs.Member.{IsMember}
 use Rattle.ml_text.specs.declared.token.Operator.{Operator}
 use Rattle.ml_text.specs.declared.token.Operator.TheVariants as operator
-use Rattle.ml_ctl.specs.Formula.{Formula, Const, Prop, Not, Binary, Temporal, Paired, Quantified, is_linear, occurrences}
+use Rattle.ml_ctl.specs.Formula.{Formula, Const, Prop, Not, Binary, Temporal, Paired, Quantified, occurrences}
+use Rattle.ml_ctl.specs.Sorts.{is_linear}
 use Rattle.ml_ctl.specs.declared.term.Tense.{Tense}
 use Rattle.ml_ctl.specs.declared.term.Tense.TheVariants as tense
 use Rattle.ml_ctl.specs.declared.term.Pairing.{Pairing}

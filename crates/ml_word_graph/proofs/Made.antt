@@ -19,7 +19,7 @@ use Rattle.ml_nodes.specs.NumberedValues as numbered
 use Rattle.ml_nodes.specs.NumberedValues.{children_of}
 use Rattle.ml_nodes.proofs.InRange.{none_twice}
 use Rattle.ml_nodes.proofs.NumberedClosures.{HasName, IsViewed, closed_draft, form_view}
-use Rattle.ml_ctl.specs.Formula as plain
+use Rattle.ml_ctl.specs.FormulaNames as formula
 use Rattle.ml_ctl.specs.Formula.{Formula, occurrences}
 use Rattle.ml_word_graph.specs.WordGraph.{Place, Form, Root, Total, HasEdge, LeadsOn, True, Constant, Literal, And, Or, Diamond, Square, IsReached, at_root, behind, IsGraphOf}
 use Rattle.ml_word_graph.specs.WordGraph.{children, form_of, forms, priority_of, start_of}
@@ -189,5 +189,5 @@ graph_made f negated names actions vs qs same blank t =
     subst (λ ws. IsGraphOf (record { nodes = vs; priorities = qs; root = 0; props = names; actions = ws }) f negated)
     (sym blank)
     (trimmed_graph f negated names vs qs t
-    (kind_among Proposition (plain.names f) same)
-    (subst (IsDistinct bytes_eq) (sym same) (distinct_names [] (of_kind Proposition (plain.names f)) none_twice)))
+    (kind_among Proposition (formula.names f) same)
+    (subst (IsDistinct bytes_eq) (sym same) (distinct_names [] (of_kind Proposition (formula.names f)) none_twice)))

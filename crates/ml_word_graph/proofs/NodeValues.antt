@@ -10,7 +10,8 @@ use Rattle.ml_base.specs.Structure.{Structure, lists}
 use Rattle.ml_text.specs.declared.token.Operator.TheVariants as operator
 use Rattle.std.proofs.lemmas.Bool.{false≢true}
 use Rattle.ml_lists.proofs.Says.{not-and, not-or}
-use Rattle.ml_ctl.specs.Formula.{Formula, Const, Prop, Not, Binary, Temporal, Paired, Quantified, is_linear}
+use Rattle.ml_ctl.specs.Formula.{Formula, Const, Prop, Not, Binary, Temporal, Paired, Quantified}
+use Rattle.ml_ctl.specs.Sorts.{is_linear}
 use Rattle.ml_ctl.specs.declared.term.Tense.TheVariants as tense
 use Rattle.ml_ctl.specs.declared.term.Pairing.{Pairing}
 use Rattle.ml_ctl.specs.declared.term.Pairing.TheVariants as pairing

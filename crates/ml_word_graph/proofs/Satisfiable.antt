@@ -22,7 +22,8 @@ use Rattle.ml_lists.proofs.Unrolling.{next_place_low, next_place-entry}
 use Rattle.ml_lists.proofs.Ranges.{range-member, member-range}
 use Rattle.ml_base.specs.declared.structure.Edge.{Edge}
 use Rattle.ml_base.specs.Structure.{Structure, lists}
-use Rattle.ml_ctl.specs.Formula.{Formula, Const, Prop, Not, Binary, Temporal, Paired, Quantified, is_linear}
+use Rattle.ml_ctl.specs.Formula.{Formula, Const, Prop, Not, Binary, Temporal, Paired, Quantified}
+use Rattle.ml_ctl.specs.Sorts.{is_linear}
 use Rattle.ml_ctl.specs.declared.term.Tense.TheVariants as tense
 use Rattle.ml_ctl.specs.declared.term.Pairing.TheVariants as pairing
 use Rattle.ml_ctl.specs.Meaning.{Satisfies}

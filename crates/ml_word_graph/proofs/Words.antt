@@ -8,7 +8,7 @@ use Rattle.std.proofs.Common.{◌≡◌, ◌≢◌, ℕ, zero, suc, ◌+◌, ◌
 use Rattle.std.proofs.lemmas.Bool.{and_parts, cases_eq, cases_lt}
 use Rattle.ml_lists.specs.Lasso.{Lasso, entry, next_place}
 use Rattle.ml_lists.specs.Walk.{walk}
-use Rattle.ml_lists.specs.Search.{Found, First}
+use Rattle.ml_lists.specs.Found.{Found, First}
 use Rattle.ml_lists.specs.Pigeons.{Twice}
 use Rattle.ml_lists.proofs.Pigeons.{pigeons}
 use Rattle.ml_lists.proofs.Search.{search, search_first}

@@ -12,7 +12,8 @@ use Rattle.ml_base.specs.Structure.{Structure}
 use Rattle.ml_graph.specs.CheckingGame.{Holds}
 use Rattle.ml_graph.specs.Graph.{Graph, size}
 use Rattle.ml_nodes.specs.AlikeNodes.{AreAlike}
-use Rattle.ml_ctl.specs.Formula.{Formula, is_linear, occurrences}
+use Rattle.ml_ctl.specs.Formula.{Formula, occurrences}
+use Rattle.ml_ctl.specs.Sorts.{is_linear}
 use Rattle.ml_ctl.specs.Problem.{Problem}
 use Rattle.ml_ltl.specs.Problem as ltl
 use Rattle.ml_word_graph.specs.Problem.{HoldsAt, IsAdmitted, IsSatisfiable}

@@ -17,7 +17,8 @@ use Rattle.std.specs.Str.{bytes_eq}
 use Rattle.ml_text.specs.declared.token.Operator.TheVariants as operator
 use Rattle.ml_text.specs.Names.{Proposition, of_kind}
 use Rattle.ml_text.specs.Operators.{weight}
-use Rattle.ml_ctl.specs.Formula.{Formula, Const, Prop, Not, Binary, Temporal, Paired, Quantified, names, occurrences}
+use Rattle.ml_ctl.specs.Formula.{Formula, Const, Prop, Not, Binary, Temporal, Paired, Quantified, occurrences}
+use Rattle.ml_ctl.specs.FormulaNames.{names}
 use Rattle.ml_blocks.specs.Items as plain
 use Rattle.ml_blocks.specs.Items.{Item}
 use Rattle.ml_blocks.specs.Places as node

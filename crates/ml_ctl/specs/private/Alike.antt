@@ -2,7 +2,7 @@
 --
 --   alike  == signs of one kind do the same, but for what they make
 use Rattle.std.specs.Prelude.{ℕ, List, refl}
-use Rattle.ml_text.specs.Signs.{named}
+use Rattle.ml_text.specs.SignKinds.{named}
 use Rattle.ml_text.specs.declared.named_signs.Sign.{Sign}
 use Rattle.ml_text.specs.declared.named_signs.Sign.TheVariants.{Lower, Upper}
 use Rattle.ml_text.specs.private.Tables.{IsLike}

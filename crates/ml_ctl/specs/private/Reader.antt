@@ -4,7 +4,7 @@
 use Rattle.std.specs.Prelude.{ℕ, List}
 use Rattle.ml_text.specs.private.Tables.{Tables}
 use Rattle.ml_ctl.specs.declared.language.Language.{Language}
-use Rattle.ml_text.specs.Signs.{HasShortName, named}
+use Rattle.ml_text.specs.SignKinds.{HasShortName, named}
 use Rattle.ml_text.specs.declared.named_signs.Sign.{Sign}
 use Rattle.ml_ctl.specs.Term.{formula_of}
 use Rattle.ml_ctl.specs.Text.{ctl_signs}

@@ -10,9 +10,9 @@ use Rattle.ml_lists.specs.Member.{IsMember}
 use Rattle.ml_lists.proofs.FirstEntries.{firsts}
 use Rattle.ml_lists.proofs.BreadthFirstSearch.{Looked}
 use Rattle.ml_trace.specs.declared.letters.Transition.{Transition}
-use Rattle.ml_trace.specs.Marks.{FitsBelow}
+use Rattle.ml_trace.specs.MarkOrder.{FitsBelow}
 use Rattle.ml_trace.specs.Stack.{Item}
-use Rattle.ml_history.specs.History.{start}
+use Rattle.ml_history.specs.HistoryStep.{start}
 use Rattle.ml_history.specs.HistoryOrder.{history_eq}
 use Rattle.ml_history.specs.HistoryStep.{step_mark}
 use Rattle.ml_determinise.specs.Numbering.{IsReached, successors, move_along, moves_from}

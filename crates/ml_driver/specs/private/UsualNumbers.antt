@@ -3,7 +3,7 @@
 --   HasUsualNumbers c == the limit of the command c, where it has one, isn't 0, and the number, where it has one, is one of
 --                        its family's range
 use Rattle.std.specs.Prelude.{◌≡◌, ◌≤◌, true}
-use Rattle.ml_gen.specs.Families.{is_in_range}
+use Rattle.ml_gen.specs.FamilyRanges.{is_in_range}
 use Rattle.ml_driver.specs.declared.command.Command.{Command}
 use Rattle.ml_driver.specs.declared.command.Command.TheVariants.{Decide, Valid, Find, Prove, Determinise, Realize, Gen, Bench}
 

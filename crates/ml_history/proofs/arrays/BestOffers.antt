@@ -21,7 +21,7 @@ use Rattle.ml_lists.specs.Member.{IsMember}
 use Rattle.ml_lists.proofs.Ascending.{ascending-apart, ascending-append}
 use Rattle.ml_lists.proofs.Member.{Image, Place, member-append, member-append_left, member-append_right, member-place, place-member, member-map, member-map_from}
 use Rattle.ml_trace.specs.declared.letters.Transition.{Transition}
-use Rattle.ml_trace.specs.Automaton.{RiseByTarget}
+use Rattle.ml_trace.specs.AutomatonNumbers.{RiseByTarget}
 use Rattle.ml_trace.specs.Stack.{Item}
 use Rattle.ml_trace.proofs.Stacks.{member-has}
 use Rattle.ml_history.specs.declared.flat.offers.Offer.{Offer}

@@ -24,7 +24,8 @@ use Rattle.ml_trace.specs.declared.letters.Transition.{Transition}
 use Rattle.ml_trace.specs.declared.marks.Mark.{Mark}
 use Rattle.ml_trace.specs.Stack.{Item, has}
 use Rattle.ml_trace.proofs.Stacks.{ends-has, has-member, member-has}
-use Rattle.ml_history.specs.History.{IsHistory, start}
+use Rattle.ml_history.specs.History.{IsHistory}
+use Rattle.ml_history.specs.HistoryStep.{start}
 use Rattle.ml_history.specs.HistoryOrder.{history_eq, history_eq_equiv, history_eq-same, names_of}
 use Rattle.ml_history.specs.HistoryStep.{live, last_name, taken_along, offers, stands, is_full, through, cut, survives, is_red, is_green, new_number, renumbered, mark_of, stepped, step_mark}
 use Rattle.ml_history.specs.private.TreeStep.{flagged}

@@ -26,7 +26,7 @@ use Rattle.ml_lists.proofs.Ranks.{count_lost}
 use Rattle.ml_lists.proofs.Entries.{same_head}
 use Rattle.ml_trace.specs.declared.marks.Mark.{Mark}
 use Rattle.ml_trace.specs.declared.marks.Mark.TheVariants.{Red, Green}
-use Rattle.ml_trace.specs.Marks.{mark_le}
+use Rattle.ml_trace.specs.MarkOrder.{mark_le}
 use Rattle.ml_trace.specs.Stack.{has, ends_in}
 use Rattle.ml_trace.proofs.Stacks.{ends-has, one_end}
 use Rattle.ml_history.specs.HistoryStep.{offered, beats, last_name}

@@ -8,15 +8,17 @@
 --   odd_mark_has_run  == the first law
 use Rattle.std.proofs.Common.{ℕ, ◌≡◌, true, List, [], ◌∷◌, refl, sym, subst, ap}
 use Rattle.ml_trace.specs.declared.letters.Transition.{Transition}
-use Rattle.ml_trace.specs.LabelledLoop.{MarkedStep, letters, marks, IsPath, EachNameStands, CyclicRun}
-use Rattle.ml_trace.specs.Marks.{is_odd, lowest_mark}
+use Rattle.ml_trace.specs.LabelledLoop.{MarkedStep, letters, marks, IsPath, CyclicRun}
+use Rattle.ml_trace.specs.NamesCondition.{EachNameStands}
+use Rattle.ml_trace.specs.MarkOrder.{is_odd, lowest_mark}
 use Rattle.ml_trace.specs.Run.{in_letter}
 use Rattle.ml_trace.specs.Stack.{Item}
 use Rattle.ml_trace.proofs.OddLoop.{odd_loop}
 use Rattle.ml_trace.proofs.Stacks.{ends-has}
 use Rattle.ml_history.specs.CycleLaws.{entry, OddMarkHasRun}
 use Rattle.ml_history.specs.History.{IsHistory}
-use Rattle.ml_history.specs.HistoryStep.{after, marks_along, stepped, step_mark}
+use Rattle.ml_history.specs.HistoryStep.{stepped, step_mark}
+use Rattle.ml_history.specs.HistoryRuns.{after, marks_along}
 use Rattle.ml_history.proofs.definition.StepKeeps.{step_is_history}
 use Rattle.ml_history.proofs.definition.StepNames.{step_names}
 

@@ -15,7 +15,8 @@ use Rattle.ml_lists.proofs.Member.{member-map}
 use Rattle.ml_trace.specs.declared.letters.Transition.{Transition}
 use Rattle.ml_trace.specs.Run.{Run, AcceptingRun, in_letter}
 use Rattle.ml_trace.specs.Stack.{Item}
-use Rattle.ml_history.specs.HistoryStep.{after, marks_along, stepped, step_mark}
+use Rattle.ml_history.specs.HistoryStep.{stepped, step_mark}
+use Rattle.ml_history.specs.HistoryRuns.{after, marks_along}
 use Rattle.ml_history.proofs.cycle_laws.ConstantFront.{Walk, walk_marks, SomeAccepts}
 use Rattle.ml_history.proofs.definition.StackStep.{StackStepTo, stack_step}
 

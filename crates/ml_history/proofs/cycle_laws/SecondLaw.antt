@@ -10,12 +10,12 @@ use Rattle.ml_lists.proofs.Repeated.{member-repeated, repeated-member}
 use Rattle.ml_trace.specs.declared.letters.Transition.{Transition}
 use Rattle.ml_trace.specs.declared.marks.Mark.{Mark}
 use Rattle.ml_trace.specs.declared.marks.Mark.TheVariants.{Red, Green, Neutral}
-use Rattle.ml_trace.specs.Marks.{mark_le, lowest_mark, is_odd}
+use Rattle.ml_trace.specs.MarkOrder.{mark_le, lowest_mark, is_odd}
 use Rattle.ml_trace.specs.Stack.{Item}
 use Rattle.ml_trace.proofs.MarkOrder.{mark_le_trans, lowest_mark_le, lowest_mark_is}
 use Rattle.ml_trace.proofs.Stacks.{ends-has}
 use Rattle.ml_history.specs.CycleLaws.{ReturnsTo, AcceptingCycle, RunHasOddMark}
-use Rattle.ml_history.specs.HistoryStep.{marks_along}
+use Rattle.ml_history.specs.HistoryRuns.{marks_along}
 use Rattle.ml_history.proofs.cycle_laws.ConstantFront.{walk_marks, FrontFound, front_found, full_mark, red_above}
 use Rattle.ml_history.proofs.cycle_laws.FollowedRuns.{Followed, FollowedAccepting, follow_accepting, after_times, marks_times, one_stack}
 

@@ -12,7 +12,7 @@ use Rattle.ml_lists.specs.Member.{IsMember}
 use Rattle.ml_trace.specs.declared.letters.Transition.{Transition}
 use Rattle.ml_trace.specs.declared.marks.Mark.{Mark}
 use Rattle.ml_trace.specs.declared.marks.Mark.TheVariants.{Red, Green}
-use Rattle.ml_trace.specs.Marks.{mark_le}
+use Rattle.ml_trace.specs.MarkOrder.{mark_le}
 use Rattle.ml_trace.specs.Run.{in_letter}
 use Rattle.ml_trace.specs.Stack.{Item, has}
 use Rattle.ml_history.specs.HistoryStep.{live, offers, offered, beats, taken_along, is_full, is_red, is_green, survives, through, stepped, step_mark}

@@ -14,8 +14,10 @@ use Rattle.ml_lists.proofs.Ranks.{count_passes, count_same, count_hit}
 use Rattle.ml_trace.specs.declared.letters.Transition.{Transition}
 use Rattle.ml_trace.specs.Stack.{Item, has, ends_in}
 use Rattle.ml_trace.proofs.Stacks.{ends-has, has-member, member-has, ends-map}
-use Rattle.ml_history.specs.History.{IsHistory, start, up_to}
-use Rattle.ml_history.specs.HistoryStep.{live, last_name, offers, taken_along, stands, is_last, is_full, cut, survives, through, stepped, after}
+use Rattle.ml_history.specs.History.{IsHistory, up_to}
+use Rattle.ml_history.specs.HistoryStep.{start}
+use Rattle.ml_history.specs.HistoryStep.{live, last_name, offers, taken_along, stands, is_last, is_full, cut, survives, through, stepped}
+use Rattle.ml_history.specs.HistoryRuns.{after}
 use Rattle.ml_history.proofs.definition.CutStacks.{through-stops, through-goes, through-has, through-keeps_end, through-whole, through-not_empty, through-ascending, through-up_to}
 use Rattle.ml_history.proofs.definition.NamesInUse.{Ending, StandsFrom, stands-in, is_last-from, live-has, live-witness}
 use Rattle.ml_history.proofs.definition.Offers.{Offer}

@@ -10,7 +10,7 @@ use Rattle.ml_lists.specs.Least.{least}
 use Rattle.ml_lists.proofs.Least.{IsLeast, Says, least-says, least-found}
 use Rattle.ml_trace.specs.declared.marks.Mark.{Mark}
 use Rattle.ml_trace.specs.declared.marks.Mark.TheVariants.{Red, Green, Neutral}
-use Rattle.ml_trace.specs.Marks.{mark_le}
+use Rattle.ml_trace.specs.MarkOrder.{mark_le}
 use Rattle.ml_history.specs.HistoryStep.{mark_of}
 
 module _ (red green : ℕ → Bool) (n : ℕ) where

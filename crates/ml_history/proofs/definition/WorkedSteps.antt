@@ -10,8 +10,9 @@ use Rattle.std.proofs.Common.{ℕ, ◌≡◌, true, false, List, [], ◌∷◌, 
 use Rattle.ml_trace.specs.declared.letters.Transition.{Transition}
 use Rattle.ml_trace.specs.declared.marks.Mark.TheVariants.{Red, Green}
 use Rattle.ml_trace.specs.Stack.{Item}
-use Rattle.ml_history.specs.History.{start}
-use Rattle.ml_history.specs.HistoryStep.{stepped, step_mark, after}
+use Rattle.ml_history.specs.HistoryStep.{start}
+use Rattle.ml_history.specs.HistoryStep.{stepped, step_mark}
+use Rattle.ml_history.specs.HistoryRuns.{after}
 
 -- a transition that does not accept, and one that does
 abbrev plain : ℕ → ℕ → Transition

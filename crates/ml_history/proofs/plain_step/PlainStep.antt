@@ -16,7 +16,7 @@ use Rattle.ml_lists.specs.Member.{IsMember}
 use Rattle.ml_lists.proofs.Counting.{count-true, count-false, count_none}
 use Rattle.ml_lists.proofs.Member.{Image, All-member, member-map_from}
 use Rattle.ml_lists.proofs.Ranks.{count_all}
-use Rattle.ml_trace.specs.Automaton.{HasSmallEnds}
+use Rattle.ml_trace.specs.AutomatonNumbers.{HasSmallEnds}
 use Rattle.ml_trace.specs.declared.letters.Transition.{Transition}
 use Rattle.ml_trace.specs.declared.marks.Mark.{Mark}
 use Rattle.ml_trace.specs.Stack.{Item, ends_in}

@@ -11,7 +11,7 @@ use Rattle.ml_lists.specs.Counting.{count}
 use Rattle.ml_lists.specs.Least.{least}
 use Rattle.ml_lists.specs.Member.{IsMember}
 use Rattle.ml_lists.proofs.Member.{Image, member-map_from}
-use Rattle.ml_trace.specs.Automaton.{HasSmallEnds}
+use Rattle.ml_trace.specs.AutomatonNumbers.{HasSmallEnds}
 use Rattle.ml_trace.specs.declared.letters.Transition.{Transition}
 use Rattle.ml_trace.specs.Stack.{has}
 use Rattle.ml_history.specs.private.Forest.{Forest, Empty, names, places, items}

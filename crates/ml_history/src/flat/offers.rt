@@ -1,7 +1,7 @@
 // The best offers of a letter, by keys.
 ghost use Rattle.std.specs.Prelude.{◌≡◌, ◌<◌, [], ◌∷◌, length, map, IfOk, IfSome, IfNone, OnOk};
 ghost use Rattle.ml_lists.specs.Member.{IsMember};
-ghost use Rattle.ml_trace.specs.Automaton.{RiseByTarget};
+ghost use Rattle.ml_trace.specs.AutomatonNumbers.{RiseByTarget};
 ghost use Rattle.ml_history.specs.History.{IsSmallHistory};
 ghost use Rattle.ml_history.specs.HistoryStep.{offers_along, taken_along};
 ghost use Rattle.ml_history.specs.private.Keys.{TellOffers, offered_by, IsOffer, wins, put_last, put_some};

@@ -12,7 +12,8 @@ use Rattle.ml_base.specs.declared.doc_refusal.DocRefusal.TheVariants as refused
 use Rattle.ml_lines.specs.Lines.{Line}
 use Rattle.ml_lines.specs.Faults.{IsFault}
 use Rattle.ml_lists.specs.Documents.{IsFirstBroken}
-use Rattle.ml_kripke.specs.BodyRules.{Place, body, rules, rule_number}
+use Rattle.ml_kripke.specs.BodyRules.{Place, body, rules}
+use Rattle.ml_kripke.specs.RuleNumbers.{rule_number}
 use Rattle.ml_kripke.specs.declared.body_rule.BodyRule.{BodyRule}
 use Rattle.ml_kripke.specs.declared.body_rule.BodyRule.TheVariants.{OfKind}
 use Rattle.ml_kripke.specs.declared.read_line.LineRefusal.{LineRefusal}

@@ -3,7 +3,7 @@
 --   mu_tables  == its grammar and its signs, and what the values of the program stand for
 use Rattle.std.specs.Prelude.{ℕ, Bool, List}
 use Rattle.ml_text.specs.private.Tables.{Tables}
-use Rattle.ml_text.specs.Signs.{HasShortName, named}
+use Rattle.ml_text.specs.SignKinds.{HasShortName, named}
 use Rattle.ml_text.specs.declared.named_signs.Sign.{Sign}
 use Rattle.ml_mu.specs.Term.{formula_of}
 use Rattle.ml_mu.specs.Text.{mu_signs}

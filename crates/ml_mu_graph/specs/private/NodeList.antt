@@ -16,7 +16,8 @@ use Rattle.ml_text.specs.Names.{Proposition, Action, of_kind}
 use Rattle.ml_text.specs.declared.token.Operator.{Operator}
 use Rattle.ml_text.specs.declared.token.Operator.TheVariants as operator
 use Rattle.ml_text.specs.Operators.{weight}
-use Rattle.ml_mu.specs.Formula.{Formula, Const, Prop, Var, Not, Binary, Modal, Binder, names, occurrences}
+use Rattle.ml_mu.specs.Formula.{Formula, Const, Prop, Var, Not, Binary, Modal, Binder, occurrences}
+use Rattle.ml_mu.specs.FormulaNames.{names}
 use Rattle.ml_nodes.specs.Nodes.{positive, negative, lead_to, constant}
 use Rattle.ml_nodes.specs.private.Connectives.{operator_nodes, operator_priorities}
 use Rattle.ml_mu_graph.specs.MuGraph.{modality, dual, binder_priority, opposite}

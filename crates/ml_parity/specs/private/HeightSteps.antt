@@ -29,7 +29,7 @@ use Rattle.std.specs.List.{sum_by}
 use Rattle.ml_parity.specs.declared.one_sided.graph.Arc.{Arc}
 use Rattle.ml_parity.specs.declared.one_sided.search.Pass.{Pass}
 use Rattle.ml_parity.specs.declared.one_sided.search.Pass.TheVariants.{Stays, Raised, TooHigh}
-use Rattle.ml_parity.specs.Heights.{OneSidedGraph, IsWalk, count_at, Attained, IsMost}
+use Rattle.ml_parity.specs.OneSided.{OneSidedGraph, IsWalk, count_at, Attained, IsMost}
 use Rattle.ml_parity.specs.private.SinkGame.{flag_at}
 
 -- along the arc a the number does not rise, and falls by one if the priority of a is p

@@ -1,7 +1,8 @@
 // The test whether numbers are heights.
 
 ghost use Rattle.std.specs.Prelude.{◌↔◌, ◌/◌, ◌<◌, IsTrue, length, get_or, [], All};
-ghost use Rattle.ml_parity.specs.Heights.{AreHeights, FallsAlong, HasShape};
+ghost use Rattle.ml_parity.specs.Heights.{FallsAlong};
+ghost use Rattle.ml_parity.specs.OneSided.{AreHeights, HasShape};
 ghost use Rattle.ml_parity.specs.HeightLists.{RowsFall};
 ghost use Rattle.ml_parity.specs.Refusal.{lists_of};
 

@@ -1,7 +1,7 @@
 // The search for a cycle through an arc.
 
 ghost use Rattle.std.specs.Prelude.{◌≡◌, ◌<◌, ◌%◌, ℕ, true, Contains, IfOk, IfSome, List, MatchOption, OnOk, length};
-ghost use Rattle.ml_parity.specs.Heights.{IsEvenCycle, IsWalk};
+ghost use Rattle.ml_parity.specs.OneSided.{IsEvenCycle, IsWalk};
 ghost use Rattle.ml_parity.specs.private.HeightSteps.{Comes, FindsAlong, IsSearch, IsSpread, IsWay, LeadBack, LoopAt, missing};
 ghost use Rattle.ml_parity.specs.private.SinkGame.{flag_at};
 ghost use Rattle.ml_parity.specs.declared.one_sided.graph.Arc.{Arc};

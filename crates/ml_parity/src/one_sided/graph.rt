@@ -1,7 +1,7 @@
 // One-sided graphs: finite graphs whose arcs have priorities.
 
 ghost use Rattle.std.specs.Prelude.{◌≡◌};
-ghost use Rattle.ml_parity.specs.Heights.{IsOneSided};
+ghost use Rattle.ml_parity.specs.OneSided.{IsOneSided};
 ghost use Rattle.ml_parity.specs.HeightLists.{graph_of};
 
 use std::marker::Model;
@@ -31,7 +31,7 @@ pub struct OneSided {
 }
 
 impl Model for OneSided {
-    ghost use Rattle.ml_parity.specs.Heights.{OneSidedGraph, IsOneSided};
+    ghost use Rattle.ml_parity.specs.OneSided.{OneSidedGraph, IsOneSided};
     ghost use Rattle.ml_parity.specs.HeightLists.{graph_of};
 
     ghost Value = { OneSidedGraph };

@@ -1,7 +1,7 @@
 // The search for heights: the longest walks, or an even cycle.
 
 ghost use Rattle.std.specs.Prelude.{◌≡◌, ◌↔◌, ◌%◌, ℕ, [], ◌∷◌, Contains, IfOk, IsErr, IsOk, MatchOption, MatchResult, OnOk, get_or, length};
-ghost use Rattle.ml_parity.specs.Heights.{AreHeights, AreLongest, AtMost, EvenCycleIn, IsEvenCycle, count_at};
+ghost use Rattle.ml_parity.specs.OneSided.{AreHeights, AreLongest, AtMost, EvenCycleIn, IsEvenCycle, count_at};
 ghost use Rattle.ml_parity.specs.private.HeightSteps.{AreAttained, IsAppended, IsColumn, IsPass, LoopAt, RaisesAlong};
 ghost use Rattle.ml_parity.specs.Refusal.{lists_of};
 

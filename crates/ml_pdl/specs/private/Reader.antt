@@ -3,7 +3,7 @@
 --   pdl_tables  == its grammar and its signs, and what the values of the program stand for
 use Rattle.std.specs.Prelude.{ℕ, Bool, List}
 use Rattle.ml_text.specs.private.Tables.{Tables}
-use Rattle.ml_text.specs.Signs.{HasShortName, named}
+use Rattle.ml_text.specs.SignKinds.{HasShortName, named}
 use Rattle.ml_text.specs.declared.named_signs.Sign.{Sign}
 use Rattle.ml_pdl.specs.Tables.{pdl_grammar}
 use Rattle.ml_pdl.specs.Text.{pdl_signs}

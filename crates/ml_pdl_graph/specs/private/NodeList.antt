@@ -11,7 +11,8 @@ use Rattle.ml_graph.specs.declared.node.Node.TheVariants as node
 use Rattle.ml_text.specs.NameLists.{with_names, place_of}
 use Rattle.ml_text.specs.Names.{Proposition, Action, of_kind}
 use Rattle.ml_text.specs.Operators.{weight}
-use Rattle.ml_pdl.specs.Formula.{Formula, Const, Prop, Not, Binary, Modal, Repeat, Program, Act, Seq, Alt, Star, Test, names, program_names, occurrences, program_occurrences}
+use Rattle.ml_pdl.specs.Formula.{Formula, Const, Prop, Not, Binary, Modal, Repeat, Program, Act, Seq, Alt, Star, Test, occurrences, program_occurrences}
+use Rattle.ml_pdl.specs.FormulaNames.{names, program_names}
 use Rattle.ml_nodes.specs.Nodes.{positive, negative, lead_to, constant}
 use Rattle.ml_nodes.specs.private.Connectives.{operator_nodes, operator_priorities}
 use Rattle.ml_pdl_graph.specs.PdlGraph.{diamond, box, own, dual, plain}

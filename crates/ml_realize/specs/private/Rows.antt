@@ -12,7 +12,7 @@ use Rattle.ml_determinise.specs.Numbering.{IsNumbered}
 use Rattle.ml_determinise.specs.declared.moves.DetMove.{DetMove}
 use Rattle.ml_graph.specs.declared.refusals.BlockRefusal.{BlockRefusal}
 use Rattle.ml_graph.specs.declared.refusals.BlockRefusal.TheVariants as block
-use Rattle.ml_history.specs.History.{start}
+use Rattle.ml_history.specs.HistoryStep.{start}
 use Rattle.ml_synthesis.specs.Game.{HasMorePositions}
 use Rattle.ml_synthesis.specs.Synthesis.{IsOutcome}
 use Rattle.ml_synthesis.specs.declared.outcome.Outcome.{Outcome}

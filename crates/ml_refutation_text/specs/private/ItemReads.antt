@@ -19,7 +19,7 @@ use Rattle.std.specs.Prelude.{ℕ, ◌+◌, ◌-◌, ◌^◌, ◌<◌, ◌≤◌
 use Rattle.ml_lines.specs.Lines.{Line}
 use Rattle.ml_lines.specs.Reading.{AreWords, word}
 use Rattle.ml_lists.specs.Ascending.{IsAscending}
-use Rattle.ml_lists.specs.Chains.{last_of}
+use Rattle.ml_lists.specs.Last.{last_of}
 use Rattle.ml_trace.specs.declared.letters.AutomatonState.{AutomatonState}
 use Rattle.ml_trace.specs.Stack as traced
 use Rattle.ml_refutation.specs.Refutation.{Entry, Fits, FitsGuess, IsAbove}

@@ -20,7 +20,8 @@ use Rattle.ml_base.specs.declared.version.Version.{Version}
 use Rattle.ml_lines.specs.Faults.{IsFault}
 use Rattle.ml_lines.specs.Lines.{Word, Line}
 use Rattle.ml_lines.specs.Reading.{AreWords, lines_of, left_of, word}
-use Rattle.ml_lists.specs.Documents.{IsFirstBroken, IsReadTo}
+use Rattle.ml_lists.specs.Documents.{IsFirstBroken}
+use Rattle.ml_lists.specs.Readings.{IsReadTo}
 use Rattle.ml_refutation.specs.Views.{decision_of}
 use Rattle.ml_refutation_text.specs.BodyRules as body
 use Rattle.ml_refutation_text.specs.BodyRules.{Place, AtNothing, rules, rule_number}

@@ -27,9 +27,11 @@ use Rattle.ml_product.specs.Position.{Position, start_of, neutral, with_chosen}
 use Rattle.ml_refutation.specs.Acceptance.{OfSpread}
 use Rattle.ml_refutation.specs.Refutation.{Decision}
 use Rattle.ml_sequent.specs.declared.choice.Side.TheVariants.{Left, Right}
-use Rattle.ml_sequent.specs.Spread.{SpreadList, IsSpread, IsSpreadOf, IsFirstCause}
+use Rattle.ml_sequent.specs.Spread.{SpreadList, IsSpread, IsSpreadOf}
+use Rattle.ml_sequent.specs.FirstCause.{IsFirstCause}
 use Rattle.ml_trace.specs.declared.marks.Mark.{Mark}
-use Rattle.ml_trace.specs.Marks.{priority, FitsBelow}
+use Rattle.ml_trace.specs.Marks.{priority}
+use Rattle.ml_trace.specs.MarkOrder.{FitsBelow}
 use Rattle.ml_refute.specs.declared.lost_game.Turn.{Turn}
 use Rattle.ml_refute.specs.declared.lost_game.Turn.TheVariants as turn
 use Rattle.ml_refute.specs.Extracted.{IsDecisionAt, IsLeastTo, leads_to}

@@ -12,13 +12,13 @@ use Rattle.std.specs.Prelude.{ℕ, ⊤, ◌≡◌, ◌+◌, ◌*◌, ◌<◌, �
 use Rattle.ml_lists.specs.Member.{IsMember}
 use Rattle.ml_graph.specs.Graph.{Graph, odd_priorities}
 use Rattle.ml_history.specs.HistoryStep.{live}
-use Rattle.ml_parity.specs.Heights.{OneSidedGraph}
+use Rattle.ml_parity.specs.OneSided.{OneSidedGraph}
 use Rattle.ml_parity.specs.declared.one_sided.graph.Arc.{Arc}
 use Rattle.ml_product.specs.Arena.{Arena}
 use Rattle.ml_product.specs.Position.{Position}
 use Rattle.ml_refutation.specs.Refutation.{Decision, Split, Clash, Go, Entry, IsMarkOf}
 use Rattle.ml_trace.specs.declared.letters.AutomatonState.{AutomatonState}
-use Rattle.ml_trace.specs.Automaton.{state_of}
+use Rattle.ml_trace.specs.AutomatonNumbers.{state_of}
 use Rattle.ml_trace.specs.Stack.{Item}
 use Rattle.ml_refute.specs.Extracted.{arcs_of}
 use Rattle.ml_refute.specs.private.Found.{position_at}

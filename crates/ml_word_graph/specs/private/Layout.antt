@@ -19,7 +19,8 @@ use Rattle.ml_text.specs.Names.{Proposition, of_kind}
 use Rattle.ml_text.specs.declared.token.Operator.{Operator}
 use Rattle.ml_text.specs.declared.token.Operator.TheVariants as operator
 use Rattle.ml_text.specs.Operators.{weight}
-use Rattle.ml_ctl.specs.Formula.{Formula, Const, Prop, Not, Binary, Temporal, Paired, Quantified, names}
+use Rattle.ml_ctl.specs.Formula.{Formula, Const, Prop, Not, Binary, Temporal, Paired, Quantified}
+use Rattle.ml_ctl.specs.FormulaNames.{names}
 use Rattle.ml_nodes.specs.Nodes.{constant}
 use Rattle.ml_word_graph.specs.declared.layout.Kind.{Kind}
 use Rattle.ml_word_graph.specs.declared.layout.Kind.TheVariants as kind

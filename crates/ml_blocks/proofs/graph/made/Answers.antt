@@ -1,7 +1,8 @@
 use Rattle.std.proofs.Common.{rules, ◌∙◌, ap, arith, length, subst, sym}
 use Rattle.ml_text.specs.Names.{Proposition}
 use Rattle.ml_text.proofs.Names.{few_added}
-use Rattle.ml_ctl.specs.Formula.{names, occurrences}
+use Rattle.ml_ctl.specs.Formula.{occurrences}
+use Rattle.ml_ctl.specs.FormulaNames.{names}
 use Rattle.ml_ctl.specs.Term.{formula_of}
 use Rattle.ml_ctl.proofs.Counting.{few_names}
 use Rattle.ml_blocks.specs.private.Occurrences.{lists_of}

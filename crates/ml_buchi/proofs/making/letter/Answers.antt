@@ -1,7 +1,7 @@
 use Rattle.std.proofs.Common.{◌≤◌, length, map, sym, ap, ◌∙◌, subst, arith}
 use Rattle.std.specs.List.{filter}
 use Rattle.std.proofs.lemmas.List.{take_all}
-use Rattle.ml_trace.specs.Automaton.{HasSmallEnds}
+use Rattle.ml_trace.specs.AutomatonNumbers.{HasSmallEnds}
 use Rattle.ml_buchi.specs.Valuations.{may_take, transition_of}
 use Rattle.ml_buchi.proofs.TakenEdges.{small_ends, small_props, taken_of}
 use Rattle.ml_buchi.proofs.making.letter.Goals as goal

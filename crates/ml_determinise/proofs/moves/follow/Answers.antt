@@ -1,6 +1,7 @@
 -- The history that is read is the one with the number v.
 use Rattle.std.proofs.Common.{◌*◌, ◌+◌, sym, ap, ◌∙◌, subst}
-use Rattle.ml_trace.specs.Marks.{priority, FitsBelow}
+use Rattle.ml_trace.specs.Marks.{priority}
+use Rattle.ml_trace.specs.MarkOrder.{FitsBelow}
 use Rattle.ml_history.specs.HistoryStep.{step_mark}
 use Rattle.ml_determinise.proofs.FollowedLetters.{read_history}
 use Rattle.ml_determinise.proofs.moves.follow.Goals as goal

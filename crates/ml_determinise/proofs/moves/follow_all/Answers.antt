@@ -5,7 +5,8 @@ use Rattle.std.proofs.lemmas.Result.{err_from_is_err_and}
 use Rattle.ml_lists.specs.Added.{IsAdded}
 use Rattle.ml_lists.specs.Member.{IsMember}
 use Rattle.ml_lists.proofs.Member.{place-member}
-use Rattle.ml_trace.specs.Marks.{priority, FitsBelow}
+use Rattle.ml_trace.specs.Marks.{priority}
+use Rattle.ml_trace.specs.MarkOrder.{FitsBelow}
 use Rattle.ml_history.specs.HistoryStep.{stepped, step_mark}
 use Rattle.ml_determinise.specs.Histories.{neutral}
 use Rattle.ml_determinise.specs.private.Walk.{history_at, HasNoRoom, IsPartway}

@@ -1,6 +1,6 @@
 use Rattle.std.proofs.Common.{◌≡◌, None, length, sym, subst, arith}
 use Rattle.ml_base.specs.Structure.{Structure}
-use Rattle.ml_kripke.specs.Ordered.{IsBuiltFrom, first_bad_state}
+use Rattle.ml_kripke.specs.Built.{IsBuiltFrom, first_bad_state}
 use Rattle.ml_extract.specs.Extraction.{Extracted}
 use Rattle.ml_extract.specs.Model.{IsModelOf}
 use Rattle.ml_extract.proofs.GatheredParts.{is_model}

@@ -1,6 +1,7 @@
 use Rattle.std.proofs.Common.{◌≡◌, ◌++◌, [], ◌∷◌, drop}
 use Rattle.std.specs.List.{flat_map}
-use Rattle.ml_graph.specs.Graph.{first_bad, references_of, references_from}
+use Rattle.ml_graph.specs.Graph.{references_of, references_from}
+use Rattle.ml_graph.specs.Building.{first_bad}
 use Rattle.ml_graph.proofs.modal_graph.first_out_of_range.Given as goal
 
 abbrev pub invariant-loop-node : goal.invariant-loop-node

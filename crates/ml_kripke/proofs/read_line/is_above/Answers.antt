@@ -2,7 +2,8 @@ use Rattle.std.proofs.Common.{◌≡◌, Some, None, sym, subst, ◌∙◌}
 use Rattle.std.specs.Ordering.{nat_cmp}
 use Rattle.std.specs.Cmp.Lexicographic.{slice_cmp}
 use Rattle.std.proofs.lemmas.Bool.{true≢false}
-use Rattle.ml_lists.specs.Chains.{Above, last_of}
+use Rattle.ml_lists.specs.Last.{last_of}
+use Rattle.ml_lists.specs.Chains.{Above}
 use Rattle.ml_lists.proofs.Chains.{last_is}
 use Rattle.ml_kripke.proofs.read_line.is_above.Goals as goal
 

@@ -3,7 +3,8 @@ use Rattle.std.specs.Option.{option_copied}
 use Rattle.std.specs.Ordering.{nat_cmp}
 use Rattle.std.specs.Cmp.Lexicographic.{slice_cmp}
 use Rattle.ml_lines.specs.Reading.{words_behind}
-use Rattle.ml_lists.specs.Chains.{Above, last_of}
+use Rattle.ml_lists.specs.Last.{last_of}
+use Rattle.ml_lists.specs.Chains.{Above}
 use Rattle.ml_kripke.proofs.LabelWords.{AreLabelsTo, label_read, not_above, labels_done}
 use Rattle.ml_kripke.proofs.read_line.read_labels.Goals as goal
 

@@ -1,6 +1,6 @@
 use Rattle.std.proofs.Common.{◌≡◌, [], map, replicate}
 use Rattle.std.specs.List.{range_with_len}
-use Rattle.ml_kripke.specs.Ordered.{labels_at}
+use Rattle.ml_kripke.specs.Built.{labels_at}
 use Rattle.ml_kripke.proofs.structure.rows.Given as goal
 
 abbrev pub invariant-loop : goal.invariant-loop

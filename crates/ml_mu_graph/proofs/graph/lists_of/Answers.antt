@@ -4,7 +4,8 @@ use Rattle.ml_mu_graph.specs.private.Views.{none_around, around}
 use Rattle.ml_mu_graph.proofs.Bindings.{low_same}
 use Rattle.ml_text.specs.Names.{Proposition, Action}
 use Rattle.ml_text.proofs.Names.{few_added}
-use Rattle.ml_mu.specs.Formula.{names, occurrences}
+use Rattle.ml_mu.specs.Formula.{occurrences}
+use Rattle.ml_mu.specs.FormulaNames.{names}
 use Rattle.ml_mu.proofs.Counting.{few_names}
 use Rattle.ml_mu_graph.proofs.graph.lists_of.Goals as goal
 

@@ -2,7 +2,8 @@ use Rattle.std.proofs.Common.{length, ap, ◌∙◌, arith}
 use Rattle.ml_pdl.specs.Term.{formula_of}
 use Rattle.ml_text.specs.Names.{Proposition, Action}
 use Rattle.ml_text.proofs.Names.{few_added}
-use Rattle.ml_pdl.specs.Formula.{names, occurrences}
+use Rattle.ml_pdl.specs.Formula.{occurrences}
+use Rattle.ml_pdl.specs.FormulaNames.{names}
 use Rattle.ml_pdl.proofs.Counting.{few_names}
 use Rattle.ml_pdl_graph.proofs.PartSizes.{all_measured}
 use Rattle.ml_pdl_graph.proofs.graph.lists_of.Goals as goal

@@ -4,8 +4,10 @@ use Rattle.std.proofs.Common.{ℕ, List, ◌%◌, ◌==◌, refl, sym, ap, ◌�
 use Rattle.std.specs.List.{filter}
 use Rattle.ml_lists.specs.Ascending.{IsAscending}
 use Rattle.ml_lists.proofs.Ascending.{ascending-is}
-use Rattle.ml_trace.specs.Automaton.{AllHaveRoom, IsLetterOf}
-use Rattle.ml_trace.specs.Marks.{priority, FitsBelow}
+use Rattle.ml_trace.specs.Automaton.{IsLetterOf}
+use Rattle.ml_trace.specs.AutomatonNumbers.{AllHaveRoom}
+use Rattle.ml_trace.specs.Marks.{priority}
+use Rattle.ml_trace.specs.MarkOrder.{FitsBelow}
 use Rattle.ml_sequent.specs.Step.{IsStep}
 use Rattle.ml_sequent.proofs.StepPremises.{own_choice}
 use Rattle.ml_product.specs.Position.{neutral}

@@ -1,6 +1,6 @@
 use Rattle.std.proofs.Common.{ℕ, List, ap, ◌∙◌, ◌≡◌, sym, subst, All, map, length, arith}
 use Rattle.std.proofs.lemmas.List.{length-map}
-use Rattle.ml_parity.specs.Heights.{AreLongest, AtMost, IsOneSided, EvenCycleIn}
+use Rattle.ml_parity.specs.OneSided.{AreLongest, AtMost, IsOneSided, EvenCycleIn}
 use Rattle.ml_parity.specs.Refusal.{lists_of}
 use Rattle.ml_refutation.specs.Acceptance.{IsAccepted}
 use Rattle.ml_refutation.specs.Refutation.{Fits}

@@ -1,5 +1,6 @@
 use Rattle.std.proofs.Common.{◌≡◌, ◌-◌, ◌≤◌, ◌++◌, length}
-use Rattle.ml_text.specs.Items.{items, items_from, noted, noted_from}
+use Rattle.ml_text.specs.Items.{items, items_from, noted_from}
+use Rattle.ml_text.specs.NotedItems.{noted}
 use Rattle.ml_text.specs.Tokens.{tokens_from}
 use Rattle.ml_text.specs.private.Progress.{KeepsLimits, outcome_from}
 use Rattle.ml_text.specs.private.Reading.{text_outcome}

@@ -1,5 +1,6 @@
 use Rattle.std.proofs.Common.{◌≡◌, ◌+◌, ◌-◌, ◌++◌, ◌∷◌, [], if◌then◌else◌, false, sym, ◌∙◌, ap, take, drop, arith}
 use Rattle.ml_text.specs.Items as text_items
+use Rattle.ml_text.specs.NotedItems as noted_items
 use Rattle.ml_text.specs.Refusals as limit
 use Rattle.ml_text.specs.private.Tables.{IsLike}
 use Rattle.ml_text.specs.private.Views.{mode_view, stack_view}
@@ -54,7 +55,7 @@ returns g c =
     let sum = ap (λ n. p.count + n) (c.weight.ensures.weight whole ∙ ap (t.signs.weight p.context) is) in
     let deep = c.depth_behind-depth.ensures.depth
     ∙ ap (λ b. limit.open_behind_one b p.depth) (c.bracket.ensures whole ∙ ap t.signs.bracket is) in
-    let sliced : c.args.placed.start + c.name_size.result - c.args.placed.start ≡ text_items.name_size c.args.placed =
+    let sliced : c.args.placed.start + c.name_size.result - c.args.placed.start ≡ noted_items.name_size c.args.placed =
     omega (arith, c.name_size.ensures.size) in
     let name = λ (short : c.is_long.result ≡ false). ap (λ n. take n (drop c.args.placed.start text)) sliced
     ∙ short_bytes text c.args.placed (sym c.is_long.ensures ∙ short) in

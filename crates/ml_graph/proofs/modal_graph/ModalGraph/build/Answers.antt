@@ -1,5 +1,5 @@
 use Rattle.std.proofs.Common.{◌≡◌, Some, None, arith, refl}
-use Rattle.ml_graph.specs.Graph.{first_out_of_range, graph_of}
+use Rattle.ml_graph.specs.Building.{first_out_of_range, graph_of}
 use Rattle.ml_graph.proofs.References.{no_graph, all_in_range}
 use Rattle.ml_graph.proofs.modal_graph.ModalGraph.build.Goals as goal
 

@@ -2,7 +2,7 @@ use Rattle.std.proofs.Common.{rules, ℕ, refl, ltb, not, ◌&&◌, ◌≡◌, �
 use Rattle.ml_lists.specs.Counting.{count}
 use Rattle.ml_lists.specs.Least.{least}
 use Rattle.ml_lists.specs.Member.{IsMember}
-use Rattle.ml_trace.specs.Automaton.{HasSmallEnds}
+use Rattle.ml_trace.specs.AutomatonNumbers.{HasSmallEnds}
 use Rattle.ml_history.specs.History.{IsSmallHistory}
 use Rattle.ml_history.specs.HistoryOrder.{names_of}
 use Rattle.ml_history.specs.HistoryStep.{live, taken_along, cut, is_full, mark_of, stepped}

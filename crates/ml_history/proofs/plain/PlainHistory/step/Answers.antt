@@ -1,5 +1,5 @@
 use Rattle.std.proofs.Common.{◌≡◌, ◌≤◌, ◌^◌, subst, sym, ap, ◌∙◌}
-use Rattle.ml_trace.specs.Automaton.{HasSmallEnds}
+use Rattle.ml_trace.specs.AutomatonNumbers.{HasSmallEnds}
 use Rattle.ml_history.specs.HistoryStep.{live, offers, taken, cut, renumbered, taken_along, stepped}
 use Rattle.ml_history.specs.History.{IsSmallHistory}
 use Rattle.ml_history.proofs.plain_step.PlainStep.{live-small, step_is_plain, step_mark-of}

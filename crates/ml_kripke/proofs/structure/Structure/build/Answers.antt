@@ -1,5 +1,5 @@
 use Rattle.std.proofs.Common.{◌≡◌, None, map, arith}
-use Rattle.ml_kripke.specs.Ordered.{first_bad_state}
+use Rattle.ml_kripke.specs.Built.{first_bad_state}
 use Rattle.ml_kripke.proofs.Build.{labels_below, is_structure, is_ordered, is_built}
 use Rattle.ml_kripke.proofs.structure.Structure.build.Goals as goal
 

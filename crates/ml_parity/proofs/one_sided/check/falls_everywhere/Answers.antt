@@ -1,6 +1,7 @@
 -- The rows that are read are those of the ends of the arc.
 use Rattle.std.proofs.Common.{arith, ◌≡◌, IsTrue, length, get_or, ap, subst, ◌∙◌}
-use Rattle.ml_parity.specs.Heights.{OneSidedGraph, FallsAlong}
+use Rattle.ml_parity.specs.Heights.{FallsAlong}
+use Rattle.ml_parity.specs.OneSided.{OneSidedGraph}
 use Rattle.ml_parity.specs.HeightLists.{graph_of}
 use Rattle.ml_parity.specs.Refusal.{lists_of}
 use Rattle.ml_parity.proofs.HeightRows.{arc_same, arc_read, falls-from, falls-to, falls_more}

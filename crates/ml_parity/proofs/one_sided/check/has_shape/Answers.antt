@@ -1,6 +1,6 @@
 -- The rows are read one by one.
 use Rattle.std.proofs.Common.{ap, sym, ◌∙◌, ◌/◌, ◌+◌}
-use Rattle.ml_parity.specs.Heights.{OneSidedGraph}
+use Rattle.ml_parity.specs.OneSided.{OneSidedGraph}
 use Rattle.ml_parity.proofs.HeightRows.{row_more, no_shape_by_row}
 use Rattle.ml_parity.proofs.one_sided.check.has_shape.Goals as goal
 

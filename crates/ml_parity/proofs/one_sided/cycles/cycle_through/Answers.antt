@@ -1,6 +1,6 @@
 -- The walk back and the arc are the cycle.
 use Rattle.std.proofs.Common.{sym, subst, refl}
-use Rattle.ml_parity.specs.Heights.{IsEvenCycle}
+use Rattle.ml_parity.specs.OneSided.{IsEvenCycle}
 use Rattle.ml_parity.proofs.HeightSearches.{cycle_push}
 use Rattle.ml_parity.proofs.one_sided.cycles.cycle_through.Goals as goal
 

@@ -1,7 +1,7 @@
 -- Each turn adds one number to each row; rows with all numbers are heights, and where there are heights there is no even
 -- cycle.
 use Rattle.std.proofs.Common.{arith, ap, subst, refl}
-use Rattle.ml_parity.specs.Heights.{OneSidedGraph, IsOneSided, AreLongest}
+use Rattle.ml_parity.specs.OneSided.{OneSidedGraph, IsOneSided, AreLongest}
 use Rattle.ml_parity.specs.Refusal.{lists_of}
 use Rattle.ml_parity.proofs.HeightTables.{longest_turn, longest_done, longest_heights, longest_low, heights_refuse}
 use Rattle.ml_parity.proofs.one_sided.search.heights.Goals as goal

@@ -1,6 +1,6 @@
 -- The ends of the arc are vertices, and the number is raised to what the arc asks for.
 use Rattle.std.proofs.Common.{arith, ◌+◌, ap, get_or}
-use Rattle.ml_parity.specs.Heights.{OneSidedGraph}
+use Rattle.ml_parity.specs.OneSided.{OneSidedGraph}
 use Rattle.ml_parity.specs.HeightLists.{graph_of}
 use Rattle.ml_parity.proofs.HeightRaises.{arc_ends, attained_set, too_high}
 use Rattle.ml_parity.proofs.one_sided.search.raise.Goals as goal

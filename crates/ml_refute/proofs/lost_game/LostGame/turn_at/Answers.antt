@@ -2,7 +2,8 @@ use Rattle.std.proofs.Common.{ℕ, ◌∙◌, ◌≡◌, Option, None, sym, subs
 use Rattle.ml_graph.specs.Graph.{Graph}
 use Rattle.ml_sequent.specs.declared.clashes.ClashCause.{ClashCause}
 use Rattle.ml_sequent.specs.Branch.{BranchList}
-use Rattle.ml_sequent.specs.Spread.{IsSpread, IsCause, IsFirstCause, IsOpenOr}
+use Rattle.ml_sequent.specs.Spread.{IsSpread, IsCause, IsOpenOr}
+use Rattle.ml_sequent.specs.FirstCause.{IsFirstCause}
 use Rattle.ml_product.specs.DecisionGame.{IsResolved}
 use Rattle.ml_refute.specs.private.Found.{LeavesTo}
 use Rattle.ml_refute.proofs.Leaving.{resolved_by}
