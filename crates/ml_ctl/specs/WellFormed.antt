@@ -3,7 +3,7 @@
 --
 --   IsWellFormed w f  == f is such a formula of the logic w
 use Rattle.std.specs.Prelude.{◌≤◌, IsTrue}
-use Rattle.ml_text.specs.Refusals.{most_occurrences}
+use Rattle.ml_text.specs.Limits.{most_occurrences}
 use Rattle.ml_ctl.specs.Formula.{Formula, occurrences}
 use Rattle.ml_ctl.specs.Sorts.{is_of}
 use Rattle.ml_ctl.specs.declared.language.Language.{Language}

@@ -59,7 +59,7 @@ pub counted : (p : Problem) (g : Graph) (a : Arena) → IsGraphOf g p → IsAren
 counted p g a is_graph arena = record {
   graph = g;
   is_graph = is_graph;
-  are_so_many = λ n. (λ more. fewer_than g a n arena more, λ less. has_more g a n arena less);
+  holds = λ n. (λ more. fewer_than g a n arena more, λ less. has_more g a n arena less);
 }
 
 module _ (p : Problem) (n : ℕ) (small : n < 2 ^ 32) (well : IsWellFormed p.formula) where
@@ -81,13 +81,13 @@ module _ (p : Problem) (n : ℕ) (small : n < 2 ^ 32) (well : IsWellFormed p.for
       let is_graph = solved.translated.is_graph_of in
       let few = few_positions x.graph x.arena n solved.is_arena solved.within in (
         closed WholeGame n p solved.translated.fits (keeps_limit p x.graph n is_graph few),
-        record { graph = x.graph; is_graph = is_graph; are_so_many = refl },
+        record { graph = x.graph; is_graph = is_graph; holds = refl },
         counted p x.graph x.arena is_graph solved.is_arena,
         told x (winner_at x.solution.winner 0) solved refl,
       )
   found_of (stage.GamePassed g) (translated, more) = (
-    (refl, translated.fits, record { graph = g; is_graph = translated.is_graph_of; has_more = more }),
-    record { graph = g; is_graph = translated.is_graph_of; are_so_many = refl },
+    (refl, translated.fits, record { graph = g; is_graph = translated.is_graph_of; holds = more }),
+    record { graph = g; is_graph = translated.is_graph_of; holds = refl },
   )
   found_of stage.ClosurePassed large = large
 
@@ -96,13 +96,13 @@ module _ (p : Problem) (n : ℕ) (small : n < 2 ^ 32) (well : IsWellFormed p.for
 module _ (p : Problem) where
   one_size : (j k : ℕ) → HasNodes p j → HasNodes p k → j ≡ k
   one_size j k x y =
-      sym x.are_so_many ∙ (graphs_alike p x.graph y.graph x.is_graph y.is_graph).sizes ∙ y.are_so_many
+      sym x.holds ∙ (graphs_alike p x.graph y.graph x.is_graph y.is_graph).sizes ∙ y.holds
 
   no_more : (j k : ℕ) → HasPositions p j → HasPositions p k → j ≤ k
   no_more j k x y =
       ⊎_elim
       (λ (more : k < j).
-      let also = (y.are_so_many k).0 (same_positions p x.graph y.graph k x.is_graph y.is_graph ((x.are_so_many k).1 more)) in
+      let also = (y.holds k).0 (same_positions p x.graph y.graph k x.is_graph y.is_graph ((x.holds k).1 more)) in
       absurd (omega (arith, also)))
       (λ (le : j ≤ k). le)
       (cases_lt k j)

@@ -99,4 +99,4 @@ pub same_positions : (p : Problem) (g h : Graph) (n : ℕ)
 same_positions p g h n is other more = more_there g h (graphs_alike p g h is other) n more
 
 pub keeps_limit : (p : Problem) (g : Graph) (n : ℕ) → IsGraphOf g p → (HasMoreThan g n → ⊥) → PassesLimit p n → ⊥
-keeps_limit p g n is few passes = few (same_positions p passes.graph g n passes.is_graph is passes.has_more)
+keeps_limit p g n is few passes = few (same_positions p passes.graph g n passes.is_graph is passes.holds)

@@ -122,7 +122,7 @@ module _ (q : Question) (text : List ℕ) (p : Problem) (is_problem : IsProblem 
       → ((a : Arena) × (IsArenaOf g a × (length a.positions ≤ q.limit))) ⊎ HasMoreThan g q.limit
       → Answer q text
   by_game g is_graph ok held fits (inr more) =
-      stays_open (Positions q.limit) (refl, fits, record { graph = g; is_graph = is_graph; has_more = more })
+      stays_open (Positions q.limit) (refl, fits, record { graph = g; is_graph = is_graph; holds = more })
   by_game g is_graph ok held fits (inl (a, rest)) =
       let keeps = keeps_limit p g q.limit is_graph (few_positions g a q.limit rest.0 rest.1) in
       let s = some_solution (game_of a) (is_game g a rest.0) in

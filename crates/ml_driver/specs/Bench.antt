@@ -18,7 +18,7 @@
 --   IsBenched f n s out  == this status and this output are due for `bench f n`
 use Rattle.std.specs.Prelude.{ℕ, ◌≡◌, ◌<◌, ◌↔◌, true, false, List, [], ◌∷◌, ◌++◌, codes, IsTrue}
 use Rattle.ml_ctl.specs.Formula as ctl
-use Rattle.ml_front.specs.Graphs.{IsGraphOf}
+use Rattle.ml_front.specs.Graphs.{OfGraph}
 use Rattle.ml_front.specs.Head.{answer_line}
 use Rattle.ml_front.specs.Logics.{logic_of, some_logic, IsParsedAs}
 use Rattle.ml_front.specs.Problems.{IsSatisfiable}
@@ -29,7 +29,7 @@ use Rattle.ml_front.specs.declared.problem.AnyFormula.TheVariants.{Mu, Pdl, Ctl,
 use Rattle.ml_front.specs.declared.problem.Problem.{Problem}
 use Rattle.ml_gen.specs.Families.{family_word, formula_text, logic_name}
 use Rattle.ml_gen.specs.declared.family.Family.{Family}
-use Rattle.ml_graph.specs.Graph.{Graph, size}
+use Rattle.ml_graph.specs.Graph.{size}
 use Rattle.ml_lines.specs.Lines.{Line, line_text, number, text_of}
 use Rattle.ml_mu.specs.Formula as mu
 use Rattle.ml_pdl.specs.Formula as pdl
@@ -59,15 +59,11 @@ occurrences_of (Word f) = ctl.occurrences f
 
 -- ---- what is found
 
-pub record HasNodes (p : Problem) (k : ℕ) : Type 0 where
-  pub graph : Graph
-  pub is_graph : IsGraphOf graph p
-  pub are_so_many : size graph ≡ k
+abbrev pub HasNodes : Problem → ℕ → Type 0
+HasNodes p k = OfGraph p (λ g. size g ≡ k)
 
-pub record HasPositions (p : Problem) (k : ℕ) : Type 0 where
-  pub graph : Graph
-  pub is_graph : IsGraphOf graph p
-  pub are_so_many : (n : ℕ) → HasMoreThan graph n ↔ (n < k)
+abbrev pub HasPositions : Problem → ℕ → Type 0
+HasPositions p k = OfGraph p (λ g. (n : ℕ) → HasMoreThan g n ↔ (n < k))
 
 abbrev pub IsFinding : ℕ → Problem → Finding → Type 0
 IsFinding n p (Decided nodes positions satisfiable) =

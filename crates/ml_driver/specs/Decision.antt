@@ -25,7 +25,7 @@ use Rattle.ml_base.specs.Structure.{Structure}
 use Rattle.ml_base.specs.declared.parse_refusal.ParseRefusal.{ParseRefusal}
 use Rattle.ml_kripke.specs.ModelText.{IsWritten}
 use Rattle.ml_kripke.specs.Ordered.{IsOrdered}
-use Rattle.ml_front.specs.Graphs.{HasLargeClosure, IsGraphOf}
+use Rattle.ml_front.specs.Graphs.{HasLargeClosure, IsGraphOf, OfGraph}
 use Rattle.ml_front.specs.Logics.{logic_of, IsParsedAs, IsRefusedBy}
 use Rattle.ml_front.specs.Problems.{HoldsAt, IsAdmitted, IsSatisfiable}
 use Rattle.ml_front.specs.declared.problem.Problem.{Problem}
@@ -52,10 +52,8 @@ pub record IsProblem (q : Question) (text : List ℕ) (p : Problem) : Type 0 whe
 
 -- ---- limits
 
-pub record PassesLimit (p : Problem) (n : ℕ) : Type 0 where
-  pub graph : Graph
-  pub is_graph : IsGraphOf graph p
-  pub has_more : HasMoreThan graph n
+abbrev pub PassesLimit : Problem → ℕ → Type 0
+PassesLimit p n = OfGraph p (λ g. HasMoreThan g n)
 
 abbrev pub StaysOpen : ℕ → Problem → Cause → Type 0
 StaysOpen limit p (Positions n) = (n ≡ limit) × (¬ (HasLargeClosure p MOST_NODES)) × PassesLimit p limit

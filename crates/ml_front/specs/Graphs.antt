@@ -1,6 +1,7 @@
 -- The graphs of problems.
 --
 --   IsGraphOf g p   == g is the graph of the problem p
+--   OfGraph p P     == P is true of a graph of the problem p
 --   HasLargeClosure p n == the closure of the problem p has more than n nodes: never in the mu-calculus, in PDL and on
 --                      words, where graphs are linear in the formula
 use Rattle.std.specs.Prelude.{ℕ, Bool}
@@ -26,6 +27,11 @@ IsGraphAs g negated (Word f) = word.IsGraphOf g f negated
 
 abbrev pub IsGraphOf : Graph → Problem → Type 0
 IsGraphOf g p = IsGraphAs g p.negated p.formula
+
+pub record OfGraph (p : Problem) (P : Graph → Type 0) : Type 0 where
+  pub graph : Graph
+  pub is_graph : IsGraphOf graph p
+  pub holds : P graph
 
 -- the closure of a formula, in its sense
 abbrev pub HasLargeClosureAs : ℕ → Bool → AnyFormula → Type 0

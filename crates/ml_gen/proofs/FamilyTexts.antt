@@ -9,7 +9,7 @@ use Rattle.std.proofs.lemmas.Bool.{and_from, leb-true}
 use Rattle.ml_lines.specs.Lines.{number}
 use Rattle.ml_text.specs.declared.token.Operator.TheVariants as operator
 use Rattle.ml_text.specs.Bytes.{is_word_byte}
-use Rattle.ml_text.specs.Refusals.{most_occurrences}
+use Rattle.ml_text.specs.Limits.{most_occurrences}
 use Rattle.ml_mu.specs.Canonical.{canonical_text}
 use Rattle.ml_mu.specs.Formula as mu
 use Rattle.ml_mu.specs.Parsing as mu_parsing

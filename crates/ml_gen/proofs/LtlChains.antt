@@ -9,7 +9,8 @@ use Rattle.std.specs.List.{AllByRecursion}
 use Rattle.ml_text.specs.declared.token.Operator.TheVariants as operator
 use Rattle.ml_text.specs.declared.token.WordStart.TheVariants.{LowerCase}
 use Rattle.ml_text.specs.Tokens.{tokens}
-use Rattle.ml_text.specs.Refusals.{signs_of, most_occurrences}
+use Rattle.ml_text.specs.Refusals.{signs_of}
+use Rattle.ml_text.specs.Limits.{most_occurrences}
 use Rattle.ml_text.specs.Signs.{bracket_of}
 use Rattle.ml_text.proofs.AcceptedTexts.{accepted}
 use Rattle.ml_text.proofs.Pieces.{lone, lone_piece, and_piece}

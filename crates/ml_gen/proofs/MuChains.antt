@@ -10,7 +10,8 @@ use Rattle.std.proofs.lemmas.Bool.{and_from}
 use Rattle.ml_text.specs.declared.token.Operator.TheVariants as operator
 use Rattle.ml_text.specs.declared.token.WordStart.TheVariants.{AnyLetter}
 use Rattle.ml_text.specs.Tokens.{tokens}
-use Rattle.ml_text.specs.Refusals.{signs_of, most_occurrences}
+use Rattle.ml_text.specs.Refusals.{signs_of}
+use Rattle.ml_text.specs.Limits.{most_occurrences}
 use Rattle.ml_text.specs.Signs.{bracket_of}
 use Rattle.ml_text.proofs.AcceptedTexts.{accepted}
 use Rattle.ml_text.proofs.Pieces.{and_piece, ends_word}

@@ -12,7 +12,8 @@ use Rattle.ml_text.specs.declared.token.Token.TheVariants as token
 use Rattle.ml_text.specs.declared.token.WordStart.TheVariants.{AnyLetter}
 use Rattle.ml_text.specs.Tokens.{tokens}
 use Rattle.ml_text.specs.Words.{constant_of}
-use Rattle.ml_text.specs.Refusals.{signs_of, most_occurrences}
+use Rattle.ml_text.specs.Refusals.{signs_of}
+use Rattle.ml_text.specs.Limits.{most_occurrences}
 use Rattle.ml_text.specs.Signs.{bracket_of, word_sign}
 use Rattle.ml_text.proofs.AcceptedTexts.{accepted}
 use Rattle.ml_text.proofs.Pieces.{lone, lone_piece, less_piece, and_piece, ends_word, word_piece}

@@ -21,7 +21,8 @@ use Rattle.ml_lists.specs.Readings.{nothing_read, line_read}
 use Rattle.ml_kripke.specs.BodyRules.{AtStates, AtStart, AtState, AtEdge, AtNothing, at_state}
 use Rattle.ml_kripke.specs.RuleNumbers.{rule_number}
 use Rattle.ml_kripke.specs.private.BodyParts.{AreRows, IsWholeEnd}
-use Rattle.ml_kripke.specs.ModelText.{states_line, start_line, state_lines, edge_line, end_line}
+use Rattle.ml_kripke.specs.ModelText.{state_lines, edge_line}
+use Rattle.ml_kripke.specs.BodyLines.{states_line, start_line, end_line}
 use Rattle.ml_kripke.specs.private.Refusals.{TellsRule, TellsFault, at_line}
 use Rattle.ml_kripke.specs.declared.body_rule.BodyRule.TheVariants.{OfKind}
 use Rattle.ml_kripke.specs.declared.read_line.LineRefusal.{LineRefusal}

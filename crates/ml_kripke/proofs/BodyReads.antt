@@ -19,7 +19,8 @@ use Rattle.ml_lists.specs.Readings.{IsReadTo, nothing_read, line_read}
 use Rattle.ml_lists.proofs.Documents.{read_on}
 use Rattle.ml_kripke.specs.BodyRules.{Place, AtStates, AtStart, AtState, AtEdge, at_state, body, IsEdgeBehind}
 use Rattle.ml_kripke.specs.private.BodyParts.{AreRows, AreEdges, IsStateLine, IsEdgeLine, Ascend}
-use Rattle.ml_kripke.specs.ModelText.{states_line, start_line, state_line, state_lines, edge_line}
+use Rattle.ml_kripke.specs.ModelText.{state_line, state_lines, edge_line}
+use Rattle.ml_kripke.specs.BodyLines.{states_line, start_line}
 use Rattle.ml_kripke.proofs.GoodLines.{good_states, good_start, good_state, good_edge, after_states, after_edge, at_state_below}
 use Rattle.ml_kripke.proofs.OneText.{length-state_lines}
 

@@ -22,7 +22,8 @@ use Rattle.ml_kripke.specs.BodyRules.{Place, AtStates, AtStart, AtState, AtEdge,
 use Rattle.ml_kripke.specs.RuleNumbers.{rule_number}
 use Rattle.ml_kripke.specs.private.BodyParts.{IsEdgeLine, Ascend}
 use Rattle.ml_kripke.specs.private.Refusals.{IsLowest}
-use Rattle.ml_kripke.specs.ModelText.{end_line, edge_line}
+use Rattle.ml_kripke.specs.ModelText.{edge_line}
+use Rattle.ml_kripke.specs.BodyLines.{end_line}
 use Rattle.ml_kripke.specs.declared.body_rule.BodyRule.{BodyRule}
 use Rattle.ml_kripke.specs.declared.body_rule.BodyRule.TheVariants.{OfKind, Numbers, HasStates, StartInRange, NextState, Labels, Edges}
 

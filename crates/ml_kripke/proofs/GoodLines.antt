@@ -19,7 +19,8 @@ use Rattle.ml_lines.proofs.WordBytes.{number-is_word}
 use Rattle.ml_lists.specs.Documents.{IsGood}
 use Rattle.ml_kripke.specs.BodyRules.{AtStates, AtStart, AtState, AtEdge, AtNothing, at_state, after, body, IsEdgeBehind, edge_of}
 use Rattle.ml_kripke.specs.private.BodyParts.{IsStatesLine, IsStartLine, IsStateLine, IsEdgeLine, Ascend}
-use Rattle.ml_kripke.specs.ModelText.{states_line, start_line, end_line, state_line, edge_line}
+use Rattle.ml_kripke.specs.ModelText.{state_line, edge_line}
+use Rattle.ml_kripke.specs.BodyLines.{states_line, start_line, end_line}
 
 -- ---- words
 

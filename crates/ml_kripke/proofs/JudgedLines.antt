@@ -15,7 +15,7 @@ use Rattle.ml_lists.proofs.Decided as is
 use Rattle.ml_lists.proofs.Decided.{Decided}
 use Rattle.ml_lists.proofs.Documents.{judged}
 use Rattle.ml_kripke.specs.BodyRules.{AtStates, AtStart, AtState, AtEdge, AtNothing, body, rules, IsNumbered, IsStated, IsEdged, HasNumber, HasNumbers, HasLabels, IsEdgeBehind, IsEndOr, edge_of}
-use Rattle.ml_kripke.specs.ModelText.{end_line}
+use Rattle.ml_kripke.specs.BodyLines.{end_line}
 use Rattle.ml_base.specs.EdgeOrder.{edge_cmp}
 
 has_number : (line : Line) → Decided (HasNumber line)

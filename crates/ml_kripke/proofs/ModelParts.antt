@@ -18,7 +18,8 @@ use Rattle.ml_lines.proofs.WrittenLines.{text_read}
 use Rattle.ml_lists.specs.Chains.{Above, Chain}
 use Rattle.ml_lists.proofs.Chains.{chain_sorted, sorted_chain}
 use Rattle.ml_kripke.specs.private.BodyParts.{AreRows, AreEdges, IsWholeEnd}
-use Rattle.ml_kripke.specs.ModelText.{IsWritten, states_line, start_line, state_lines, edge_line, end_line, model_lines, model_text}
+use Rattle.ml_kripke.specs.ModelText.{IsWritten, state_lines, edge_line, model_lines, model_text}
+use Rattle.ml_kripke.specs.BodyLines.{states_line, start_line, end_line}
 use Rattle.ml_kripke.specs.Ordered.{IsOrdered, HasNames}
 use Rattle.ml_kripke.specs.Built.{of_parts}
 use Rattle.ml_base.specs.EdgeOrder.{edge_cmp}

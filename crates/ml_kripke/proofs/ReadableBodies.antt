@@ -17,7 +17,8 @@ use Rattle.ml_lists.proofs.Documents.{readable_behind}
 use Rattle.ml_kripke.specs.BodyRules.{AtStates, AtStart, AtEdge, AtNothing, at_state, after, body, edge_of, IsReadableBody}
 use Rattle.ml_kripke.specs.private.BodyParts.{AreRows, AreEdges, IsEdgeLine, Ascend}
 use Rattle.ml_kripke.specs.Laws.{IsModelText}
-use Rattle.ml_kripke.specs.ModelText.{states_line, start_line, state_lines, edge_line, end_line, model_lines, model_text}
+use Rattle.ml_kripke.specs.ModelText.{state_lines, edge_line, model_lines, model_text}
+use Rattle.ml_kripke.specs.BodyLines.{states_line, start_line, end_line}
 use Rattle.ml_kripke.specs.Built.{of_parts}
 use Rattle.ml_kripke.proofs.GoodLines.{good_states, good_start, good_end, good_nothing, states_good, start_good, state_good, edge_good, after_states, after_edge, at_state_below, at_state_done}
 use Rattle.ml_kripke.proofs.OneText.{model_plain}

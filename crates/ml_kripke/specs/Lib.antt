@@ -1,3 +1,5 @@
+-- lines of the body of a structure's text, by their names
+pub mod BodyLines
 -- of which parts a structure is built, and what it has
 pub mod Built
 -- ordered structures, and what a structure is built from

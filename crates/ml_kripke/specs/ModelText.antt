@@ -3,9 +3,6 @@
 -- Each structure in order with a start has exactly one such text, so "these bytes are the text of this structure
 -- and start" is one equation.
 --
---   states_line n         == `states n`
---   start_line s          == `start s`
---   end_line              == `end`
 --   state_lines i rows    == the lines of the states from i on, of which rows has the labels
 --   state_line i ps       == `state i` with the labels behind it
 --   edge_line e           == `edge s a t`
@@ -20,15 +17,6 @@ use Rattle.ml_base.specs.Structure.{Structure, IsStructure}
 use Rattle.ml_lines.specs.Lines.{Line, number, text_of}
 use Rattle.ml_kripke.specs.Ordered.{HasNames}
 
-abbrev pub states_line : ℕ → Line
-states_line n = codes "states" ∷ number n ∷ []
-
-abbrev pub start_line : ℕ → Line
-start_line s = codes "start" ∷ number s ∷ []
-
-abbrev pub end_line : Line
-end_line = codes "end" ∷ []
-
 abbrev pub state_line : ℕ → List (List ℕ) → Line
 state_line i labels = codes "state" ∷ number i ∷ labels
 
@@ -40,7 +28,8 @@ state_lines i rows = map (λ labelled. state_line labelled.0 labelled.1) (enumer
 
 abbrev pub model_lines : Structure → ℕ → List Line
 model_lines m start =
-    states_line m.states ∷ start_line start ∷ (state_lines 0 m.labels ++ map edge_line m.edges ++ end_line ∷ [])
+    (codes "states" ∷ number m.states ∷ []) ∷ (codes "start" ∷ number start ∷ [])
+    ∷ (state_lines 0 m.labels ++ map edge_line m.edges ++ (codes "end" ∷ []) ∷ [])
 
 abbrev pub model_text : Structure → ℕ → List ℕ
 model_text m start = text_of (model_lines m start)

@@ -4,7 +4,8 @@ ghost use Rattle.ml_kripke.specs.BodyRules.{AtStates, AtStart, AtEdge, AtNothing
 ghost use Rattle.ml_kripke.specs.RuleNumbers.{rule_number};
 ghost use Rattle.ml_lines.specs.private.Fronts.{GoesOn};
 ghost use Rattle.ml_kripke.specs.private.BodyParts.{AreRows, IsWholeEnd};
-ghost use Rattle.ml_kripke.specs.ModelText.{states_line, start_line, state_lines, model_text};
+ghost use Rattle.ml_kripke.specs.ModelText.{state_lines, model_text};
+ghost use Rattle.ml_kripke.specs.BodyLines.{states_line, start_line};
 ghost use Rattle.ml_base.specs.declared.doc_fault.DocFault.{DocFault};
 ghost use Rattle.ml_kripke.specs.Laws.{IsModelText};
 ghost use Rattle.ml_kripke.specs.Ordered.{HasNames};

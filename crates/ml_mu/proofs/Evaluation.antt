@@ -16,7 +16,8 @@ use Rattle.ml_lists.proofs.Tables.{table_const, table_zip}
 use Rattle.ml_text.specs.declared.token.Operator.{Operator}
 use Rattle.ml_base.specs.Structure.{Structure, StateSet, is_member}
 use Rattle.ml_mu.specs.Formula.{Formula, Const, Binary}
-use Rattle.ml_mu.specs.Meaning.{Given, truth_of, meaning}
+use Rattle.ml_text.specs.Operators.{truth_of}
+use Rattle.ml_mu.specs.Meaning.{Given, meaning}
 
 abbrev pub body_step : Structure → Given → List ℕ → Formula → StateSet → StateSet
 body_step m g x f set = meaning m ((x, set) ∷ g) f

@@ -11,7 +11,8 @@ use Rattle.ml_lists.proofs.Iterates.{iterate_keeps}
 use Rattle.ml_base.specs.Structure.{Structure, lists, is_member}
 use Rattle.ml_mu.specs.Meaning.{HaveFlags}
 use Rattle.ml_mu.specs.Formula.{Formula, Const, Prop, Var, Not, Binary, Modal, Binder, Diamond, Square, Least, Greatest}
-use Rattle.ml_mu.specs.Meaning.{Given, given_set, truth_of, some_edge, every_edge, first_iterate, meaning}
+use Rattle.ml_text.specs.Operators.{truth_of}
+use Rattle.ml_mu.specs.Meaning.{Given, given_set, some_edge, every_edge, first_iterate, meaning}
 
 pub given_flags : (m : Structure) (g : Given) (x : List ℕ) → HaveFlags m.states g → length (given_set m g x) ≡ m.states
 given_flags m [] x flags = length-replicate m.states false

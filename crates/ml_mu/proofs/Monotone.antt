@@ -19,7 +19,8 @@ use Rattle.ml_text.specs.declared.token.Operator.TheVariants as operator
 use Rattle.ml_base.specs.Structure.{Structure, StateSet, is_member}
 use Rattle.ml_mu.specs.Meaning.{HaveFlags}
 use Rattle.ml_mu.specs.Formula.{Formula, Const, Prop, Var, Not, Binary, Modal, Binder, Diamond, Square, Fixpoint, Least, Greatest}
-use Rattle.ml_mu.specs.Meaning.{Given, given_set, truth_of, some_edge, every_edge, first_iterate, meaning}
+use Rattle.ml_text.specs.Operators.{truth_of}
+use Rattle.ml_mu.specs.Meaning.{Given, given_set, some_edge, every_edge, first_iterate, meaning}
 use Rattle.ml_mu.specs.Variables.{occurs_only, is_positive}
 use Rattle.ml_mu.proofs.Inclusion.{Implies, Within, within_both, nowhere_within, within_everywhere, within_not, within_where}
 use Rattle.ml_mu.proofs.MeaningFlags.{meaning_flags}

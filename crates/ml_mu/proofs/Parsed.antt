@@ -15,7 +15,8 @@ use Rattle.ml_base.specs.declared.parse_refusal.ParseRefusal.{ParseRefusal}
 use Rattle.ml_base.specs.declared.parse_refusal.ParseRefusal.TheVariants as refusal
 use Rattle.ml_text.specs.declared.token.WordStart.TheVariants.{AnyLetter}
 use Rattle.ml_text.specs.Tokens.{tokens}
-use Rattle.ml_text.specs.Refusals.{Cause, Syntax, TooMany, TooNested, NameTooLong, IsAccepted, most_occurrences}
+use Rattle.ml_text.specs.Refusals.{Cause, Syntax, TooMany, TooNested, NameTooLong, IsAccepted}
+use Rattle.ml_text.specs.Limits.{most_occurrences}
 use Rattle.ml_text.specs.private.Reading.{Outcome, Found, Refused, text_outcome}
 use Rattle.ml_text.proofs.Exact.{IsOutcome, exact, few_items}
 use Rattle.ml_text.proofs.Fits.{Fits}

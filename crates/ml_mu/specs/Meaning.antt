@@ -17,7 +17,7 @@ use Rattle.std.specs.Prelude.{ℕ, ◌==◌, ◌≡◌, Bool, ◌&&◌, ◌||◌
 use Rattle.std.specs.List.{list_any, list_all}
 use Rattle.std.specs.Str.{bytes_eq}
 use Rattle.ml_lists.specs.Iterate.{iterate}
-pub use Rattle.ml_text.specs.Operators.{truth_of}
+use Rattle.ml_text.specs.Operators.{truth_of}
 use Rattle.ml_base.specs.Structure.{Structure, StateSet, lists, is_member, states_where, everywhere, nowhere}
 use Rattle.ml_mu.specs.Formula.{Formula, Const, Prop, Var, Not, Binary, Modal, Binder, Modality, Diamond, Square, Fixpoint, Least, Greatest}
 

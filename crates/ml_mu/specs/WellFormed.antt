@@ -3,7 +3,7 @@
 --
 --   IsWellFormed f    == f is such a formula
 use Rattle.std.specs.Prelude.{◌≤◌, [], IsTrue}
-use Rattle.ml_text.specs.Refusals.{most_occurrences}
+use Rattle.ml_text.specs.Limits.{most_occurrences}
 use Rattle.ml_mu.specs.Formula.{Formula, occurrences}
 use Rattle.ml_mu.specs.Spelling.{HasShortNames, is_spelled}
 use Rattle.ml_mu.specs.Variables.{is_bound, is_positive}

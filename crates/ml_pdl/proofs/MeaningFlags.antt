@@ -8,7 +8,8 @@ use Rattle.ml_lists.specs.Iterate.{iterate}
 use Rattle.ml_base.specs.Structure.{Structure, lists, is_member, everywhere}
 use Rattle.ml_pdl.specs.Formula.{Formula, Const, Prop, Not, Binary, Modal, Repeat}
 use Rattle.ml_pdl.specs.declared.term.Modality.TheVariants.{Diamond, Square}
-use Rattle.ml_pdl.specs.Meaning.{Relation, truth_of, some_run, every_run, modal, meaning, relation}
+use Rattle.ml_text.specs.Operators.{truth_of}
+use Rattle.ml_pdl.specs.Meaning.{Relation, some_run, every_run, modal, meaning, relation}
 
 iterate_flags : (m : Structure) (r : Relation) (k : ℕ)
     → length (iterate k (modal m Diamond r) (everywhere m)) ≡ m.states

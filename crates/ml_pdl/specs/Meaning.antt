@@ -21,7 +21,7 @@ use Rattle.std.specs.Prelude.{ℕ, ◌==◌, Bool, ◌&&◌, ◌||◌, not, List
 use Rattle.std.specs.List.{list_any, list_all, range_with_len}
 use Rattle.std.specs.Str.{bytes_eq}
 use Rattle.ml_lists.specs.Iterate.{iterate}
-pub use Rattle.ml_text.specs.Operators.{truth_of}
+use Rattle.ml_text.specs.Operators.{truth_of}
 use Rattle.ml_base.specs.Structure.{Structure, StateSet, lists, is_member, states_where, everywhere}
 use Rattle.ml_pdl.specs.Formula.{Formula, Const, Prop, Not, Binary, Modal, Repeat, Program, Act, Seq, Alt, Star, Test}
 use Rattle.ml_pdl.specs.declared.term.Modality.{Modality}

@@ -11,7 +11,7 @@
 --   sign_at text p       == the sign that a token of the text is: a `(` with its mark
 --   pdl_signs            == the signs of PDL texts; the context of a sign is whether it stands directly behind `<` or `[`
 --   items text           == the items of a text
-use Rattle.std.specs.Prelude.{ℕ, Bool, true, false, List, map}
+use Rattle.std.specs.Prelude.{ℕ, Bool, true, false, if◌then◌else◌, List, map}
 use Rattle.ml_text.specs.declared.token.WordStart.TheVariants.{AnyLetter}
 use Rattle.ml_text.specs.declared.token.Placed.{Placed}
 use Rattle.ml_text.specs.Tokens.{tokens_from}
@@ -25,13 +25,9 @@ use Rattle.ml_pdl.specs.Signs.{Sign, own, sign_of}
 use Rattle.ml_pdl.specs.declared.signs.Own.TheVariants.{Begins, Ends, Paren}
 use Rattle.ml_pdl.specs.Marks.{is_test_behind, with_mark}
 
-abbrev pub end_weight : Bool → ℕ
-end_weight true = 1
-end_weight false = 0
-
 abbrev pub weight_of : Bool → Sign → ℕ
 weight_of b (Connective o) = weight o
-weight_of b (Added (Ends m)) = end_weight b
+weight_of b (Added (Ends m)) = if b then 1 else 0
 weight_of b (Added (Paren k)) = 0
 weight_of b Open = 0
 weight_of b Close = 0

@@ -3,7 +3,7 @@
 --
 --   IsWellFormed f    == f is such a formula
 use Rattle.std.specs.Prelude.{◌≤◌, IsTrue}
-use Rattle.ml_text.specs.Refusals.{most_occurrences}
+use Rattle.ml_text.specs.Limits.{most_occurrences}
 use Rattle.ml_pdl.specs.Formula.{Formula, occurrences}
 use Rattle.ml_pdl.specs.Spelling.{HasShortNames, is_spelled}
 

@@ -14,7 +14,8 @@ use Rattle.ml_text.specs.declared.token.Operator.{Operator}
 use Rattle.ml_base.specs.Structure.{Structure, StateSet, is_member, states_where}
 use Rattle.ml_pdl.specs.Formula.{Formula, Const, Binary, Program, Seq, Alt, Star, Test}
 use Rattle.ml_pdl.specs.declared.term.Modality.TheVariants.{Square}
-use Rattle.ml_pdl.specs.Meaning.{Relation, truth_of, some_run, modal, meaning, relation}
+use Rattle.ml_text.specs.Operators.{truth_of}
+use Rattle.ml_pdl.specs.Meaning.{Relation, some_run, modal, meaning, relation}
 use Rattle.ml_pdl.proofs.RunsInto.{run_of, of_run}
 use Rattle.ml_base.proofs.StateSets.{member_where}
 use Rattle.ml_pdl_meaning.proofs.RunsIntoSets.{before, union, grown, before_either, before_followed, before_test, before_rounds, all_before}

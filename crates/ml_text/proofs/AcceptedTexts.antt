@@ -14,7 +14,8 @@ use Rattle.ml_text.specs.declared.token.Operator.{Operator}
 use Rattle.ml_text.specs.declared.token.Operator.TheVariants as operator
 use Rattle.ml_text.specs.Items.{SignTable, items}
 use Rattle.ml_text.specs.Operators.{weight}
-use Rattle.ml_text.specs.Refusals.{Item, Cause, Syntax, TooMany, TooNested, NameTooLong, signs_of, counted, most_occurrences, most_open, IsFault, IsAccepted}
+use Rattle.ml_text.specs.Refusals.{Item, Cause, Syntax, TooMany, TooNested, NameTooLong, signs_of, counted, IsFault, IsAccepted}
+use Rattle.ml_text.specs.Limits.{most_occurrences, most_open}
 use Rattle.ml_text.specs.Tokens.{tokens}
 use Rattle.ml_text.proofs.Cover.{are_tokens}
 use Rattle.ml_text.proofs.Scans.{Spelt, spelt_at}

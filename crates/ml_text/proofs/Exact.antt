@@ -10,7 +10,8 @@ use Rattle.std.proofs.lemmas.List.{append-nil}
 use Rattle.ml_text.specs.Grammar.{Grammar}
 use Rattle.ml_text.specs.private.Machine.{State, start_state, step, finish, parse}
 use Rattle.ml_text.specs.Refusals.{Item, Cause, Syntax, TooMany, TooNested, NameTooLong, signs_of, counted, open_behind, open_behind_one}
-use Rattle.ml_text.specs.Refusals.{most_occurrences, most_open, IsSyntaxFault, Passes, IsFault, IsRefused, IsAccepted, offset_of}
+use Rattle.ml_text.specs.Refusals.{IsSyntaxFault, Passes, IsFault, IsRefused, IsAccepted, offset_of}
+use Rattle.ml_text.specs.Limits.{most_occurrences, most_open}
 use Rattle.ml_text.specs.private.Reading.{Outcome, Found, Refused, cause_at, next_outcome, end_outcome, outcome, text_outcome}
 use Rattle.ml_text.proofs.Complete.{found}
 use Rattle.ml_text.proofs.Sound.{stands}

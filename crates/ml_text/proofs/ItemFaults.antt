@@ -10,8 +10,10 @@ use Rattle.std.proofs.lemmas.Bool.{cases_lt}
 use Rattle.std.proofs.lemmas.List.{map-append}
 use Rattle.ml_text.specs.Grammar.{Grammar}
 use Rattle.ml_text.specs.private.Machine.{State, start_state, step, run}
-use Rattle.ml_text.specs.Refusals.{Item, Cause, Syntax, TooMany, TooNested, NameTooLong, signs_of, counted, open_behind, open_behind_one, most_occurrences}
-use Rattle.ml_text.specs.Refusals.{most_open, rank, BeginsText, IsSyntaxFault, Passes, IsFault, IsRefused, is_long_at, offset_of}
+use Rattle.ml_text.specs.Refusals.{Item, Cause, Syntax, TooMany, TooNested, NameTooLong, signs_of, counted, open_behind, open_behind_one}
+use Rattle.ml_text.specs.Limits.{most_occurrences}
+use Rattle.ml_text.specs.Refusals.{rank, BeginsText, IsSyntaxFault, Passes, IsFault, IsRefused, is_long_at, offset_of}
+use Rattle.ml_text.specs.Limits.{most_open}
 use Rattle.ml_text.proofs.Viable.{run-last}
 use Rattle.ml_text.proofs.FirstItems.{take_all, take_one, counted-last, open_from-last, is_long_at-last, offset-last}
 use Rattle.ml_text.proofs.Fits.{Fits, fits_viable, fits_not_viable, first_run}

@@ -12,7 +12,8 @@ use Rattle.ml_base.specs.declared.parse_refusal.ParseRefusal.{ParseRefusal}
 use Rattle.ml_text.specs.Grammar.{Grammar, Mode}
 use Rattle.ml_text.specs.Items.{bytes_of, is_long_word}
 use Rattle.ml_text.specs.NotedItems.{name_bytes}
-use Rattle.ml_text.specs.Refusals.{Item, Cause, Syntax, TooMany, TooNested, NameTooLong, open_behind_one, most_occurrences, most_open}
+use Rattle.ml_text.specs.Refusals.{Item, Cause, Syntax, TooMany, TooNested, NameTooLong, open_behind_one}
+use Rattle.ml_text.specs.Limits.{most_occurrences, most_open}
 use Rattle.ml_text.specs.private.Machine.{Stack, State, step}
 use Rattle.ml_text.specs.private.Progress.{IsRefusal, refusal_of, limit_refusal}
 use Rattle.ml_text.specs.private.Reading.{Outcome, Refused, cause_at, next_outcome, outcome}

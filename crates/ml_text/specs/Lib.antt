@@ -1,5 +1,7 @@
 -- blanks, letters and the bytes of a word
 pub mod Bytes
+-- the limits that all logics share, beside the one on names
+pub mod Limits
 -- names of items, and places that are noted
 pub mod NotedItems
 -- signs with their names apart

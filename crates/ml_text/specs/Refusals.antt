@@ -35,13 +35,6 @@ pub record Item (Sign : Type 0) : Type 0 where
   pub bracket : Bracket
   pub is_long : Bool
 
--- the limits that all logics share, beside the one on names
-abbrev pub most_occurrences : ℕ
-most_occurrences = MOST_OCCURRENCES
-
-abbrev pub most_open : ℕ
-most_open = MOST_OPEN
-
 abbrev pub signs_of : {Sign : Type 0} → List (Item Sign) → List Sign
 signs_of items = map (λ i. i.sign) items
 
@@ -98,8 +91,8 @@ module _ {Sign Tree : Type 0} (R : List Sign → Tree → Type 0) where
 
   abbrev pub IsFault : Cause → List (Item Sign) → ℕ → Type 0
   IsFault Syntax items k = IsSyntaxFault items k
-  IsFault TooMany items k = Passes counted most_occurrences items k
-  IsFault TooNested items k = Passes open_behind most_open items k
+  IsFault TooMany items k = Passes counted MOST_OCCURRENCES items k
+  IsFault TooNested items k = Passes open_behind MOST_OPEN items k
   IsFault NameTooLong items k = is_long_at items k ≡ true
 
   pub record IsRefused (items : List (Item Sign)) (c : Cause) (k : ℕ) : Type 0 where

@@ -20,7 +20,8 @@ use Rattle.ml_base.specs.Name.{IsName}
 use Rattle.ml_lines.specs.Lines.{Line}
 use Rattle.ml_lines.specs.Reading.{lines_of, left_of}
 use Rattle.ml_kripke.specs.BodyRules.{IsEdgeBehind}
-use Rattle.ml_kripke.specs.ModelText.{states_line, start_line, end_line, state_line, edge_line}
+use Rattle.ml_kripke.specs.ModelText.{state_line, edge_line}
+use Rattle.ml_kripke.specs.BodyLines.{states_line, start_line, end_line}
 
 pub record IsStatesLine (line : Line) (n : ℕ) : Type 0 where
   pub is_line : line ≡ states_line n

@@ -11,7 +11,8 @@ use Rattle.std.specs.Option.{option_map}
 use Rattle.ml_base.specs.declared.parse_refusal.ParseRefusal.{ParseRefusal}
 use Rattle.ml_base.specs.declared.parse_refusal.ParseRefusal.TheVariants as refusal
 use Rattle.ml_text.specs.Refusals as cause
-use Rattle.ml_text.specs.Refusals.{Cause, Item, most_occurrences, most_open}
+use Rattle.ml_text.specs.Refusals.{Cause, Item}
+use Rattle.ml_text.specs.Limits.{most_occurrences, most_open}
 use Rattle.ml_text.specs.private.Reading.{Outcome, Refused, cause_at, outcome}
 use Rattle.ml_text.specs.private.Tables.{Tables}
 use Rattle.ml_text.specs.private.Views.{mode_view, stack_view}

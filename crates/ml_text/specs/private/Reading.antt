@@ -6,7 +6,8 @@
 use Rattle.std.specs.Prelude.{ℕ, ◌+◌, Bool, if◌then◌else◌, nat_lt, List, [], ◌∷◌, Option, Some, None}
 use Rattle.ml_text.specs.Grammar.{Grammar, Mode}
 use Rattle.ml_text.specs.private.Machine.{Stack, start_state, step, finish}
-use Rattle.ml_text.specs.Refusals.{Item, Cause, Syntax, TooMany, TooNested, NameTooLong, open_behind_one, most_occurrences, most_open}
+use Rattle.ml_text.specs.Refusals.{Item, Cause, Syntax, TooMany, TooNested, NameTooLong, open_behind_one}
+use Rattle.ml_text.specs.Limits.{most_occurrences, most_open}
 
 pub data Outcome (Tree : Type 0) : Type 0 where
   Found : Tree → Outcome Tree
