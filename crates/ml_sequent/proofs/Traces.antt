@@ -7,19 +7,25 @@
 --   sequent_low     == the nodes of a sequent that has a spread are nodes
 --   diamond_of      == a node that passes the test is a diamond
 --   along_ok        == a step of each spread under a choice is one of the spread in hand
+--   trace_told, told_trace == a local walk from a node of the sequent that leads out is a trace, and the other way round
 --   step_is         == such triples and their targets are a step
+--   leading_more, leading_same == where the nodes of a list lead out, with one more
+--   targets_are, targets_told == the nodes to which those of the spread lead out are the targets
+--   traces_are_from, along_from == and the triples from some nodes of the sequent are the traces that begin there
 use Rattle.std.proofs.Common.{ℕ, ◌≡◌, ◌+◌, ◌<◌, ◌⊎◌, inl, inr, ⊎_elim, ◌↔◌, ◌==◌, min, true, List, [], ◌∷◌, ◌++◌, map, length}
-use Rattle.std.proofs.Common.{get_or, take, Option, Some, None, refl, sym, ap, ◌∙◌, subst, arith, append_assoc, append-nil, Result, Ok, Err, IfOk}
-use Rattle.std.specs.List.{flat_map}
+use Rattle.std.proofs.Common.{get_or, take, Option, Some, None, refl, sym, ap, ◌∙◌, subst, arith, append_assoc, append-nil, All, Result, Ok, Err, IfOk}
+use Rattle.std.specs.Global.{Vec}
+use Rattle.std.specs.List.{flat_map, filter_map, cons_option}
 use Rattle.std.proofs.lemmas.Bool.{eqb-true, cond-true}
 use Rattle.std.proofs.lemmas.Bool.Decides.{nat_tests}
 use Rattle.std.proofs.lemmas.List.{take_more}
 use Rattle.std.proofs.lemmas.List.Concat.{flat_map-append}
+use Rattle.std.proofs.lemmas.List.Elements.{filter_map-append}
 use Rattle.std.proofs.lemmas.Option.{cond_some}
 use Rattle.ml_lists.specs.Ascending.{IsAscending, ascending}
 use Rattle.ml_lists.specs.Member.{IsMember}
 use Rattle.ml_lists.proofs.Ascending.{ascending-is, ascending-member, member-ascending}
-use Rattle.ml_lists.proofs.Member.{InList, Image, member-append, member-append_left, member-append_right, member-flat_map, member-flat_map_from, member-map, member-map_from}
+use Rattle.ml_lists.proofs.Member.{All-member, InList, Image, member-append, member-append_left, member-append_right, member-flat_map, member-flat_map_from, member-map, member-map_from}
 use Rattle.ml_graph.specs.declared.node.Node.{Node}
 use Rattle.ml_graph.specs.declared.node.Node.TheVariants as node
 use Rattle.ml_graph.specs.Graph.{Graph, IsGraph, size, node_at, priority_at}
@@ -29,7 +35,8 @@ use Rattle.ml_sequent.specs.declared.reach.Visit.{Visit}
 use Rattle.ml_sequent.specs.LocalWalk.{LocalWalk, stays, InSpread}
 use Rattle.ml_sequent.specs.Spread.{SpreadList, IsSpreadOf, is_diamond}
 use Rattle.ml_sequent.specs.Step.{IsDiamondOf, LeadsOut, IsTarget, IsTrace, IsStep}
-use Rattle.ml_sequent.specs.private.Exits.{exit_of, exits, triple_to, action_of, IsTraceFrom}
+use Rattle.ml_sequent.specs.private.Exits.{exit_of, exit_at, exits, triple_to, action_of, IsTraceFrom, AreTracesFrom}
+use Rattle.ml_sequent.specs.private.Trails.{spread_at}
 use Rattle.ml_sequent.specs.private.Reach.{Leads, IsReached, onward, ranked, LevelList, IsRanked, HasReached}
 use Rattle.ml_sequent.proofs.LocalWalks.{walk_low}
 use Rattle.ml_sequent.proofs.RankedWalks as walks
@@ -259,12 +266,54 @@ diamond_is (node.Square a to) e = absurd (cc)
 pub diamond_of : (x : Node) → is_diamond x ≡ true → (a : ℕ) × ((to : ℕ) × (x ≡ node.Diamond a to))
 diamond_of x is = let d = diamond_is x is in (action_of x, (d.child, d.holds))
 
+-- ---- traces
+
+module _ (g : Graph) (C : List ℕ) (sp : SpreadList) (d : ℕ) (of : IsSpreadOf g C sp.choice sp)
+    (diamond : IsDiamondOf g sp d) where
+  abbrev action : ℕ
+  action = action_of (node_at g d)
+
+  -- a local walk from a node of the sequent that leads out is a trace
+  pub trace_told : (t : Triple) → IsMember t.from C → IsTraceFrom g sp.choice (action_of (node_at g d)) d t
+      → IsTrace g C sp d t
+  trace_told t h w =
+      let x = diamond_is (node_at g d) diamond.holds in
+      let reached = (of.nodes w.leaving).1 (record { from = t.from; member = h; lowest = t.lowest; walk = w.walk }) in
+      record {
+        from = h;
+        leaving = w.leaving;
+        walk = w.walk;
+        leads = exit_leads g sp action d x.child x.holds w.leaving t.to reached w.leads;
+      }
+
+  -- and the other way round
+  pub told_trace : (t : Triple) → IsTrace g C sp d t → IsTraceFrom g sp.choice (action_of (node_at g d)) d t
+  told_trace t w =
+      let x = diamond_is (node_at g d) diamond.holds in
+      record {
+        leaving = w.leaving;
+        walk = w.walk;
+        leads = leads_exit g sp action d x.child x.holds w.leaving t.to w.leads;
+      }
+
+  -- the triples from some nodes of the sequent are the traces that begin there
+  pub traces_are_from : (nodes : List ℕ) (traces : List Triple)
+      → All (λ n. IsMember n C) nodes
+      → AreTracesFrom g sp.choice d nodes traces
+      → (t : Triple)
+      → IsMember t traces ↔ (IsMember t.from nodes × IsTrace g C sp d t)
+  traces_are_from nodes traces inside are t = (
+    λ h. let w = (are t).0 h in
+        (w.0, trace_told t (All-member (λ n. IsMember n C) nodes inside t.from w.0) w.1),
+    λ w. (are t).1 (w.0, told_trace t w.1),
+  )
+
 -- such triples and their targets are a step
 pub step_is : (g : Graph) (C : List ℕ) (sp : SpreadList) (d : ℕ) (next : List ℕ) (made : List Triple)
     → IsSpreadOf g C sp.choice sp
     → IsDiamondOf g sp d
     → next ≡ ascending (map (λ (t : Triple). t.to) made)
-    → ((t : Triple) → IsMember t made ↔ (IsMember t.from C × IsTraceFrom g sp.choice (action_of (node_at g d)) d t))
+    → AreTracesFrom g sp.choice d C made
     → IsStep g C sp d next made
 step_is g C sp d next made of diamond next_is traces_are = by_child (diamond_is (node_at g d) diamond.holds)
   where
@@ -277,38 +326,16 @@ step_is g C sp d next made of diamond next_is traces_are = by_child (diamond_is 
             (ascending-member m (map (λ (t : Triple). t.to) made) (subst (IsMember m) next_is h)))),
         (λ h. of_target m h.leaving h.leads (in_spread h.leaving m h.leads)),
       );
-      traces =
-          λ t. (
-            (λ h. trace_of t ((traces_are t).0 h)),
-            (λ w. (traces_are t).1 (
-              w.from,
-              record {
-                leaving = w.leaving;
-                walk = w.walk;
-                leads = leads_exit g sp (action_of (node_at g d)) d x.child x.holds w.leaving t.to w.leads;
-              },
-            )),
-          );
+      traces = λ t. (
+        (λ h. let w = (traces_are t).0 h in trace_told g C sp d of diamond t w.0 w.1),
+        (λ w. (traces_are t).1 (w.from, told_trace g C sp d of diamond t w)),
+      );
     }
       where
-        reached : (n k m : ℕ) → IsMember n C → LocalWalk g sp.choice n k m → IsMember m sp.nodes
-        reached n k m h walk = (of.nodes m).1 (record { from = n; member = h; lowest = k; walk = walk })
-
-        trace_of : (t : Triple)
-            → IsMember t.from C × IsTraceFrom g sp.choice (action_of (node_at g d)) d t
-            → IsTrace g C sp d t
-        trace_of t h = record {
-          from = h.0;
-          leaving = h.1.leaving;
-          walk = h.1.walk;
-          leads =
-              exit_leads g sp (action_of (node_at g d)) d x.child x.holds h.1.leaving t.to
-              (reached t.from t.lowest h.1.leaving h.0 h.1.walk) h.1.leads;
-        }
-
         of_image : (m : ℕ) → Image (λ (t : Triple). t.to) m made → IsTarget g sp d m
         of_image m i =
-            let w = trace_of i.from ((traces_are i.from).0 i.member) in
+            let both = (traces_are i.from).0 i.member in
+            let w = trace_told g C sp d of diamond i.from both.0 both.1 in
             record { leaving = w.leaving; leads = subst (LeadsOut g sp d w.leaving) (sym i.holds) w.leads }
 
         in_spread : (e m : ℕ) → LeadsOut g sp d e m → InSpread g sp.choice C e
@@ -333,6 +360,106 @@ step_is g C sp d next made of diamond next_is traces_are = by_child (diamond_is 
             subst (IsMember m) (sym next_is)
             (member-ascending m (map (λ (u : Triple). u.to) made) (member-map (λ (u : Triple). u.to) t made member))
 
+-- ---- targets
+
+-- a member of the list to which an entry leads
+record Leading {X Y : Type 0} (h : X → Option Y) (y : Y) (xs : List X) : Type 0 where
+  pub from : X
+  pub member : IsMember from xs
+  pub holds : h from ≡ Some y
+
+leading_from : {X Y : Type 0} → (h : X → Option Y) (y : Y) (xs : List X) → IsMember y (filter_map h xs) → Leading h y xs
+leading_from h y [] m = absurd m
+leading_from {Y = Y} h y (x ∷ xs) m = by_first (h x) refl (λ n. leading_from h y xs n) m
+  where
+    later : Leading h y xs → Leading h y (x ∷ xs)
+    later l = record { from = l.from; member = inr l.member; holds = l.holds }
+
+    by_first : (o : Option Y) → h x ≡ o → (IsMember y (filter_map h xs) → Leading h y xs)
+        → IsMember y (cons_option o (filter_map h xs)) → Leading h y (x ∷ xs)
+    by_first None is rest n = later (rest n)
+    by_first (Some z) is rest (inl e) = record { from = x; member = inl refl; holds = is ∙ ap (λ (k : Y). Some k) (sym e) }
+    by_first (Some z) is rest (inr n) = later (rest n)
+
+leading_to : {X Y : Type 0} → (h : X → Option Y) (x : X) (y : Y) (xs : List X)
+    → IsMember x xs
+    → h x ≡ Some y
+    → IsMember y (filter_map h xs)
+leading_to h x y [] m leads = absurd m
+leading_to {Y = Y} h x y (z ∷ zs) m leads = by_first (h z) refl (λ n. leading_to h x y zs n leads) m
+  where
+    by_first : (o : Option Y) → h z ≡ o → (IsMember x zs → IsMember y (filter_map h zs)) → IsMember x (z ∷ zs)
+        → IsMember y (cons_option o (filter_map h zs))
+    by_first None is rest (inl e) =
+        let none : None ≡ Some y = sym is ∙ ap h (sym e) ∙ leads in
+        absurd (cc)
+    by_first None is rest (inr n) = rest n
+    by_first (Some k) is rest (inl e) =
+        let same : Some k ≡ Some y = sym is ∙ ap h (sym e) ∙ leads in
+        inl (let values : k ≡ y = cc in sym values)
+    by_first (Some k) is rest (inr n) = inr (rest n)
+
+-- one entry more, which leads somewhere, or doesn't
+module _ (h : ℕ → Option ℕ) (xs ts : List ℕ) (i : ℕ) (low : i < length xs) (before : ts ≡ filter_map h (take i xs)) where
+  one_more : filter_map h (take (i + 1) xs) ≡ ts ++ cons_option (h (get_or xs i 0)) []
+  one_more =
+      ap (filter_map h) (take_more xs i 0 low)
+      ∙ filter_map-append h (take i xs) (get_or xs i 0 ∷ [])
+      ∙ ap (λ ys. ys ++ cons_option (h (get_or xs i 0)) []) (sym before)
+
+  pub leading_more : (m : ℕ) → h (get_or xs i 0) ≡ Some m → ts ++ m ∷ [] ≡ filter_map h (take (i + 1) xs)
+  leading_more m leads = sym (one_more ∙ ap (λ o. ts ++ cons_option o []) leads)
+
+  pub leading_same : h (get_or xs i 0) ≡ None → ts ≡ filter_map h (take (i + 1) xs)
+  leading_same none = sym (one_more ∙ ap (λ o. ts ++ cons_option o []) none ∙ append-nil ts)
+
+-- the nodes to which those of the spread lead out are the targets
+pub targets_are : (g : Graph) (nodes : List ℕ) (c : List (ℕ × Side)) (d m : ℕ)
+    → IsDiamondOf g (spread_at nodes c) d
+    → IsMember m (ascending (filter_map (exit_at g (action_of (node_at g d)) d) nodes)) ↔ IsTarget g (spread_at nodes c) d m
+targets_are g nodes c d m diamond = (of_exit, λ t. of_leads t.leaving t.leads)
+  where
+    x : Diamonds (node_at g d)
+    x = diamond_is (node_at g d) diamond.holds
+
+    of_exit : IsMember m (ascending (filter_map (exit_at g (action_of (node_at g d)) d) nodes)) → IsTarget g (spread_at nodes c) d m
+    of_exit h =
+        let exit = exit_at g (action_of (node_at g d)) d in
+        let l = leading_from exit m nodes (ascending-member m (filter_map exit nodes) h) in
+        record {
+          leaving = l.from;
+          leads =
+              exit_leads g (spread_at nodes c) (action_of (node_at g d)) d x.child x.holds l.from m
+              (member-ascending l.from nodes l.member) l.holds;
+        }
+
+    on_trail : (e : ℕ) → LeadsOut g (spread_at nodes c) d e m → IsMember e nodes
+    on_trail e l = ascending-member e nodes (⊎_elim
+        (λ (own : (e ≡ d) × (m ≡ l.child)). subst (λ k. IsMember k (ascending nodes)) (sym own.0) diamond.member)
+        (λ (square : IsMember e (ascending nodes) × (node_at g e ≡ node.Square l.action m)). square.0)
+        l.leaves)
+
+    of_leads : (e : ℕ) → LeadsOut g (spread_at nodes c) d e m
+        → IsMember m (ascending (filter_map (exit_at g (action_of (node_at g d)) d) nodes))
+    of_leads e l =
+        let exit = exit_at g (action_of (node_at g d)) d in
+        member-ascending m (filter_map exit nodes)
+        (leading_to exit e m nodes (on_trail e l)
+        (leads_exit g (spread_at nodes c) (action_of (node_at g d)) d x.child x.holds e m l))
+
+-- so they are in what a call answers
+pub targets_told : {E : Type 0} → (g g2 : Graph) (nodes : List ℕ) (c : List (ℕ × Side)) (d : ℕ)
+    (answer : Result (List ℕ) E)
+    → g2 ≡ g
+    → IsDiamondOf g (spread_at nodes c) d
+    → IfOk answer (λ targets. targets ≡ ascending (filter_map (exit_at g2 (action_of (node_at g2 d)) d) nodes))
+    → IfOk answer (λ targets. (m : ℕ) → IsMember m targets ↔ IsTarget g (spread_at nodes c) d m)
+targets_told g g2 nodes c d (Ok targets) same diamond are = λ m.
+    subst (λ (ms : List ℕ). IsMember m ms ↔ IsTarget g (spread_at nodes c) d m)
+    (sym (are ∙ ap (λ (k : Graph). ascending (filter_map (exit_at k (action_of (node_at k d)) d) nodes)) same))
+    (targets_are g nodes c d m diamond)
+targets_told g g2 nodes c d (Err e) same diamond are = are
+
 -- the nodes of a sequent that has a spread are nodes
 pub sequent_low : (g : Graph) (C : List ℕ) (sp : SpreadList) (n : ℕ)
     → IsSpreadOf g C sp.choice sp
@@ -352,3 +479,14 @@ pub along_ok : {E : Type 0} → (g : Graph) (C : List ℕ) (c : List (ℕ × Sid
     → IfOk answer (λ made. IsStep g C sp d made.0 made.1)
 along_ok g C c d sp (Ok made) same of diamond all = all sp same of diamond
 along_ok g C c d sp (Err e) same of diamond all = all
+
+-- and the triples that a call answers from some nodes of the sequent are the traces that begin there
+pub along_from : {E : Type 0} → (g : Graph) (C : List ℕ) (sp : SpreadList) (d : ℕ) (nodes : List ℕ)
+    (answer : Result (Vec Triple) E)
+    → IsSpreadOf g C sp.choice sp
+    → IsDiamondOf g sp d
+    → All (λ n. IsMember n C) nodes
+    → IfOk answer (λ traces. AreTracesFrom g sp.choice d nodes traces.items)
+    → IfOk answer (λ traces. (t : Triple) → IsMember t traces.items ↔ (IsMember t.from nodes × IsTrace g C sp d t))
+along_from g C sp d nodes (Ok traces) of diamond inside are = traces_are_from g C sp d of diamond nodes traces.items inside are
+along_from g C sp d nodes (Err e) of diamond inside are = are

@@ -1,14 +1,16 @@
 // A branch of a decision: a sequent, the sides chosen so far, and its spread, which grows with each choice.
 ghost use Rattle.std.specs.Prelude.{◌≡◌, ◌<◌, ◌↔◌, ℕ, List, [], ◌∷◌, IfOk, OnOk, IsTrue, MatchOption, All, filter};
 ghost use Rattle.ml_graph.specs.Graph.{size, node_at};
+ghost use Rattle.ml_lists.specs.Ascending.{IsAscending};
 ghost use Rattle.ml_lists.specs.Member.{IsMember};
 ghost use Rattle.ml_sequent.specs.Branch.{undone};
 ghost use Rattle.ml_sequent.specs.Choice.{with_side};
 ghost use Rattle.ml_sequent.specs.Spread.{IsSpread, IsSpreadOf, IsCause, IsOpenOr, IsLeastOpenOr, is_diamond};
 ghost use Rattle.ml_sequent.specs.FirstCause.{IsFirstCause};
-ghost use Rattle.ml_sequent.specs.Step.{IsDiamondOf, IsStep};
+ghost use Rattle.ml_sequent.specs.Step.{IsDiamondOf, IsTarget, IsTrace, IsStep};
 ghost use Rattle.ml_sequent.specs.declared.clashes.ClashCause.{ClashCause};
 ghost use Rattle.ml_sequent.specs.declared.clashes.ClashCause.TheVariants.{False, Pair};
+ghost use Rattle.ml_trace.specs.declared.letters.Triple.{Triple};
 
 use crate::checking::is_pair;
 use crate::choice::{Choice, Side};
@@ -21,11 +23,12 @@ use crate::phase::LocalPhase;
 use crate::questions::{diamonds_on, is_diamond, is_open};
 use crate::sequent::Sequent;
 use crate::spreads::Spread;
+use crate::stepping::targets_on;
 use crate::taken::Taken;
 use crate::trail::Trail;
 use ml_base::NoMemory;
 use ml_graph::ModalGraph;
-use ml_trace::LocalTraces;
+use ml_trace::{LocalTraces, Triple};
 use std::alloc::Global;
 use std::marker::Model;
 
@@ -366,5 +369,39 @@ impl<'a> Branch<'a> {
         ensures step { IfOk result (λ made. IsStep self.old.graph self.old.sequent self.old.spread diamond made.0 made.1) }
     {
         self.phase.step_under(&self.sequent, &self.choice, diamond)
+    }
+
+    /// The nodes that have to hold behind a diamond of the spread: the targets of the step along it.
+    ///
+    /// # Errors
+    /// `NoMemory` alone.
+    ///
+    /// Cost: linear in the spread, and `n log n` in the targets.
+    pub fn targets(&self, diamond: u32) -> Result<Sequent, NoMemory>
+        requires spread { IsSpread self.now.graph self.now.spread }
+        requires diamond { IsDiamondOf self.now.graph self.now.spread diamond }
+        ensures ascends { IfOk result IsAscending }
+        ensures targets { IfOk result (λ targets. (m : ℕ)
+            → IsMember m targets ↔ IsTarget self.now.graph self.now.spread diamond m) }
+    {
+        targets_on(self.alloc, self.phase.graph(), &self.trail, diamond)
+    }
+
+    /// The local traces along a diamond of the spread that begin at one of these nodes of the sequent.
+    ///
+    /// # Errors
+    /// `NoMemory` alone.
+    ///
+    /// Cost: for each of the given nodes, linear in the pairs of a node that it leads to and a lowest priority on the way,
+    /// each of which is visited once.
+    pub fn traces_from(&mut self, diamond: u32, nodes: &[u32]) -> Result<Vec<Triple>, NoMemory>
+        requires spread { IsSpreadOf self.old.graph self.old.sequent self.old.spread.choice self.old.spread }
+        requires diamond { IsDiamondOf self.old.graph self.old.spread diamond }
+        requires nodes { All (λ n. IsMember n self.old.sequent) nodes.now }
+        ensures same { self.new ≡ self.old }
+        ensures traces { IfOk result (λ traces. (t : Triple) → IsMember t traces.items
+            ↔ (IsMember t.from nodes.now × IsTrace self.old.graph self.old.sequent self.old.spread diamond t)) }
+    {
+        self.phase.traces_under(&self.choice, diamond, nodes)
     }
 }

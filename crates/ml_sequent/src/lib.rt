@@ -9,7 +9,8 @@
 // - `step` goes on along a diamond, to the next sequent, and tells the local traces.
 // - `LocalPhase` has the same calls for many spreads of one graph, and lends them its memory.
 // - `Branch` keeps the spread of a sequent while sides are chosen one after the other and taken back, and answers what
-//   the others do of it.
+//   the others do of it; of a step also its targets alone (`targets`), and its traces from some of the nodes
+//   (`traces_from`).
 //
 // Below stand `ml_graph`, for graphs, and `ml_trace`, whose letters are made of local traces. Above stand the decision
 // game, which asks these calls of each position, and the checker of refutations.

@@ -6,6 +6,7 @@ ghost use Rattle.ml_sequent.specs.Spread.{SpreadList, IsSpread, IsSpreadOf, IsCa
 ghost use Rattle.ml_sequent.specs.FirstCause.{IsFirstCause};
 ghost use Rattle.ml_sequent.specs.declared.clashes.ClashCause.{ClashCause};
 ghost use Rattle.ml_sequent.specs.Step.{IsDiamondOf, IsStep};
+ghost use Rattle.ml_sequent.specs.private.Exits.{AreTracesFrom};
 
 use crate::checking::is_cause_by;
 use crate::choice::{Choice, Side};
@@ -18,10 +19,10 @@ use crate::questions::{diamonds, open_or};
 use crate::reach::Reach;
 use crate::sequent::Sequent;
 use crate::spreads::Spread;
-use crate::stepping::{step_along, step_by};
+use crate::stepping::{step_along, step_by, traces_along};
 use ml_base::NoMemory;
 use ml_graph::ModalGraph;
-use ml_trace::LocalTraces;
+use ml_trace::{LocalTraces, Triple};
 use std::alloc::Global;
 use std::marker::Model;
 
@@ -109,6 +110,29 @@ impl<'a> LocalPhase<'a> {
             sequent,
             choice,
             diamond,
+        )
+    }
+
+    /// The local traces along a diamond from these nodes, where the choice of the spread is given.
+    pub(crate) fn traces_under(
+        &mut self,
+        choice: &Choice,
+        diamond: u32,
+        nodes: &[u32],
+    ) -> Result<Vec<Triple>, NoMemory>
+        requires nodes { All (λ n. n < size self.old) nodes.now }
+        requires diamond { diamond < size self.old }
+        ensures graph { self.new ≡ self.old }
+        ensures traces { IfOk result (λ traces. AreTracesFrom self.old choice.now diamond nodes.now traces.items) }
+    {
+        traces_along(
+            self.alloc,
+            self.graph,
+            &self.levels,
+            &mut self.reach,
+            choice,
+            diamond,
+            nodes,
         )
     }
 

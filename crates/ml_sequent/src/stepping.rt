@@ -1,12 +1,11 @@
-// The step along a diamond, with its local traces.
+// The step along a diamond, with its local traces, and its parts: the targets alone, and the traces from some nodes.
 ghost use Rattle.std.specs.Prelude.{◌≡◌, ◌<◌, ◌++◌, ◌↔◌, IfOk, OnOk, length, All};
-ghost use Rattle.std.specs.List.{flat_map};
+ghost use Rattle.std.specs.List.{flat_map, filter_map};
 ghost use Rattle.ml_graph.specs.Graph.{size, node_at};
-ghost use Rattle.ml_lists.specs.Member.{IsMember};
-ghost use Rattle.ml_trace.specs.declared.letters.Triple.{Triple};
+ghost use Rattle.ml_lists.specs.Ascending.{ascending};
 ghost use Rattle.ml_sequent.specs.Spread.{SpreadList, IsSpreadOf};
 ghost use Rattle.ml_sequent.specs.Step.{IsDiamondOf, IsStep};
-ghost use Rattle.ml_sequent.specs.private.Exits.{exit_of, exits, action_of, IsTraceFrom};
+ghost use Rattle.ml_sequent.specs.private.Exits.{exit_of, exit_at, exits, action_of, AreTracesFrom};
 ghost use Rattle.ml_sequent.specs.private.Reach.{IsRanked, HasRoom};
 
 use crate::choice::Choice;
@@ -14,6 +13,7 @@ use crate::levels::Levels;
 use crate::reach::{Reach, Visit, reach_from};
 use crate::sequent::Sequent;
 use crate::spreads::Spread;
+use crate::trail::Trail;
 use ml_base::NoMemory;
 use ml_graph::{ModalGraph, Node};
 use ml_trace::{LocalTraces, Triple};
@@ -66,25 +66,49 @@ fn push_exits(
     Ok(())
 }
 
-/// The local traces from these nodes along a diamond with this action.
-fn traces_from(
+/// The nodes to which those of a trail lead out along a diamond.
+///
+/// Cost: linear in the trail, and `n log n` in the nodes to which it leads.
+pub(crate) fn targets_on(
     alloc: Global,
     graph: &ModalGraph,
-    choice: &Choice,
+    trail: &Trail,
+    diamond: u32,
+) -> Result<Sequent, NoMemory>
+    requires room { trail.now.room ≡ size graph.now }
+    requires diamond { diamond < size graph.now }
+    ensures { IfOk result (λ targets. targets
+        ≡ ascending (filter_map (exit_at graph.now (action_of (node_at graph.now diamond)) diamond) trail.now.nodes)) }
+{
+    let action = action_of(*graph.node(diamond));
+    let mut targets = Vec::new(alloc);
+    for place in 0..trail.len() {
+        if let Some(to) = exit_of(graph, action, diamond, trail.node(place)) {
+            targets.push(to)?;
+        }
+    }
+    Ok(Sequent::of_members(targets))
+}
+
+/// The local traces from these nodes along a diamond.
+pub(crate) fn traces_along(
+    alloc: Global,
+    graph: &ModalGraph,
     levels: &Levels,
-    action: u32,
+    reach: &mut Reach,
+    choice: &Choice,
     diamond: u32,
     nodes: &[u32],
-    reach: &mut Reach,
 ) -> Result<Vec<Triple>, NoMemory>
     requires nodes { All (λ n. n < size graph.now) nodes.now }
+    requires diamond { diamond < size graph.now }
     requires ranked { IsRanked graph.now levels.now }
     requires room { HasRoom graph.now levels.now reach.old }
     ensures room { HasRoom graph.now levels.now reach.new }
-    ensures traces { IfOk result (λ traces. (t : Triple)
-        → IsMember t traces.items ↔ (IsMember t.from nodes.now × IsTraceFrom graph.now choice.now action diamond t)) }
+    ensures traces { IfOk result (λ traces. AreTracesFrom graph.now choice.now diamond nodes.now traces.items) }
 {
     let _size = graph.size();
+    let action = action_of(*graph.node(diamond));
     let mut traces = Vec::new(alloc);
     for node in nodes {
         reach_from(graph, choice, levels, *node, reach)?;
@@ -121,16 +145,14 @@ pub(crate) fn step_along(
         → IsDiamondOf graph.now sp diamond
         → IsStep graph.now sequent.now sp diamond made.0 made.1) }
 {
-    let action = action_of(*graph.node(diamond));
-    let traces = traces_from(
+    let traces = traces_along(
         alloc,
         graph,
-        choice,
         levels,
-        action,
+        reach,
+        choice,
         diamond,
         sequent.values(),
-        reach,
     )?;
     let targets = traces.iter().map(|t| t.to).collect(alloc)?;
     Ok((Sequent::of_members(targets), LocalTraces::new(traces)))

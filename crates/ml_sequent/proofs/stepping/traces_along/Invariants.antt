@@ -3,7 +3,7 @@ use Rattle.ml_lists.specs.Member.{IsMember}
 use Rattle.ml_trace.specs.declared.letters.Triple.{Triple}
 use Rattle.ml_sequent.specs.private.Exits.{IsTraceFrom}
 use Rattle.ml_sequent.specs.private.Reach.{HasRoom}
-use Rattle.ml_sequent.proofs.stepping.traces_from.Given as goal
+use Rattle.ml_sequent.proofs.stepping.traces_along.Given as goal
 
 abbrev pub invariant-loop-node : goal.invariant-loop-node
 invariant-loop-node l = record {
