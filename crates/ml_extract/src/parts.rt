@@ -129,7 +129,7 @@ fn add_label(
     ensures { OnOk result (labels.new.items
         ≡ labels.old.items ++ gathered.labelled state (gathered.names_of graph.now (node_at graph.now node))) }
 {
-    let _size = graph.size();
+    graph.keeps();
     if let Node::Lit {
         prop,
         positive: true,
@@ -163,7 +163,7 @@ fn action(graph: &ModalGraph, diamond: u32) -> &Action
     requires is_diamond { is_diamond (node_at graph.now diamond) ≡ true }
     ensures { result.now ≡ gathered.action_of graph.now (node_at graph.now diamond) }
 {
-    let _size = graph.size();
+    graph.keeps();
     match *graph.node(diamond) {
         Node::Diamond { action, .. } => &graph.actions()[action as usize],
         _ => unreachable!(),

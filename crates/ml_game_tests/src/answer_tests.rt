@@ -55,7 +55,7 @@ fn text_in(alloc: Global, graph: &ModalGraph, arena: &Arena) -> Result<Vec<u8>, 
     requires small { size graph.now ≤ NESTING_LIMIT }
     requires arena { IsArenaOf graph.now arena.now }
 {
-    let _size = graph.size();
+    graph.keeps();
     let solution = solve(alloc, &arena.game()?)?;
     match solution.winner.first() {
         Some(Player::Even) => model_text(alloc, graph, arena, &solution),

@@ -3,7 +3,7 @@ ghost use Rattle.std.specs.Prelude.{◌≡◌, ◌<◌, ◌^◌, ◌↔◌, ℕ,
 ghost use Rattle.std.specs.List.{IsDistinct};
 ghost use Rattle.std.specs.Str.{bytes_eq};
 ghost use Rattle.ml_graph.specs.Graph.{size, node_at, priority_at, IsGraph, references_from, references_of, odd_priorities};
-ghost use Rattle.ml_graph.specs.Building.{graph_of, first_bad, first_out_of_range};
+ghost use Rattle.ml_graph.specs.Building.{graph_of, first_bad, first_out_of_range, IsSmall};
 
 use crate::node::Node;
 use crate::refusals::GraphRefusal;
@@ -71,6 +71,13 @@ impl ModalGraph {
             actions,
         })
     }
+
+    /// What each value of the type keeps, for a proof that needs it: nothing is computed.
+    #[inline(always)]
+    pub fn keeps(&self)
+        ensures is_graph { IsGraph self.now }
+        ensures small { IsSmall self.now }
+    {}
 
     /// How many nodes there are. Says too what the type keeps.
     pub fn size(&self) -> u32

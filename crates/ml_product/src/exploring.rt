@@ -136,7 +136,7 @@ pub fn explore(alloc: Global, graph: &ModalGraph, limit: u32) -> Result<Arena, E
     ensures not_passed { OnOk result (¬ (HasMoreThan graph.now limit)) }
     ensures passed { IsErrOf result refusal.Passed → HasMoreThan graph.now limit }
 {
-    let _size = graph.size();
+    graph.keeps();
     let terms = terms_of(graph)?;
     let mut pool = started(alloc, graph, &terms)?;
     let turns = turns_in(alloc, graph, &terms, &mut pool, limit)?;

@@ -61,7 +61,7 @@ pub fn refutation_of(
         arena,
         solution,
     };
-    let _size = graph.size();
+    graph.keeps();
     fit(graph.priorities());
     let _positions = arena.size();
     let found = Decided::of(alloc, &game)?;

@@ -49,7 +49,7 @@ impl<'a> Checker<'a> {
         ensures refutation { IfOk result (λ checker. checker.refutation.now ≡ refutation.now) }
         ensures asks { IfOk result (λ checker. Asks checker.graph.now checker.odds.items) }
     {
-        let _size = graph.size();
+        graph.keeps();
         let odds = graph.odd_priorities()?;
         Ok(Checker {
             alloc,

@@ -127,7 +127,7 @@ fn holds(
     requires { state < structure.now.states }
     ensures { IfOk result (λ b. IsTrue b → Holds graph.now structure.now state) }
 {
-    let _size = graph.size();
+    graph.keeps();
     let _states = structure.states();
     let (game, vertex) = checking_game(alloc, graph, structure, state)?;
     let solution = solve(alloc, &game)?;
@@ -143,7 +143,7 @@ fn holds(
 pub(crate) fn is_model(alloc: Global, graph: &ModalGraph, model: &Model) -> Result<bool, NoMemory>
     ensures { IfOk result (λ b. IsTrue b → IsModelFound graph.now model.now.structure model.now.start) }
 {
-    let _size = graph.size();
+    graph.keeps();
     let _states = model.structure.states();
     if has_few_edges(graph, &model.structure) {
         let reached = all_reached(alloc, &model.structure, model.start)?;

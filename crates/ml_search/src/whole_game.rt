@@ -66,7 +66,7 @@ fn shown(
     requires solution { IsSolution (game_of arena.now) solution.now }
     ensures { IfOk result (IsFound graph.now) }
 {
-    let _size = graph.size();
+    graph.keeps();
     match solution.winner.first() {
         Some(Player::Even) => {
             let model = model_of(alloc, graph, arena, solution)?;

@@ -113,7 +113,7 @@ impl<'a> Branch<'a> {
         ensures is_spread { OnOk result (IsSpread self.old.graph self.new.spread) }
     {
         let graph = self.phase.graph();
-        let _size = graph.size();
+        graph.keeps();
         self.taken.clear();
         self.trail.back_to(0);
         self.notes.cut(0);
@@ -142,7 +142,7 @@ impl<'a> Branch<'a> {
         ensures is_spread { OnOk result (IsSpread self.old.graph self.new.spread) }
     {
         let graph = self.phase.graph();
-        let _size = graph.size();
+        graph.keeps();
         let first = self.trail.len();
         let place = self.choice.take(node, side)?;
         self.taken.push(Taken { place, first })?;
@@ -293,7 +293,7 @@ impl<'a> Branch<'a> {
             (IsLeastOpenOr self.old.graph self.old.spread) }
     {
         let graph = self.phase.graph();
-        let _size = graph.size();
+        graph.keeps();
         self.notes.note_all(graph, &self.descent, &self.trail);
         self.notes.least_open(graph, &self.choice, &self.trail)
     }

@@ -21,7 +21,7 @@ pub(crate) fn children(graph: &ModalGraph, choice: &Choice, node: u32) -> LocalC
     ensures value { child_list result ≡ children graph.now choice.now node }
     ensures low { All (λ n. n < size graph.now) (child_list result) }
 {
-    let _size = graph.size();
+    graph.keeps();
     match *graph.node(node) {
         Node::And { left, right } => LocalChildren::Two(left, right),
         Node::Or { left, right } => match choice.side(node) {

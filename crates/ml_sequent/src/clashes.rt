@@ -96,7 +96,7 @@ fn negatives(alloc: Global, graph: &ModalGraph, nodes: &[u32]) -> Result<Vec<Opt
     requires { All (λ n. n < size graph.now) nodes.now }
     ensures { IfOk result (λ firsts. HasNegatives graph.now nodes.now firsts.items) }
 {
-    let _size = graph.size();
+    graph.keeps();
     let mut firsts = Vec::with_capacity(alloc, graph.props().len())?;
     for _ in graph.props() {
         firsts.push(None)?;
@@ -128,7 +128,7 @@ fn partner(graph: &ModalGraph, nodes: &[u32], firsts: &[Option<u32>], node: u32)
     requires firsts { HasNegatives graph.now nodes.now firsts.now }
     ensures { result ≡ partner graph.now nodes.now (node_at graph.now node) }
 {
-    let _size = graph.size();
+    graph.keeps();
     match positive_prop(*graph.node(node)) {
         Some(prop) => firsts[prop as usize],
         None => None,
@@ -174,7 +174,7 @@ pub(crate) fn on_odd_cycle(
     ensures room { HasRoom graph.now levels.now reach.new }
     ensures cycle { IfOk result (λ b. IsTrue b ↔ IsOddCycle graph.now choice.now node) }
 {
-    let _size = graph.size();
+    graph.keeps();
     if graph.priority(node) % 2 == 0 {
         return Ok(false);
     }

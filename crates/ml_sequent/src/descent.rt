@@ -79,7 +79,7 @@ fn both(graph: &ModalGraph, node: u32) -> LocalChildren
     ensures value { child_list result ≡ operands (node_at graph.now node) }
     ensures low { All (λ n. n < size graph.now) (child_list result) }
 {
-    let _size = graph.size();
+    graph.keeps();
     match *graph.node(node) {
         Node::And { left, right } => LocalChildren::Two(left, right),
         Node::Or { left, right } => LocalChildren::Two(left, right),

@@ -48,7 +48,7 @@ impl Literals {
         ensures firsts { HasFirsts graph.now trail.now.nodes (place + 1) self.new }
         ensures conflict { IsTrue result ↔ IsConflict graph.now trail.now.nodes place }
     {
-        let _size = graph.size();
+        graph.keeps();
         match *graph.node(trail.node(place)) {
             Node::False => true,
             Node::Lit {

@@ -168,7 +168,7 @@ fn visit_onto(
     ensures room { HasRoom graph.now levels.now reach.new }
     ensures visited { OnOk result (IsVisited (above floor (onto levels.now.ranks rank node ∷ [])) reach.old.found reach.new.found) }
 {
-    let _size = graph.size();
+    graph.keeps();
     let rank = rank.min(levels.rank(node));
     if rank < floor {
         return Ok(());

@@ -107,7 +107,7 @@ pub(crate) fn traces_along(
     ensures room { HasRoom graph.now levels.now reach.new }
     ensures traces { IfOk result (λ traces. AreTracesFrom graph.now choice.now diamond nodes.now traces.items) }
 {
-    let _size = graph.size();
+    graph.keeps();
     let action = action_of(*graph.node(diamond));
     let mut traces = Vec::new(alloc);
     for node in nodes {

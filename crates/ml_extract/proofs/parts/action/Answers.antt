@@ -9,7 +9,7 @@ pub bounds-actions-action : goal.bounds-actions-action
 bounds-actions-action c =
     let is : node_at c.args.graph.now c.args.diamond ≡ node.Diamond c.in-Diamond.action c.in-Diamond.to = cc in
     let low =
-    diamond_action c.args.graph.now c.size-size.ensures.is_graph c.args.diamond c.requires.node c.in-Diamond.action
+    diamond_action c.args.graph.now c.keeps.ensures.is_graph c.args.diamond c.requires.node c.in-Diamond.action
     c.in-Diamond.to is in
     omega (arith, ap length c.actions.ensures.value)
 
@@ -17,7 +17,7 @@ pub returns : goal.returns
 returns c =
     let is : node_at c.args.graph.now c.args.diamond ≡ node.Diamond c.in-Diamond.action c.in-Diamond.to = cc in
     let low =
-    diamond_action c.args.graph.now c.size-size.ensures.is_graph c.args.diamond c.requires.node c.in-Diamond.action
+    diamond_action c.args.graph.now c.keeps.ensures.is_graph c.args.diamond c.requires.node c.in-Diamond.action
     c.in-Diamond.to is in
     action_read c.args.graph.now (node_at c.args.graph.now c.args.diamond) c.in-Diamond.action c.in-Diamond.to
     c.actions.result.now c.index-actions-action.result is c.actions.ensures.value low c.index-actions-action.is

@@ -36,6 +36,6 @@ even_wins g a s game winners w g_ok arena game_is solved winners_are first even 
 pub model_text-requires : goal.model_text-requires
 model_text-requires c =
     even_wins c.args.graph.now c.args.arena.now c.in_ok-solution.solution c.in_ok-game.field-0 c.deref.result.now
-    c.in-Some-Even.field-0.now c.size-size.ensures.is_graph c.requires.arena c.in_ok-game.ensures
+    c.in-Some-Even.field-0.now c.keeps.ensures.is_graph c.requires.arena c.in_ok-game.ensures
     c.in_ok-solution.ensures.ok (c.deref.ensures.value ∙ ap (λ (s : GameSolution). s.winner) c.solution.view_is)
     c.in-Some-Even.ensures.value c.in-Some-Even.field-0-is

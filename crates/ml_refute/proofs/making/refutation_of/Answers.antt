@@ -29,7 +29,7 @@ heights_of-requires-clause-few c =
     let few =
     names_here _ _ _ odd _ _ c.in_ok-found.ensures.looked
     (length-map c.in_ok-found.found.decisions.items decision_of ∙ c.in_ok-found.ensures.all) _ c.names_of-names.ensures
-    c.size-size.ensures.is_graph c.requires.small in
+    c.keeps.ensures.is_graph c.requires.small in
     omega (arith, few)
 
 pub heights_of-requires-clause-marks : goal.heights_of-requires-clause-marks
@@ -39,7 +39,7 @@ heights_of-requires-clause-marks c =
     subst (λ xs. All (HasMarksOf c.names_of-names.result) (map decision_of xs)) (sym c.deref.ensures.value)
     (marks_here _ _ _ odd _ _ c.in_ok-found.ensures.looked
     (length-map c.in_ok-found.found.decisions.items decision_of ∙ c.in_ok-found.ensures.all) _ c.names_of-names.ensures
-    c.size-size.ensures.is_graph c.requires.small)
+    c.keeps.ensures.is_graph c.requires.small)
 
 pub heights_of-requires-clause-one_sided : goal.heights_of-requires-clause-one_sided
 heights_of-requires-clause-one_sided c =
@@ -86,7 +86,7 @@ new-requires c =
     (sym (ap lists_of c.deref-3.ensures.value ∙ c.heights.view_is)) c.in_ok-heights.ensures.longest in
     is_held _ _ _ odd _ _ c.in_ok-found.ensures.looked
     (length-map c.in_ok-found.found.decisions.items decision_of ∙ c.in_ok-found.ensures.all) _ c.names_of-names.ensures
-    _ _ c.in_ok-tables.ensures longest c.size-size.ensures.is_graph c.requires.small
+    _ _ c.in_ok-tables.ensures longest c.keeps.ensures.is_graph c.requires.small
     (subst (All Fits) c.priorities.ensures c.fit.ensures)
     (omega (arith, c.size-positions.ensures, c.size-positions.type_inv))
 

@@ -10,17 +10,17 @@ returns-in-And-clause-low c =
     let g = c.args.graph.now in
     let is : node_at g c.args.node ≡ node.And c.in-And.left c.in-And.right = cc in
     two_below (size g) c.in-And.left c.in-And.right
-    (and_left g c.size-size.ensures.is_graph c.args.node c.requires c.in-And.left c.in-And.right is)
-    (and_right g c.size-size.ensures.is_graph c.args.node c.requires c.in-And.left c.in-And.right is)
+    (and_left g c.keeps.ensures.is_graph c.args.node c.requires c.in-And.left c.in-And.right is)
+    (and_right g c.keeps.ensures.is_graph c.args.node c.requires c.in-And.left c.in-And.right is)
 
 pub returns-in-Some-Left-clause-low : goal.returns-in-Some-Left-clause-low
 returns-in-Some-Left-clause-low c =
     let g = c.args.graph.now in
     let is : node_at g c.args.node ≡ node.Or c.in-Or.left c.in-Or.right = cc in
-    one_below (size g) c.in-Or.left (or_left g c.size-size.ensures.is_graph c.args.node c.requires c.in-Or.left c.in-Or.right is)
+    one_below (size g) c.in-Or.left (or_left g c.keeps.ensures.is_graph c.args.node c.requires c.in-Or.left c.in-Or.right is)
 
 pub returns-in-Some-Right-clause-low : goal.returns-in-Some-Right-clause-low
 returns-in-Some-Right-clause-low c =
     let g = c.args.graph.now in
     let is : node_at g c.args.node ≡ node.Or c.in-Or.left c.in-Or.right = cc in
-    one_below (size g) c.in-Or.right (or_right g c.size-size.ensures.is_graph c.args.node c.requires c.in-Or.left c.in-Or.right is)
+    one_below (size g) c.in-Or.right (or_right g c.keeps.ensures.is_graph c.args.node c.requires c.in-Or.left c.in-Or.right is)

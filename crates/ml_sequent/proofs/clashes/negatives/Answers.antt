@@ -8,7 +8,7 @@ pub note-requires : goal.note-requires
 note-requires c =
     let is = ap negative_prop (sym c.node.ensures) ∙ sym c.in-Some.ensures in
     let low =
-    negative_prop-low c.args.graph.now c.size-size.ensures.is_graph (get_or c.args.nodes.now c.loop-node.node-index 0)
+    negative_prop-low c.args.graph.now c.keeps.ensures.is_graph (get_or c.args.nodes.now c.loop-node.node-index 0)
     (c.requires c.loop-node.node-index 0 c.loop-node-test.true) c.in-Some.prop is
     in
     omega (arith, low, c.loop-node.invariant.sizes)

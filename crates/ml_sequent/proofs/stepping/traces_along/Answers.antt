@@ -24,7 +24,7 @@ loop-node-preserved c =
     record {
       room = c.in_ok-reach_from.ensures.room;
       traces =
-          traces_more c.args.graph.now c.args.choice.now c.args.levels.now c.size-size.ensures.is_graph
+          traces_more c.args.graph.now c.args.choice.now c.args.levels.now c.keeps.ensures.is_graph
           c.requires.ranked c.action_of-action.result c.args.diamond nodes i c.reach_from.new.reach.found c.loop-node.traces.items
           c.push_exits.new.traces.items c.loop-node-test.true low
           c.in_ok-reach_from.ensures.reached more c.loop-node.invariant.traces;

@@ -16,7 +16,7 @@ returns-clause-of c =
     c.in_ok-reach_nodes.ensures.joined) in
     subst (λ (k : Graph). OnOk c.grow.result (IsSpreadOf k c.args.sequent [] (spread_at c.grow.new.trail.nodes c.empty.result))) same
     (begun g c.args.sequent c.reach_nodes.new.trail.nodes c.grow.new.trail.nodes c.empty.result c.grow.result
-    c.size-size.ensures.is_graph low joined c.empty.ensures c.grow.ensures.spread)
+    c.keeps.ensures.is_graph low joined c.empty.ensures c.grow.ensures.spread)
 
 pub returns-clause-is_spread : goal.returns-clause-is_spread
 returns-clause-is_spread c =

@@ -18,7 +18,7 @@ reach-requires c =
     let sp = spread_at c.self.inside.trail.nodes c.self.inside.choice in
     let o = subst (λ (b : BranchList). IsOpenOr b.graph b.spread c.args.node) (sym c.self.view_is) c.requires.node in
     let is = subst (λ (b : BranchList). IsSpread b.graph b.spread) (sym c.self.view_is) c.requires.spread in
-    let ok = subst IsGraph c.graph-graph.ensures c.size-size.ensures.is_graph in
+    let ok = subst IsGraph c.graph-graph.ensures c.keeps.ensures.is_graph in
     let at = c.child_at.ensures o.is_open.left o.is_open.right (ap (λ k. node_at k c.args.node) c.graph-graph.ensures ∙ o.is_open.is_or) in
     let low = chosen_low g ok sp c.args.node c.args.side is o c.child_at.result at in
     subst (λ k. c.child_at.result < k) (sym c.self.invariant.places) low
@@ -38,7 +38,7 @@ returns-clause-of c =
     let nodes = c.self.inside.trail.nodes in
     let choice = c.self.inside.choice in
     let o = subst (λ (b : BranchList). IsOpenOr b.graph b.spread c.args.node) (sym c.self.view_is) c.requires.node in
-    let ok = subst IsGraph c.graph-graph.ensures c.size-size.ensures.is_graph in
+    let ok = subst IsGraph c.graph-graph.ensures c.keeps.ensures.is_graph in
     let at = c.child_at.ensures o.is_open.left o.is_open.right (ap (λ k. node_at k c.args.node) c.graph-graph.ensures ∙ o.is_open.is_or) in
     let search = subst (λ k. OnOk c.grow.result ((D : List ℕ)
     → IsUnderway c.graph-graph.result.now c.take.new.self D k c.reach.new.self.nodes

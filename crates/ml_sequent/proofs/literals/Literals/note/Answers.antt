@@ -14,7 +14,7 @@ pub note_first-requires-clause-prop : goal.note_first-requires-clause-prop
 note_first-requires-clause-prop c =
     let is : node_at c.args.graph.now c.node.result ≡ Lit c.in-Lit-default-true.prop c.in-Lit-default-true.positive
     = cc in
-    known_prop c.args.graph.now c.size-size.ensures.is_graph c.node.result c.args.trail.now.room
+    known_prop c.args.graph.now c.keeps.ensures.is_graph c.node.result c.args.trail.now.room
     c.in-Lit-default-true.prop
     c.in-Lit-default-true.positive c.node.ensures.low c.requires.room is
 
@@ -22,7 +22,7 @@ pub stands_before-requires-clause-prop : goal.stands_before-requires-clause-prop
 stands_before-requires-clause-prop c =
     let is : node_at c.args.graph.now c.node.result ≡ Lit c.in-Lit-default-true.prop c.in-Lit-default-true.positive
     = cc in
-    known_prop c.args.graph.now c.size-size.ensures.is_graph c.node.result c.args.trail.now.room
+    known_prop c.args.graph.now c.keeps.ensures.is_graph c.node.result c.args.trail.now.room
     c.in-Lit-default-true.prop
     c.in-Lit-default-true.positive c.node.ensures.low c.requires.room is
 
@@ -31,7 +31,7 @@ pub note_first-requires-in-Lit-default-false-clause-prop :
 note_first-requires-in-Lit-default-false-clause-prop c =
     let is : node_at c.args.graph.now c.node.result ≡ Lit c.in-Lit-default-false.prop
     c.in-Lit-default-false.positive = cc in
-    known_prop c.args.graph.now c.size-size.ensures.is_graph c.node.result c.args.trail.now.room
+    known_prop c.args.graph.now c.keeps.ensures.is_graph c.node.result c.args.trail.now.room
     c.in-Lit-default-false.prop
     c.in-Lit-default-false.positive c.node.ensures.low c.requires.room is
 
@@ -40,6 +40,6 @@ pub stands_before-requires-in-Lit-default-false-clause-prop :
 stands_before-requires-in-Lit-default-false-clause-prop c =
     let is : node_at c.args.graph.now c.node.result ≡ Lit c.in-Lit-default-false.prop
     c.in-Lit-default-false.positive = cc in
-    known_prop c.args.graph.now c.size-size.ensures.is_graph c.node.result c.args.trail.now.room
+    known_prop c.args.graph.now c.keeps.ensures.is_graph c.node.result c.args.trail.now.room
     c.in-Lit-default-false.prop
     c.in-Lit-default-false.positive c.node.ensures.low c.requires.room is
