@@ -6,12 +6,13 @@
 -- The logics differ only in the letters that begin a word: in some every letter, in the others a lower-case one.
 --
 --   begins_word w b        == the byte b begins a word where words begin as w says
+--   spelt t ws             == these spellings, each with the token t
 --   signs                  == the spellings of all signs that are not single bytes of one logic, each with its token
 --   longest_sign es text   == the longest of the spellings es with which the text begins, as its token and its length
 --   front_token w b rest   == the longest token at the front of the text b, rest, whose first byte is no blank, and its length
 --   tokens_from w text i   == the tokens of the text from the byte i on, each with its place
 --   tokens w text          == the tokens of the whole text
-use Rattle.std.specs.Prelude.{ℕ, ◌+◌, zero, suc, Bool, true, ◌&&◌, nat_lt, nat_eq, List, [], ◌∷◌, length, drop, Option, Some, None, unwrap_or, if◌then◌else◌}
+use Rattle.std.specs.Prelude.{ℕ, ◌+◌, zero, suc, Bool, true, ◌&&◌, nat_lt, nat_eq, List, [], ◌∷◌, ◌++◌, map, codes, length, drop, Option, Some, None, unwrap_or, if◌then◌else◌}
 use Rattle.std.specs.List.{starts_with, take_while}
 use Rattle.ml_text.specs.Bytes.{is_blank, is_letter, is_lower, is_word_byte}
 use Rattle.ml_text.specs.declared.token.Operator.TheVariants as operator
@@ -27,23 +28,16 @@ begins_word AnyLetter b = is_letter b
 begins_word LowerCase b = is_lower b
 
 -- !, ~; &, &&, /\; |, ||, \/; ->, =>, ==>; <->, <=>, <==>
+abbrev pub spelt : Token → List (List ℕ) → List (List ℕ × Token)
+spelt token spellings = map (λ s. (s, token)) spellings
+
 unfoldable pub signs : List (List ℕ × Token)
 signs =
-    (33 ∷ [], token.Not)
-    ∷ (126 ∷ [], token.Not)
-    ∷ (38 ∷ [], token.Operator operator.And)
-    ∷ (38 ∷ 38 ∷ [], token.Operator operator.And)
-    ∷ (47 ∷ 92 ∷ [], token.Operator operator.And)
-    ∷ (124 ∷ [], token.Operator operator.Or)
-    ∷ (124 ∷ 124 ∷ [], token.Operator operator.Or)
-    ∷ (92 ∷ 47 ∷ [], token.Operator operator.Or)
-    ∷ (45 ∷ 62 ∷ [], token.Operator operator.Implies)
-    ∷ (61 ∷ 62 ∷ [], token.Operator operator.Implies)
-    ∷ (61 ∷ 61 ∷ 62 ∷ [], token.Operator operator.Implies)
-    ∷ (60 ∷ 45 ∷ 62 ∷ [], token.Operator operator.Iff)
-    ∷ (60 ∷ 61 ∷ 62 ∷ [], token.Operator operator.Iff)
-    ∷ (60 ∷ 61 ∷ 61 ∷ 62 ∷ [], token.Operator operator.Iff)
-    ∷ []
+    spelt token.Not (codes "!" ∷ codes "~" ∷ [])
+    ++ spelt (token.Operator operator.And) (codes "&" ∷ codes "&&" ∷ (47 ∷ 92 ∷ []) ∷ [])
+    ++ spelt (token.Operator operator.Or) (codes "|" ∷ codes "||" ∷ (92 ∷ 47 ∷ []) ∷ [])
+    ++ spelt (token.Operator operator.Implies) (codes "->" ∷ codes "=>" ∷ codes "==>" ∷ [])
+    ++ spelt (token.Operator operator.Iff) (codes "<->" ∷ codes "<=>" ∷ codes "<==>" ∷ [])
 
 -- is this spelling longer than the best one so far?
 abbrev pub is_longer : List ℕ × Token → Option (Token × ℕ) → Bool
