@@ -23,7 +23,8 @@ use Rattle.ml_lines.specs.Reading.{AreWords, lines_of, left_of, word}
 use Rattle.ml_lists.specs.Documents.{IsFirstBroken, IsReadTo}
 use Rattle.ml_refutation.specs.Views.{decision_of}
 use Rattle.ml_refutation_text.specs.BodyRules as body
-use Rattle.ml_refutation_text.specs.BodyRules.{Place, AtNothing, rules, rule_number}
+use Rattle.ml_refutation_text.specs.BodyRules.{Place, AtNothing, rules}
+use Rattle.ml_refutation_text.specs.RuleNumbers.{rule_number}
 use Rattle.ml_refutation_text.specs.declared.body_rule.BodyRule.{BodyRule}
 use Rattle.ml_refutation_text.specs.declared.rest.Rest.{Rest}
 use Rattle.ml_refutation_text.specs.declared.rest.LineRefusal.{LineRefusal}
