@@ -16,7 +16,8 @@ use Rattle.ml_front.specs.Logics.{IsWellFormed}
 use Rattle.ml_refutation_text.proofs.WrittenTexts.{written_is_text}
 use Rattle.ml_refutation_text.specs.WrittenText.{written_text}
 use Rattle.ml_refutation.specs.Refutation.{Refutation, IsRefutation}
-use Rattle.ml_refutation_text.specs.BodyRules.{IsFaultOf, IsReadableBody}
+use Rattle.ml_refutation_text.specs.BodyRules.{IsFaultOf}
+use Rattle.ml_refutation_text.specs.Laws.{IsReadableBody}
 use Rattle.ml_refutation_text.proofs.RefutationTexts.{readable_is_refutation, readable_or_fault}
 use Rattle.ml_refute_check.specs.Documents.{IsDocument, IsDocumentFault, document_of, first_body_line}
 

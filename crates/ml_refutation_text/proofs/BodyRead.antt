@@ -21,9 +21,11 @@ use Rattle.ml_lines.proofs.Cuts.{some_part}
 use Rattle.ml_lines.proofs.WrittenLines.{text_read}
 use Rattle.ml_lists.specs.Readings.{IsReadTo, nothing_read, line_read}
 use Rattle.ml_refutation.specs.Refutation.{Refutation, Entry, Fits, IsRefutation}
-use Rattle.ml_refutation_text.specs.RefutationText.{Form, names_line, entries_line, end_line}
+use Rattle.ml_refutation_text.specs.RefutationText.{names_line, entries_line, end_line}
+use Rattle.ml_refutation_text.specs.BodyRules.{Form}
 use Rattle.ml_refutation_text.specs.BodyRules.{IsTextOf}
-use Rattle.ml_refutation_text.specs.BodyRules.{Place, AtNames, AtEntries, AtEntry, AtEnd, AtNothing, after_names, after, at_entry, rule_number, body}
+use Rattle.ml_refutation_text.specs.BodyRules.{Place, AtNames, AtEntries, AtEntry, AtEnd, AtNothing, after_names, after, at_entry, body}
+use Rattle.ml_refutation_text.specs.RuleNumbers.{rule_number}
 use Rattle.ml_refutation_text.specs.LineKinds.{kind, Fixed, IsOfKinds}
 use Rattle.ml_lines.proofs.Faults.{fault_here, fault_missing}
 use Rattle.ml_refutation_text.specs.PartLines.{entries_size, parts_from, AreLinesOf}

@@ -14,9 +14,11 @@ use Rattle.ml_lines.specs.Lines.{Word, Line, number}
 use Rattle.ml_lines.specs.Reading.{AreWords, IsNumber, value, word}
 use Rattle.ml_refutation.specs.Refutation.{Fits, IsMarkOf}
 use Rattle.ml_trace.specs.declared.marks.Mark.{Mark}
-use Rattle.ml_refutation_text.specs.RefutationText.{InFull, mark_words, go_line}
+use Rattle.ml_refutation_text.specs.RefutationText.{mark_words, go_line}
+use Rattle.ml_refutation_text.specs.BodyRules.{InFull}
 use Rattle.ml_refutation_text.specs.LineKinds.{Kind, Slot, Fixed, ANumber, AGuess, AnySize, InSlots, FitSlots, IsOfKinds, HaveNumbers}
-use Rattle.ml_refutation_text.specs.BodyRules.{Begun, AtDecision, numbered, clash_kinds, go_kinds, rules, rule_number, mark_of}
+use Rattle.ml_refutation_text.specs.BodyRules.{Begun, AtDecision, numbered, clash_kinds, go_kinds, rules, mark_of}
+use Rattle.ml_refutation_text.specs.RuleNumbers.{rule_number}
 use Rattle.ml_refutation_text.specs.private.ItemReads.{knows}
 use Rattle.ml_refutation_text.specs.private.BranchReads.{BreaksBranch, FitsMark, Shape, Lacks, LacksNumbers, IsMarked, LacksMark, IsCaused, LacksCause, IsGo, LacksGo}
 use Rattle.ml_refutation_text.specs.declared.body_rule.BodyRule.{BodyRule}

@@ -1,21 +1,28 @@
 -- A decision, read line by line.
 --
+--   branch_lines             == a decision has a line for each of its branches
 --   DecidesTo n k at as rest == from `at` up to `rest` the lines of a decision were read inside the splits as
 --   decides_begin, decides_room == before any line; there is room for further ones
 --   decides_split, decides_leaf, decides_whole == a split; a clash or a go that completes no decision, and one that does
 --   decides_missing, decides_broken == no line is left, or one that breaks a rule
-use Rattle.std.proofs.Common.{◌≡◌, ℕ, ◌+◌, ◌<◌, ◌≤◌, List, [], ◌∷◌, ◌++◌, length, None, Some, refl, sym, ap, subst, ◌∙◌, arith}
+use Rattle.std.proofs.Common.{◌≡◌, ℕ, ◌+◌, ◌<◌, ◌≤◌, List, [], ◌∷◌, ◌++◌, length, None, Some, refl, sym, ap, subst, ◌∙◌, length-append, arith}
 use Rattle.ml_base.specs.declared.version.Version.{Version}
 use Rattle.ml_base.specs.declared.version.Version.TheVariants.{One}
 use Rattle.ml_base.specs.declared.doc_refusal.DocRefusal.{DocRefusal}
 use Rattle.ml_base.specs.declared.doc_refusal.DocRefusal.TheVariants as refused
 use Rattle.ml_lines.specs.Lines.{Line}
-use Rattle.ml_refutation.specs.Refutation.{Entry, Decision, Fits, nesting}
+use Rattle.ml_sequent.specs.declared.choice.Side.{Side}
+use Rattle.ml_sequent.specs.declared.choice.Side.TheVariants.{Left, Right}
+use Rattle.ml_sequent.specs.Choice.{with_side}
+use Rattle.ml_refutation.specs.Acceptance.{branches}
+use Rattle.ml_refutation.specs.Refutation.{Entry, Decision, Split, Clash, Go, Fits, nesting}
 use Rattle.ml_refutation.specs.Views.{decision_of}
 use Rattle.ml_refutation.specs.declared.refutation.Decision as program
 use Rattle.ml_refutation.specs.declared.refutation.TheConstants.{NESTING_LIMIT}
-use Rattle.ml_refutation_text.specs.RefutationText.{Form, InFull, decision_lines, split_line}
-use Rattle.ml_refutation_text.specs.BodyRules.{Around, InLeft, Begun, Place, AtDecision, at_entry, closed, whole, body, rule_number}
+use Rattle.ml_refutation_text.specs.RefutationText.{decision_lines, split_line}
+use Rattle.ml_refutation_text.specs.BodyRules.{Form, InFull}
+use Rattle.ml_refutation_text.specs.BodyRules.{Around, InLeft, Begun, Place, AtDecision, at_entry, closed, whole, body}
+use Rattle.ml_refutation_text.specs.RuleNumbers.{rule_number}
 use Rattle.ml_refutation_text.specs.private.Reads.{around_of, arounds_in, arounds_of, HasRoom, IsNext, Goes, IsUsual, TellsFault}
 use Rattle.ml_refutation_text.specs.private.ItemReads.{knows}
 use Rattle.ml_refutation_text.specs.private.BranchReads.{around_size, IsClosed, IsLeaf, BreaksBranch}
@@ -27,6 +34,18 @@ use Rattle.ml_refutation_text.proofs.Runs.{Runs}
 use Rattle.ml_refutation_text.proofs.GoodLines.{split_run, decision_run}
 use Rattle.ml_refutation_text.proofs.Going.{goes_begin, goes_on, goes_run, fault_on, fault_line, room_on}
 use Rattle.ml_refutation_text.proofs.ClosedBranches.{arounds_push}
+
+pub branch_lines : (c : List (ℕ × Side)) (d : Decision) → length (branches c d) ≡ length (decision_lines d)
+branch_lines c (Split n l r) =
+    omega (
+      arith,
+      length-append (branches (with_side c n Left) l) (branches (with_side c n Right) r),
+      length-append (decision_lines l) (decision_lines r),
+      branch_lines (with_side c n Left) l,
+      branch_lines (with_side c n Right) r,
+    )
+branch_lines c (Clash x) = refl
+branch_lines c (Go d e m) = refl
 
 pub length-arounds : (outer : List Around) (splits : List split.Around)
     → length (arounds_in outer splits) ≡ length outer + length splits
@@ -117,8 +136,8 @@ module _ (names wanted : ℕ) (at : Rest) where
         pub decides_whole : (inner : List split.Around) (made : program.Decision) → IsClosed splits d inner (Some made)
             → ((v : Version) (F : Form) (es : List Entry) (b : Begun)
             → Goes v (AtDecision (knows names F wanted) es b []) at (at_entry (knows names F wanted) (es ++ whole b (decision_of made) ∷ [])) behind)
-            × (behind.line ≡ at.line + length (decision_lines (decision_of made)))
+            × (behind.line ≡ at.line + length (branches [] (decision_of made)))
         decides_whole inner made is = (
           (λ v F es b. subst (λ q. Goes v (place F es b []) at q behind) (is.leads (knows names F wanted) es b) (leads_on v F es b)),
-          omega (arith, so_far.counted, next.counted, is.counted, ap length leaf.is_line),
+          omega (arith, so_far.counted, next.counted, is.counted, ap length leaf.is_line, branch_lines [] (decision_of made)),
         )

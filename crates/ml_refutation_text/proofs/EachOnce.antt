@@ -14,7 +14,8 @@ use Rattle.std.specs.Prelude.{position, ◌||◌}
 use Rattle.std.specs.List.{list_any, position_or_len}
 use Rattle.std.specs.Str.{bytes_eq}
 use Rattle.indexmap.specs.IndexSet.{insert_key}
-use Rattle.ml_refutation_text.specs.WrittenText.{with_new, place_in}
+use Rattle.ml_refutation_text.specs.WrittenText.{place_in}
+use Rattle.ml_refutation_text.specs.Canonical.{with_new}
 use Rattle.ml_refutation_text.specs.private.Collecting.{shown}
 
 abbrev pub same : Bor (List ℕ) → Bor (List ℕ) → Bool

@@ -23,7 +23,8 @@ use Rattle.ml_refutation.specs.Refutation.{Entry, Clash, Fits}
 use Rattle.ml_refutation.specs.Views.{entry_of}
 use Rattle.ml_refutation.specs.declared.refutation.Entry as program
 use Rattle.ml_sequent.specs.declared.clashes.ClashCause.TheVariants.{False}
-use Rattle.ml_refutation_text.specs.RefutationText.{Form, InFull, ByTables, numbered_line, entry_line, sequent_line, live_line}
+use Rattle.ml_refutation_text.specs.RefutationText.{numbered_line, entry_line, sequent_line, live_line}
+use Rattle.ml_refutation_text.specs.BodyRules.{Form, InFull, ByTables}
 use Rattle.ml_refutation_text.specs.LineKinds.{IsOfKinds, HaveNumbers}
 use Rattle.ml_refutation_text.specs.BodyRules.{Known, Begun, Place, AtEntry, AtSequent, AtLive, AtItem, AtDecision, AtEnd, at_entry, entry_kind}
 use Rattle.ml_refutation_text.specs.PartLines.{entry_size, entries_size, parts_of, parts_from}

@@ -15,7 +15,8 @@ use Rattle.ml_lines.proofs.Faults.{fault_here}
 use Rattle.ml_lists.specs.Documents.{IsGood, IsFirstBad}
 use Rattle.ml_lists.specs.Readings.{IsReadTo, nothing_read, line_read}
 use Rattle.ml_lists.proofs.Documents.{bad_behind, read_on}
-use Rattle.ml_refutation_text.specs.BodyRules.{Place, after, body, rule_number}
+use Rattle.ml_refutation_text.specs.BodyRules.{Place, after, body}
+use Rattle.ml_refutation_text.specs.RuleNumbers.{rule_number}
 use Rattle.ml_refutation_text.specs.private.Reads.{HasRoom, IsNext, Goes, Breaks, TellsRule, TellsFault, at_line}
 use Rattle.ml_refutation_text.specs.declared.body_rule.BodyRule.{BodyRule}
 use Rattle.ml_refutation_text.specs.declared.rest.Rest.{Rest}

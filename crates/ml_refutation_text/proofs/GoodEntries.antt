@@ -2,7 +2,7 @@
 --
 --   head_run, items_run, heights_run  == the lines of an entry before its decision
 --   entry_run, entries_run            == those of an entry, and of the entries
---   body_run                          == those of a body
+--   first_run, rest_run, body_run     == those of a body before the number of entries, from it on, and all of them
 use Rattle.std.proofs.Common.{◌≡◌, ℕ, ◌+◌, ◌<◌, ◌≤◌, true, false, cond, nat_lt, List, [], ◌∷◌, ◌++◌, None, Some, length, map}
 use Rattle.std.proofs.Common.{All, codes, refl, sym, ap, subst, ◌∙◌, inl, inr, length-append, append_assoc, arith}
 use Rattle.std.specs.Prelude.{slice_index_or}
@@ -19,12 +19,15 @@ use Rattle.ml_lists.specs.Last.{last_of}
 use Rattle.ml_trace.specs.declared.letters.AutomatonState.{AutomatonState}
 use Rattle.ml_trace.specs.Stack as traced
 use Rattle.ml_refutation.specs.Refutation.{Refutation, Entry, Fits, FitsGuess, IsAbove, AreAbove, IsItem, IsEntry, IsRefutation}
-use Rattle.ml_refutation_text.specs.RefutationText.{Spells, Form, InFull, ByTables, numbers, names_line, entries_line, sequents_line, stacks_line}
+use Rattle.ml_refutation_text.specs.RefutationText.{numbers, names_line, entries_line, sequents_line, stacks_line}
+use Rattle.ml_refutation_text.specs.LineKinds.{Spells}
+use Rattle.ml_refutation_text.specs.BodyRules.{Form, InFull, ByTables}
 use Rattle.ml_refutation_text.specs.RefutationText.{stack_line, sequent_line, live_line, guess_word, item_line, heights_line, decision_lines, end_line}
 use Rattle.ml_refutation_text.specs.private.TextLines.{HeadLines, StackWords, ItemLines, EntryLines, EntriesLines, FirstLines, BodyLines, IsForm}
 use Rattle.ml_refutation_text.specs.LineKinds.{IsOfKind, HaveNumbers}
 use Rattle.ml_refutation_text.specs.BodyRules.{Known, Begun, Place, AtNames, AtSequents, AtStacks, AtEntries, AtEntry, AtLive, AtItem, AtDecision}
-use Rattle.ml_refutation_text.specs.BodyRules.{AtEnd, AtNothing, IsNextItem, item_kind, heights_kind, state_of, stack_of, at_entry, body}
+use Rattle.ml_refutation_text.specs.BodyRules.{AtEnd, AtNothing, IsNextItem, item_kind, state_of, stack_of, at_entry, body}
+use Rattle.ml_refutation_text.specs.private.ListKinds.{heights_kind}
 use Rattle.ml_refutation_text.specs.private.ItemReads.{MayStand, SomeIn}
 use Rattle.ml_refutation_text.proofs.Runs.{run_on}
 use Rattle.ml_refutation_text.proofs.ReadWords.{is_number, are_numbers, words_first, words_number, words_numbers, value_back}
@@ -345,7 +348,7 @@ module _ (v : Version) (left : List ℕ) (names wanted : ℕ) (small : Fits name
 
 -- ---- a body
 
-first_run : (v : Version) (left : List ℕ) (form : Form) (names : ℕ) (lines : List Line)
+pub first_run : (v : Version) (left : List ℕ) (form : Form) (names : ℕ) (lines : List Line)
     → Fits names
     → IsForm v names form
     → FirstLines form names lines
@@ -366,11 +369,13 @@ first_run Two left (ByTables qs ks) names lines fits is (w, spells, written) =
     (stacks_run Two left names qs ks w fits spells is.are_stacks)) in
     (subst (λ ls. Run Two left AtNames ls (AtEntries names (ByTables qs ks))) (sym written) run, is.sequents_fit)
 
-pub body_run : (v : Version) (left : List ℕ) (form : Form) (r : Refutation) (lines : List Line)
+-- the lines from the number of entries on
+pub rest_run : (v : Version) (left : List ℕ) (form : Form) (r : Refutation) (lines : List Line)
     → IsRefutation r
     → IsForm v r.names form
-    → BodyLines form r lines → Run v left AtNames lines (AtNothing r)
-body_run v left form r lines is is_form written =
+    → (written : BodyLines form r lines)
+    → Run v left (AtEntries r.names form) (entries_line (length r.entries) ∷ (written.entries ++ end_line ∷ [])) (AtNothing r)
+rest_run v left form r lines is is_form written =
     let F = body v left in
     let count = length r.entries in
     let k = known r.names form count in
@@ -380,9 +385,17 @@ body_run v left form r lines is is_form written =
     entries_from v left r.names count is.names_fit form [] r.entries written.entries is.entries_fit (omega arith)
     first.1 is.are_entries written.are_entries
     in
-    subst (λ ls. Run v left AtNames ls (AtNothing r)) (sym written.are_lines)
-    (run_on F AtNames (AtEntries r.names form) (AtNothing r) written.first
-    (entries_line count ∷ (written.entries ++ end_line ∷ [])) first.0
-    (run_on F (AtEntries r.names form) (at_entry k []) (AtNothing r) (entries_line count ∷ [])
+    run_on F (AtEntries r.names form) (at_entry k []) (AtNothing r) (entries_line count ∷ [])
     (written.entries ++ end_line ∷ []) counts
-    (run_on F (at_entry k []) (AtEnd r) (AtNothing r) written.entries (end_line ∷ []) entries (end_run v left r))))
+    (run_on F (at_entry k []) (AtEnd r) (AtNothing r) written.entries (end_line ∷ []) entries (end_run v left r))
+
+pub body_run : (v : Version) (left : List ℕ) (form : Form) (r : Refutation) (lines : List Line)
+    → IsRefutation r
+    → IsForm v r.names form
+    → BodyLines form r lines → Run v left AtNames lines (AtNothing r)
+body_run v left form r lines is is_form written =
+    let first = first_run v left form r.names written.first is.names_fit is_form written.are_first in
+    subst (λ ls. Run v left AtNames ls (AtNothing r)) (sym written.are_lines)
+    (run_on (body v left) AtNames (AtEntries r.names form) (AtNothing r) written.first
+    (entries_line (length r.entries) ∷ (written.entries ++ end_line ∷ [])) first.0
+    (rest_run v left form r lines is is_form written))

@@ -23,10 +23,13 @@ use Rattle.ml_sequent.specs.declared.clashes.ClashCause.{ClashCause}
 use Rattle.ml_sequent.specs.declared.clashes.ClashCause.TheVariants.{False, Pair, Cycle}
 use Rattle.ml_refutation.specs.Refutation.{Refutation, Entry, Decision, Split, Clash, Go, Fits, FitsCause, IsMarkOf, IsStack, IsDecided, nesting}
 use Rattle.ml_refutation.specs.declared.refutation.TheConstants.{NESTING_LIMIT}
-use Rattle.ml_refutation_text.specs.RefutationText.{Spells, Form, ByTables, numbers, names_line, entries_line, sequents_line, stacks_line, sequent_line}
+use Rattle.ml_refutation_text.specs.RefutationText.{numbers, names_line, entries_line, sequents_line, stacks_line, sequent_line}
+use Rattle.ml_refutation_text.specs.LineKinds.{Spells}
+use Rattle.ml_refutation_text.specs.BodyRules.{Form, ByTables}
 use Rattle.ml_refutation_text.specs.RefutationText.{stack_line, live_line, split_line, clash_line, go_line, mark_words, decision_lines, end_line}
 use Rattle.ml_refutation_text.specs.LineKinds.{Kind, IsOfKind, IsOfKinds, HaveNumbers}
-use Rattle.ml_refutation_text.specs.BodyRules.{numbered, sequent_kind, stack_kind, clash_kinds, go_kinds, further_rules, mark_of, Known, Around, InLeft, InRight}
+use Rattle.ml_refutation_text.specs.BodyRules.{numbered, stack_kind, clash_kinds, go_kinds, further_rules, mark_of, Known, Around, InLeft, InRight}
+use Rattle.ml_refutation_text.specs.private.ListKinds.{sequent_kind}
 use Rattle.ml_refutation_text.specs.BodyRules.{Begun, Place, AtNames, AtSequents, AtTableSequent, AtStacks, AtTableStack, AtEntries, AtLive, AtItem, AtDecision}
 use Rattle.ml_refutation_text.specs.BodyRules.{AtEnd, AtNothing, at_sequent_table, at_stack_table, at_entry, closed, after_names, body}
 use Rattle.ml_refutation_text.specs.private.BranchReads.{FitsMark}

@@ -17,9 +17,12 @@ use Rattle.ml_lists.specs.Documents.{IsFirstBroken}
 use Rattle.ml_trace.specs.declared.letters.AutomatonState.{AutomatonState}
 use Rattle.ml_trace.specs.Stack as traced
 use Rattle.ml_refutation.specs.Refutation.{Entry, Fits, FitsGuess, IsAbove}
-use Rattle.ml_refutation_text.specs.RefutationText.{Spells, Form, InFull, ByTables, numbers, guess_word, item_line, heights_line}
+use Rattle.ml_refutation_text.specs.RefutationText.{numbers, guess_word, item_line, heights_line}
+use Rattle.ml_refutation_text.specs.LineKinds.{Spells}
+use Rattle.ml_refutation_text.specs.BodyRules.{Form, InFull, ByTables}
 use Rattle.ml_refutation_text.specs.LineKinds.{IsSpelt, IsOfKind}
-use Rattle.ml_refutation_text.specs.BodyRules.{Place, AtItem, item_kind, heights_kind, rules}
+use Rattle.ml_refutation_text.specs.BodyRules.{Place, AtItem, item_kind, rules}
+use Rattle.ml_refutation_text.specs.private.ListKinds.{heights_kind}
 use Rattle.ml_refutation_text.specs.private.Reads.{Breaks, TellsRule}
 use Rattle.ml_refutation_text.specs.declared.rest.LineRefusal.{LineRefusal}
 use Rattle.ml_refutation_text.specs.declared.rest.LineRefusal.TheVariants as refusal

@@ -22,7 +22,7 @@ use Rattle.ml_trace.specs.declared.marks.Mark.TheVariants.{Red, Green, Neutral}
 use Rattle.ml_trace.specs.Stack as traced
 use Rattle.ml_refutation.specs.Refutation.{IsAbove, IsMarkOf, comes_before}
 use Rattle.ml_refutation.specs.declared.refutation.TheConstants.{NESTING_LIMIT}
-use Rattle.ml_refutation_text.specs.RefutationText.{Form, InFull, ByTables}
+use Rattle.ml_refutation_text.specs.BodyRules.{Form, InFull, ByTables}
 use Rattle.ml_refutation_text.specs.LineKinds.{Slot, Fixed, ANumber, AGuess, AnySize, Kind, IsSpelt, MayFollow, InSlot, FitsSlot, InSlots, FitSlots, IsOfKind, IsOfKinds, HaveNumbers}
 use Rattle.ml_refutation_text.specs.BodyRules.{Place, AtNames, AtSequents, AtTableSequent, AtStacks, AtTableStack, AtEntries, AtEntry}
 use Rattle.ml_refutation_text.specs.BodyRules.{AtSequent, AtLive, AtItem, AtDecision, AtEnd, AtNothing, IsNextItem, SequentInTable}

@@ -1,5 +1,13 @@
 -- lists, each once, and their places
 pub mod EachOnce
+-- in a table that has each list once, a list has one place
+pub mod OnePlace
+-- a number is spelt by one word
+pub mod SpeltWords
+-- lines in one form are the same
+pub mod OneForm
+-- what is written of a refutation is one text
+pub mod OneWritten
 -- what is known of places while lists are met
 pub mod MetLists
 -- lines and texts that are written part by part

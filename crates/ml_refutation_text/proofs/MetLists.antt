@@ -1,6 +1,7 @@
 -- What is known of places while the lists at them are met.
 --
 --   met_again        == a list that has a place isn't new
+--   place_before, place_last == the places with one more list behind
 --   place_kept       == its place stays as one more list is met
 --   place_met        == the list that is met stands at the place that it had, or at the end
 --   known_kept, one_known == what is known stays known, also with one more place
@@ -11,7 +12,8 @@ use Rattle.std.specs.Str.{bytes_eq}
 use Rattle.std.proofs.lemmas.Bool.{cases_eq}
 use Rattle.std.proofs.lemmas.List.{get_or-set_same, get_or-set_other, length-map}
 use Rattle.std.proofs.lemmas.Slice.Eq.{bytes_eq-Decides}
-use Rattle.ml_refutation_text.specs.WrittenText.{with_new, place_in}
+use Rattle.ml_refutation_text.specs.WrittenText.{place_in}
+use Rattle.ml_refutation_text.specs.Canonical.{with_new}
 use Rattle.indexmap.specs.IndexSet.{insert_key}
 use Rattle.ml_refutation_text.specs.private.Collecting.{shown, IsPlace, ArePlaces}
 use Rattle.ml_refutation_text.proofs.EachOnce.{same, shown_insert, place_shown}
@@ -30,7 +32,7 @@ pub met_again : (ks : List (List ℕ)) (x : List ℕ) (k : ℕ) → IsPlace ks x
 met_again ks x k at =
     ap (λ b. cond b ks (ks ++ x ∷ [])) (stands ks x (subst (λ n. n < length ks) at.is at.inside))
 
-place_before : (ks : List (List ℕ)) (x y : List ℕ)
+pub place_before : (ks : List (List ℕ)) (x y : List ℕ)
     → place_in ks y < length ks
     → place_in (ks ++ x ∷ []) y ≡ place_in ks y
 place_before [] x y inside = absurd (omega arith)
@@ -52,7 +54,7 @@ place_kept ks x y k at = go (list_any (bytes_eq x) ks)
       inside = omega (arith, at.inside, length-append ks (x ∷ []));
     }
 
-place_last : (ks : List (List ℕ)) (x : List ℕ) → place_in (ks ++ x ∷ []) x ≡ place_in ks x
+pub place_last : (ks : List (List ℕ)) (x : List ℕ) → place_in (ks ++ x ∷ []) x ≡ place_in ks x
 place_last [] x = ap (λ b. cond (not b) 1 0) ((bytes_eq-Decides x x).1 refl)
 place_last (k ∷ ks) x = ap (λ n. cond (not (bytes_eq x k)) (1 + n) 0) (place_last ks x)
 

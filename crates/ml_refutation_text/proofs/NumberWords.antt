@@ -16,7 +16,8 @@ use Rattle.std.proofs.lemmas.List.Elements.{All-nil, All-push, All-head, All-tai
 use Rattle.ml_lines.specs.Lines.{Word, Line, number}
 use Rattle.ml_lines.specs.Reading.{words_of, words_behind, IsNumber, value, value_on}
 use Rattle.ml_refutation.specs.Refutation.{Fits}
-use Rattle.ml_refutation_text.specs.RefutationText.{Spells, numbers}
+use Rattle.ml_refutation_text.specs.RefutationText.{numbers}
+use Rattle.ml_refutation_text.specs.LineKinds.{Spells}
 use Rattle.ml_refutation_text.specs.LineKinds.{IsSpelt}
 
 pub record AreNumbersTo (all : Line) (ns : List ℕ) (rest : Option (List ℕ)) : Type 0 where

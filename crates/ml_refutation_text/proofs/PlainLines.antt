@@ -15,7 +15,7 @@ use Rattle.ml_lines.specs.Reading.{IsNumber}
 use Rattle.ml_lines.proofs.Numbers.{digits-number}
 use Rattle.ml_lines.proofs.Unique.{has, avoids, IsPlain, ArePlain}
 use Rattle.ml_lists.specs.Documents.{IsGood}
-use Rattle.ml_refutation_text.specs.RefutationText.{Form, InFull, ByTables}
+use Rattle.ml_refutation_text.specs.BodyRules.{Form, InFull, ByTables}
 use Rattle.ml_refutation_text.specs.LineKinds.{Slot, Fixed, ANumber, AGuess, AnySize, Kind, InSlot, FitsSlot, InSlots, FitSlots, IsOfKind, HasNumbers, IsOfKinds, HaveNumbers}
 use Rattle.ml_refutation_text.specs.BodyRules.{Place, AtNames, AtSequents, AtTableSequent, AtStacks, AtTableStack, AtEntries, AtEntry, AtSequent}
 use Rattle.ml_refutation_text.specs.BodyRules.{AtLive, AtItem, AtDecision, AtEnd, AtNothing, entry_kind, item_kind, after, body, kinds}

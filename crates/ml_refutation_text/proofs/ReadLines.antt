@@ -22,7 +22,9 @@ use Rattle.ml_sequent.specs.declared.clashes.ClashCause.{ClashCause}
 use Rattle.ml_sequent.specs.declared.clashes.ClashCause.TheVariants.{False, Pair, Cycle}
 use Rattle.ml_trace.specs.declared.letters.AutomatonState.{AutomatonState}
 use Rattle.ml_refutation.specs.Refutation.{Decision, Clash, Go, IsMarkOf, Fits, FitsCause, FitsGuess, IsStack, IsItem, IsDecided, nesting}
-use Rattle.ml_refutation_text.specs.RefutationText.{Spells, Form, InFull, ByTables, numbers, stack_line, entry_line, guess_word, cause_words, mark_words, decision_lines}
+use Rattle.ml_refutation_text.specs.RefutationText.{numbers, stack_line, entry_line, guess_word, cause_words, mark_words, decision_lines}
+use Rattle.ml_refutation_text.specs.LineKinds.{Spells}
+use Rattle.ml_refutation_text.specs.BodyRules.{Form, InFull, ByTables}
 use Rattle.ml_refutation_text.specs.private.TextLines.{ItemLine, AreTables, IsForm}
 use Rattle.ml_refutation_text.specs.LineKinds.{Slot, kind, FitsSlot, Fixed, ANumber, AGuess, AnySize, InSlots, FitSlots, open_kind, IsOfKinds, HaveNumbers}
 use Rattle.ml_refutation_text.specs.BodyRules.{Begins, mark_of, clash_kinds, go_kinds, guess_of, numbered, stack_kind, values, state_of, stack_of, leaf_of}

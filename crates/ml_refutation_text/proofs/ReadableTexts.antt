@@ -20,12 +20,15 @@ use Rattle.ml_lists.specs.Readings.{IsReadable}
 use Rattle.ml_trace.specs.Stack as traced
 use Rattle.ml_trace.specs.declared.letters.AutomatonState.{AutomatonState}
 use Rattle.ml_refutation.specs.Refutation.{Refutation, Entry, Fits, AreAbove, IsStack, IsItem, IsEntry, IsRefutation}
-use Rattle.ml_refutation_text.specs.RefutationText.{Form, InFull, ByTables, names_line, entries_line, numbered_line, entry_line, live_line, split_line, decision_lines, end_line}
+use Rattle.ml_refutation_text.specs.RefutationText.{names_line, entries_line, numbered_line, entry_line, live_line, split_line, decision_lines, end_line}
+use Rattle.ml_refutation_text.specs.BodyRules.{Form, InFull, ByTables}
 use Rattle.ml_refutation_text.specs.private.TextLines.{HeadLines, IsForm, HasLines}
 use Rattle.ml_refutation_text.specs.LineKinds.{kind, IsOfKind, HasNumbers, Fixed, ANumber, AGuess, AnySize, IsOfKinds, HaveNumbers}
-use Rattle.ml_refutation_text.specs.BodyRules.{kinds, clash_kinds, go_kinds, item_kind, heights_kind, IsNextItem, StackInTable, Known, Around, InLeft, Begun, Place, AtNames}
+use Rattle.ml_refutation_text.specs.BodyRules.{kinds, clash_kinds, go_kinds, item_kind, IsNextItem, StackInTable, Known, Around, InLeft, Begun, Place, AtNames}
+use Rattle.ml_refutation_text.specs.private.ListKinds.{heights_kind}
 use Rattle.ml_refutation_text.specs.BodyRules.{AtSequents, AtTableSequent, AtStacks, AtTableStack, AtEntries, AtEntry, AtSequent, AtLive, AtItem, AtDecision, AtEnd, AtNothing}
-use Rattle.ml_refutation_text.specs.BodyRules.{numbered, values, state_of, leaf_of, at_stack_table, closed, with_item, after_names, after, body, IsReadableBody}
+use Rattle.ml_refutation_text.specs.BodyRules.{numbered, values, state_of, leaf_of, at_stack_table, closed, with_item, after_names, after, body}
+use Rattle.ml_refutation_text.specs.Laws.{IsReadableBody}
 use Rattle.ml_refutation_text.proofs.ReadLines.{numbered_line_of, entry_line_of, IsListedLine, listed_line_of, stack_line_of, leaf_line}
 use Rattle.ml_refutation_text.proofs.ReadLines.{item_of, IsItemLine, full_line, table_line, tables_of, begins_with}
 use Rattle.ml_refutation_text.proofs.Standing.{around_lines, SoFar, Itemed, Undecided, Ended, Whole, Stands, sequents_place, stacks_place}

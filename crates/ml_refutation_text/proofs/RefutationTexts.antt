@@ -1,6 +1,7 @@
 -- A text is of one refutation at most, and has no bad line where it is of one.
 --
 --   text_lines            == what has the lines of a refutation is a text of it
+--   lines_back            == and the lines that it has are these
 --   same_end              == what was read is told by the end
 --   one_text              == a text is of one refutation at most
 --   text_readable         == a text of a refutation has no bad line
@@ -15,7 +16,8 @@ use Rattle.ml_refutation.specs.Refutation.{Refutation, IsRefutation}
 use Rattle.ml_refutation_text.specs.BodyRules.{IsTextOf}
 use Rattle.ml_refutation_text.specs.Laws.{OneRefutation, ReadableOrFault, FaultOrReadable, ReadableIsRefutation, IsRefutationText, OneFault}
 use Rattle.ml_refutation_text.specs.BodyRules.{Place, AtNames, AtSequents, AtTableSequent, AtStacks, AtTableStack, AtEntries, AtEntry}
-use Rattle.ml_refutation_text.specs.BodyRules.{AtSequent, AtLive, AtItem, AtDecision, AtEnd, AtNothing, body, IsReadableBody}
+use Rattle.ml_refutation_text.specs.BodyRules.{AtSequent, AtLive, AtItem, AtDecision, AtEnd, AtNothing, body}
+use Rattle.ml_refutation_text.specs.Laws.{IsReadableBody}
 use Rattle.ml_refutation_text.proofs.ReadableTexts.{readable_has_lines}
 use Rattle.ml_refutation_text.specs.private.TextLines.{HasLines}
 use Rattle.ml_refutation_text.proofs.Runs.{Runs, one_end, run_readable}
@@ -35,6 +37,15 @@ text_lines v t r is written =
           (body_run v [] written.form r written.lines is written.is_form written.are_lines);
       none_left = ap left_of written.is_text ∙ read.1;
     }
+
+-- what was written is read back line by line
+pub lines_back : (v : Version) (t : List ℕ) (r : Refutation) → IsRefutation r → (written : HasLines v t r)
+    → lines_of t ≡ written.lines
+lines_back v t r is written =
+    let plain =
+    run_plain v 0 [] AtNames (AtNothing r) written.lines
+    (body_run v (0 ∷ []) written.form r written.lines is written.is_form written.are_lines)
+    in ap lines_of written.is_text ∙ (lines_read written.lines plain).0
 
 -- the refutation at the end; anywhere else this one
 end_of : Refutation → Place → Refutation

@@ -12,9 +12,11 @@ use Rattle.ml_lines.specs.Reading.{AreWords, IsNumber, value}
 use Rattle.ml_lists.specs.Ascending.{IsAscending}
 use Rattle.ml_lists.specs.Documents.{IsFirstBroken}
 use Rattle.ml_refutation.specs.Refutation.{Fits, IsStack}
-use Rattle.ml_refutation_text.specs.RefutationText.{Spells, sequents_line, sequent_line, stacks_line, stack_line}
+use Rattle.ml_refutation_text.specs.RefutationText.{sequents_line, sequent_line, stacks_line, stack_line}
+use Rattle.ml_refutation_text.specs.LineKinds.{Spells}
 use Rattle.ml_refutation_text.specs.LineKinds.{IsOfKind}
-use Rattle.ml_refutation_text.specs.BodyRules.{Place, AtSequents, AtTableSequent, AtStacks, AtTableStack, at_sequent_table, at_stack_table, sequent_kind, stack_kind, rules, body}
+use Rattle.ml_refutation_text.specs.BodyRules.{Place, AtSequents, AtTableSequent, AtStacks, AtTableStack, at_sequent_table, at_stack_table, stack_kind, rules, body}
+use Rattle.ml_refutation_text.specs.private.ListKinds.{sequent_kind}
 use Rattle.ml_refutation_text.specs.private.ItemReads.{AreNames}
 use Rattle.ml_refutation_text.proofs.ReadWords.{values_back, value_back, words_first, spelt_is_word}
 use Rattle.ml_refutation_text.proofs.Runs.{Runs}

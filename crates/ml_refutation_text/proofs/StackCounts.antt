@@ -19,8 +19,8 @@ use Rattle.ml_lines.specs.Reading.{value, value_on}
 use Rattle.ml_trace.specs.declared.letters.AutomatonState.{AutomatonState}
 use Rattle.ml_trace.specs.Stack as traced
 use Rattle.ml_refutation.specs.Refutation.{Refutation, Entry, Fits, FitsGuess, AreAbove, IsItem, IsEntry, IsRefutation, comes_before, guess_before}
-use Rattle.ml_refutation_text.specs.RefutationText.{Spells}
-use Rattle.ml_refutation_text.specs.WrittenText.{used_stacks, stacks_of}
+use Rattle.ml_refutation_text.specs.LineKinds.{Spells}
+use Rattle.ml_refutation_text.specs.Canonical.{used_stacks, stacks_of}
 use Rattle.ml_refutation_text.proofs.TableEntries.{made_length}
 
 -- ---- numbers

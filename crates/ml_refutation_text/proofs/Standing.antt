@@ -21,7 +21,9 @@ use Rattle.ml_trace.specs.Stack as traced
 use Rattle.ml_trace.specs.declared.letters.AutomatonState.{AutomatonState}
 use Rattle.ml_refutation.specs.Refutation.{Refutation, Entry, Decision, Split, Fits, IsAbove, AreAbove, IsStack, IsItem, IsDecided, IsEntry, IsRefutation, nesting}
 use Rattle.ml_refutation.specs.declared.refutation.TheConstants.{NESTING_LIMIT}
-use Rattle.ml_refutation_text.specs.RefutationText.{Spells, Form, InFull, ByTables, names_line, entries_line, sequents_line, stacks_line, sequent_line}
+use Rattle.ml_refutation_text.specs.RefutationText.{names_line, entries_line, sequents_line, stacks_line, sequent_line}
+use Rattle.ml_refutation_text.specs.LineKinds.{Spells}
+use Rattle.ml_refutation_text.specs.BodyRules.{Form, InFull, ByTables}
 use Rattle.ml_refutation_text.specs.RefutationText.{stack_line, numbered_line, live_line, heights_line, split_line, decision_lines}
 use Rattle.ml_refutation_text.specs.private.TextLines.{HeadLines, ItemLine}
 use Rattle.ml_refutation_text.specs.private.TextLines.{ItemLines, EntryLines, EntriesLines, FirstLines, BodyLines, IsForm}

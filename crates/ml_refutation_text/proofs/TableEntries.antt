@@ -14,7 +14,8 @@ use Rattle.std.proofs.lemmas.List.Folds.{list_any-append}
 use Rattle.std.proofs.lemmas.Option.{slice_get_read}
 use Rattle.std.proofs.lemmas.Slice.Eq.{bytes_eq-Decides}
 use Rattle.std.proofs.lemmas.Bool.{or_right, or_left}
-use Rattle.ml_refutation_text.specs.WrittenText.{with_new, each_once, place_in}
+use Rattle.ml_refutation_text.specs.WrittenText.{place_in}
+use Rattle.ml_refutation_text.specs.Canonical.{with_new, each_once}
 
 abbrev pub Has : List (List ℕ) → List ℕ → Type 0
 Has ks x = list_any (bytes_eq x) ks ≡ true

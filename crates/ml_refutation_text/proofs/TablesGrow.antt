@@ -9,7 +9,7 @@ use Rattle.std.proofs.Math.Seq.{get_or-append_seam}
 use Rattle.std.proofs.lemmas.List.{append-nil}
 use Rattle.ml_base.specs.declared.version.Version.{Version}
 use Rattle.ml_base.specs.declared.version.Version.TheVariants.{One, Two}
-use Rattle.ml_refutation_text.specs.RefutationText.{ByTables}
+use Rattle.ml_refutation_text.specs.BodyRules.{ByTables}
 use Rattle.ml_refutation_text.specs.private.ReadTables.{Keeps, Grows, form_of}
 use Rattle.ml_refutation_text.specs.declared.known.Tables.{Tables}
 

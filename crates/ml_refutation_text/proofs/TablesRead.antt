@@ -13,7 +13,9 @@ use Rattle.ml_lists.specs.Ascending.{IsAscending}
 use Rattle.ml_lines.specs.Lines.{Word, Line}
 use Rattle.ml_lines.specs.Reading.{value}
 use Rattle.ml_refutation.specs.Refutation.{Fits, IsStack}
-use Rattle.ml_refutation_text.specs.RefutationText.{Spells, ByTables, sequents_line, sequent_line, stacks_line, stack_line}
+use Rattle.ml_refutation_text.specs.RefutationText.{sequents_line, sequent_line, stacks_line, stack_line}
+use Rattle.ml_refutation_text.specs.LineKinds.{Spells}
+use Rattle.ml_refutation_text.specs.BodyRules.{ByTables}
 use Rattle.ml_refutation_text.specs.BodyRules.{Place, AtSequents, AtTableSequent, AtStacks, AtTableStack, AtEntries, at_sequent_table, at_stack_table, body}
 use Rattle.ml_refutation_text.specs.private.Reads.{HasRoom, IsNext, Goes, IsUsual, TellsRule, TellsFault, at_line}
 use Rattle.ml_refutation_text.specs.private.EntryReads.{IsSequentRead, TellsSequent}

@@ -17,7 +17,8 @@ use Rattle.ml_trace.specs.Stack as traced
 use Rattle.ml_refutation.specs.Refutation.{Entry, Fits, IsAbove}
 use Rattle.ml_refutation.specs.Views.{item_of}
 use Rattle.ml_refutation.specs.declared.refutation.Item.{Item}
-use Rattle.ml_refutation_text.specs.RefutationText.{Form, item_line, heights_line}
+use Rattle.ml_refutation_text.specs.RefutationText.{item_line, heights_line}
+use Rattle.ml_refutation_text.specs.BodyRules.{Form}
 use Rattle.ml_refutation_text.specs.BodyRules.{Place, AtItem, AtDecision}
 use Rattle.ml_refutation_text.specs.private.ReadTables.{form_of, Grows}
 use Rattle.ml_refutation_text.specs.private.Reads.{HasRoom, IsNext, Goes, IsUsual, TellsFault, at_line}

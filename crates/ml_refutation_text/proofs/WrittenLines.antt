@@ -11,7 +11,8 @@ use Rattle.ml_lines.specs.Lines.{Word, Line, number, next, line_text, text_of}
 use Rattle.ml_lines.proofs.Words.{line_text-words}
 use Rattle.ml_refutation.specs.Refutation.{Entry}
 use Rattle.ml_refutation_text.specs.RefutationText.{sequents_line, stacks_line, sequent_line, stack_line}
-use Rattle.ml_refutation_text.specs.WrittenText.{Writing, by_tables, sequents_of, stacks_of, entry_lines, entries_lines, table_lines, last_lines, lines_by_tables}
+use Rattle.ml_refutation_text.specs.WrittenText.{Writing, by_tables, entry_lines, entries_lines, table_lines, last_lines, lines_by_tables}
+use Rattle.ml_refutation_text.specs.Canonical.{sequents_of, stacks_of}
 
 pub line_written : (before words after : List ℕ) (first : Word) (others : List Word)
     → words ≡ before ++ (first ++ flat_map next others) → after ≡ words ++ 10 ∷ [] → after ≡ before ++ line_text (first ∷ others)

@@ -2,7 +2,8 @@
 --
 --   entries_written      == the lines of entries that are written are lines of them, in full and by tables
 --   tables_are           == the tables of a refutation are as what they stand for
---   has_lines            == the written text has the lines of the refutation
+--   written_body         == the written lines are those of the refutation, in the form in which it is written
+--   has_lines            == the written text has them
 --   written_is_text      == so it is a text of it
 use Rattle.std.proofs.Common.{ℕ, ◌+◌, ◌<◌, ◌≤◌, List, [], ◌∷◌, ◌++◌, length, map, All, refl, arith}
 use Rattle.std.specs.List.{flat_map, AllByRecursion}
@@ -15,10 +16,12 @@ use Rattle.ml_lists.specs.Ascending.{IsAscending}
 use Rattle.ml_trace.specs.declared.letters.AutomatonState.{AutomatonState}
 use Rattle.ml_trace.specs.Stack as traced
 use Rattle.ml_refutation.specs.Refutation.{Refutation, Entry, Fits, IsStack, IsItem, IsEntry, IsRefutation}
-use Rattle.ml_refutation_text.specs.RefutationText.{Form, InFull, ByTables, item_line}
-use Rattle.ml_refutation_text.specs.private.TextLines.{HeadLines, StackWords, ItemLines, EntryLines, EntriesLines, AreTables, HasLines}
+use Rattle.ml_refutation_text.specs.RefutationText.{item_line}
+use Rattle.ml_refutation_text.specs.BodyRules.{Form, InFull, ByTables}
+use Rattle.ml_refutation_text.specs.private.TextLines.{HeadLines, StackWords, ItemLines, EntryLines, EntriesLines, BodyLines, AreTables, IsForm, HasLines}
 use Rattle.ml_refutation_text.specs.BodyRules.{IsTextOf}
-use Rattle.ml_refutation_text.specs.WrittenText.{Writing, in_full, by_tables, used_stacks, sequents_of, stacks_of, place_in, entry_lines, entries_lines, written_lines, written_text}
+use Rattle.ml_refutation_text.specs.WrittenText.{Writing, in_full, by_tables, place_in, entry_lines, entries_lines, written_lines, written_text}
+use Rattle.ml_refutation_text.specs.Canonical.{used_stacks, sequents_of, stacks_of, written_form}
 use Rattle.ml_refutation_text.proofs.RefutationTexts.{text_lines}
 use Rattle.ml_refutation_text.proofs.StackCounts.{spells_wide, few_stacks}
 use Rattle.ml_refutation_text.proofs.TableEntries.{Has, made_has, made_all, made_length, has_inside, has_place}
@@ -123,11 +126,14 @@ full_heads i q any = refl
 full_words : (ns : List ℕ) → Unit {0} → StackWords InFull ns (in_full.words ns)
 full_words ns any = refl
 
-has_lines : (v : Version) (r : Refutation) → IsRefutation r → HasLines v (written_text v r) r
-has_lines One r is = record {
-  form = InFull;
+-- in the form in which it is written, the written lines are those of the refutation
+pub record WrittenBody (v : Version) (r : Refutation) : Type 0 where
+  pub is_form : IsForm v r.names (written_form v r)
+  pub are_lines : BodyLines (written_form v r) r (written_lines v r)
+
+pub written_body : (v : Version) (r : Refutation) → IsRefutation r → WrittenBody v r
+written_body One r is = record {
   is_form = tt;
-  lines = written_lines One r;
   are_lines = record {
     first = _;
     entries = entries_lines in_full 0 r.entries;
@@ -138,15 +144,12 @@ has_lines One r is = record {
         (anything (λ ns. Unit {0}) (λ ns. tt) (flat_map used_stacks r.entries));
     are_lines = refl;
   };
-  is_text = refl;
 }
-has_lines Two r is =
+written_body Two r is =
     let qs = sequents_of r.entries in
     let ks = stacks_of r.entries in
     let few = few_stacks r is in record {
-      form = ByTables qs ks;
       is_form = tables_are r is;
-      lines = written_lines Two r;
       are_lines = record {
         first = _;
         entries = entries_lines (by_tables qs ks) 0 r.entries;
@@ -165,6 +168,15 @@ has_lines Two r is =
             (made_has (map (λ e. e.sequent) r.entries)) (made_has (flat_map used_stacks r.entries));
         are_lines = refl;
       };
+    }
+
+has_lines : (v : Version) (r : Refutation) → IsRefutation r → HasLines v (written_text v r) r
+has_lines v r is =
+    let whole = written_body v r is in record {
+      form = written_form v r;
+      is_form = whole.is_form;
+      lines = written_lines v r;
+      are_lines = whole.are_lines;
       is_text = refl;
     }
 

@@ -7,6 +7,7 @@
 -- A line of a table may be written again or stay without use, so in version 2 a refutation has many texts. A text is of
 -- one refutation at most in both versions.
 --
+--   Form                   == sequents and stacks in full, or by these two tables
 --   Known                  == the number of names, the form, and how many entries there are to be
 --   Around                 == a split around a decision: with the right one still to come, or with the left one read
 --   Begun                  == an entry but for its decision
@@ -14,13 +15,12 @@
 --   closed k es b as d     == the place behind the decision d, around which stand the splits as, the innermost first
 --   after v p line         == what stands behind a line at p, if that one is good, in the version v
 --   state_of, stack_of, leaf_of == what the line of an item and that of a clash or a go tell
---   rule_number r          == the number of a rule, from 21 on
 --   kinds p                == the kinds that a line at p may be of
---   rules left p           == the rules of a line at p, in a text of which `left` stands behind the last LF
+--   rules left p           == the rules of a line at p, with their numbers, in a text of which `left` stands behind the
+--                             last LF
 --   body v left            == the places with their rules
 --   IsFaultOf v text n f   == f tells the first bad line of the text of a body, whose first line has the number n, and
 --                             the lowest rule that it breaks
---   IsReadableBody v text  == the text has no bad line
 --   Runs F p ls q          == in the format F the lines ls are good from the place p on, and behind them stands q
 --   IsTextOf v text r      == the text is one of the refutation r in the version v: its lines are good, and behind the last
 --                             one stands r, at its end
@@ -35,7 +35,6 @@ use Rattle.ml_lines.specs.Reading.{value, word, lines_of, left_of}
 use Rattle.ml_lists.specs.Ascending.{IsAscending}
 use Rattle.ml_lists.specs.Last.{last_of}
 use Rattle.ml_lists.specs.Documents.{Format, Rule, rule, IsGood}
-use Rattle.ml_lists.specs.Readings.{IsReadable}
 use Rattle.ml_trace.specs.declared.letters.AutomatonState.{AutomatonState}
 use Rattle.ml_trace.specs.declared.marks.Mark.{Mark}
 use Rattle.ml_trace.specs.declared.marks.Mark.TheVariants.{Red, Green, Neutral}
@@ -44,13 +43,14 @@ use Rattle.ml_sequent.specs.declared.clashes.ClashCause.{ClashCause}
 use Rattle.ml_sequent.specs.declared.clashes.ClashCause.TheVariants.{False, Pair, Cycle}
 use Rattle.ml_refutation.specs.Refutation.{Refutation, Entry, Decision, Split, Clash, Go, IsAbove, IsMarkOf}
 use Rattle.ml_refutation.specs.declared.refutation.TheConstants.{NESTING_LIMIT}
-use Rattle.ml_refutation_text.specs.RefutationText.{Form, InFull, ByTables}
 use Rattle.ml_refutation_text.specs.LineKinds.{Kind, Fixed, ANumber, AGuess, AnySize, kind, open_kind, IsOfKinds, HaveNumbers}
-use Rattle.ml_refutation_text.specs.declared.body_rule.BodyRule.{BodyRule}
-use Rattle.ml_refutation_text.specs.declared.body_rule.BodyRule.TheVariants.{OfKind, Numbers, HasEntries, NextEntry, SequentAscends, LiveWithin, ItemsAscend}
-use Rattle.ml_refutation_text.specs.declared.body_rule.BodyRule.TheVariants.{HeightForEach, GoInRange, Nesting, InTables}
 
 -- ---- places
+
+-- in full, or by a table of sequents and one of stacks
+pub data Form : Type 0 where
+  InFull : Form
+  ByTables : List (List ℕ) → List (List ℕ) → Form
 
 pub record Known : Type 0 where
   pub names : ℕ
@@ -189,18 +189,12 @@ abbrev pub entry_kind : Form → Kind
 entry_kind InFull = numbered (codes "entry")
 entry_kind (ByTables sequents stacks) = kind (Fixed (codes "entry") ∷ ANumber ∷ ANumber ∷ [])
 
-abbrev pub sequent_kind : Kind
-sequent_kind = open_kind (Fixed (codes "sequent") ∷ [])
-
 abbrev pub stack_kind : Kind
 stack_kind = open_kind (Fixed (codes "stack") ∷ ANumber ∷ [])
 
 abbrev pub item_kind : Form → Kind
 item_kind InFull = open_kind (Fixed (codes "item") ∷ ANumber ∷ AGuess ∷ ANumber ∷ [])
 item_kind (ByTables sequents stacks) = kind (Fixed (codes "item") ∷ ANumber ∷ AGuess ∷ AnySize ∷ [])
-
-abbrev pub heights_kind : Kind
-heights_kind = open_kind (Fixed (codes "heights") ∷ [])
 
 -- `clash false n`, `clash pair n m`, `clash cycle n`
 abbrev pub clash_kinds : List Kind
@@ -222,33 +216,17 @@ go_kinds =
 abbrev pub kinds : Place → List Kind
 kinds AtNames = numbered (codes "names") ∷ []
 kinds (AtSequents names) = numbered (codes "sequents") ∷ []
-kinds (AtTableSequent names size rows) = sequent_kind ∷ []
+kinds (AtTableSequent names size rows) = open_kind (Fixed (codes "sequent") ∷ []) ∷ []
 kinds (AtStacks names sequents) = kind (Fixed (codes "stacks") ∷ AnySize ∷ []) ∷ []
 kinds (AtTableStack names sequents size rows) = stack_kind ∷ []
 kinds (AtEntries names form) = numbered (codes "entries") ∷ []
 kinds (AtEntry k entries) = entry_kind k.form ∷ []
-kinds (AtSequent k entries) = sequent_kind ∷ []
+kinds (AtSequent k entries) = open_kind (Fixed (codes "sequent") ∷ []) ∷ []
 kinds (AtLive k entries sequent) = numbered (codes "live") ∷ []
-kinds (AtItem k entries sequent traces) = item_kind k.form ∷ heights_kind ∷ []
+kinds (AtItem k entries sequent traces) = item_kind k.form ∷ open_kind (Fixed (codes "heights") ∷ []) ∷ []
 kinds (AtDecision k entries b around) = numbered (codes "split") ∷ (clash_kinds ++ go_kinds)
 kinds (AtEnd r) = kind (Fixed (codes "end") ∷ []) ∷ []
 kinds (AtNothing r) = []
-
-abbrev pub rule_number : BodyRule → ℕ
-rule_number OfKind = 21
-rule_number Numbers = 22
-rule_number HasEntries = 23
-rule_number NextEntry = 24
-rule_number SequentAscends = 25
-rule_number LiveWithin = 26
-rule_number ItemsAscend = 27
-rule_number HeightForEach = 28
-rule_number GoInRange = 29
-rule_number Nesting = 30
-rule_number InTables = 31
-
-abbrev pub asks : BodyRule → (Line → Type 0) → Rule Line
-asks r = rule (rule_number r)
 
 -- the line begins with this word
 abbrev pub Begins : Word → Line → Type 0
@@ -275,44 +253,37 @@ pub record IsNextItem (form : Form) (traces : traced.Entry AutomatonState) (line
 
 -- the rules of numbers and ranges, behind those of kinds and of the spelling of numbers
 abbrev pub further_rules : Place → List (Rule Line)
-further_rules AtNames = []
-further_rules (AtSequents names) = []
-further_rules (AtTableSequent names size rows) = asks SequentAscends (λ line. IsAscending (values (drop 1 line))) ∷ []
-further_rules (AtStacks names sequents) = []
+further_rules (AtTableSequent names size rows) = rule 25 (λ line. IsAscending (values (drop 1 line))) ∷ []
 further_rules (AtTableStack names sequents size rows) =
-    asks ItemsAscend (λ line. IsAscending (values (drop 1 line)) × AreBelow names (values (drop 1 line))) ∷ []
-further_rules (AtEntries names form) = asks HasEntries (λ line. 0 < value (word line 1)) ∷ []
+    rule 27 (λ line. IsAscending (values (drop 1 line)) × AreBelow names (values (drop 1 line))) ∷ []
+further_rules (AtEntries names form) = rule 23 (λ line. 0 < value (word line 1)) ∷ []
 further_rules (AtEntry k entries) =
-    asks NextEntry (λ line. value (word line 1) ≡ length entries)
-    ∷ asks InTables (SequentInTable k.form)
+    rule 24 (λ line. value (word line 1) ≡ length entries)
+    ∷ rule 31 (SequentInTable k.form)
     ∷ []
-further_rules (AtSequent k entries) = asks SequentAscends (λ line. IsAscending (values (drop 1 line))) ∷ []
-further_rules (AtLive k entries sequent) = asks LiveWithin (λ line. value (word line 1) ≤ k.names) ∷ []
+further_rules (AtSequent k entries) = rule 25 (λ line. IsAscending (values (drop 1 line))) ∷ []
+further_rules (AtLive k entries sequent) = rule 26 (λ line. value (word line 1) ≤ k.names) ∷ []
 further_rules (AtItem k entries sequent traces) =
-    asks ItemsAscend (λ line. Begins (codes "item") line → IsNextItem k.form traces line)
-    ∷ asks HeightForEach (λ line. Begins (codes "heights") line → length (drop 1 line) ≡ k.names + 1)
-    ∷ asks InTables (λ line. Begins (codes "item") line → StackInTable k.form line)
+    rule 27 (λ line. Begins (codes "item") line → IsNextItem k.form traces line)
+    ∷ rule 28 (λ line. Begins (codes "heights") line → length (drop 1 line) ≡ k.names + 1)
+    ∷ rule 31 (λ line. Begins (codes "item") line → StackInTable k.form line)
     ∷ []
 further_rules (AtDecision k entries b around) =
-    asks GoInRange (λ line. Begins (codes "go") line → (value (word line 2) < k.wanted) × IsMarkOf k.names (mark_of line))
-    ∷ asks Nesting (λ line. Begins (codes "split") line → length around < NESTING_LIMIT)
+    rule 29 (λ line. Begins (codes "go") line → (value (word line 2) < k.wanted) × IsMarkOf k.names (mark_of line))
+    ∷ rule 30 (λ line. Begins (codes "split") line → length around < NESTING_LIMIT)
     ∷ []
-further_rules (AtEnd r) = []
-further_rules (AtNothing r) = []
+further_rules _ = []
 
 abbrev pub rules : List ℕ → Place → List (Rule Line)
-rules left (AtNothing r) = asks OfKind (λ line. (line ≡ []) × (left ≡ [])) ∷ []
+rules left (AtNothing r) = rule 21 (λ line. (line ≡ []) × (left ≡ [])) ∷ []
 rules left place =
-    asks OfKind (IsOfKinds (kinds place)) ∷ asks Numbers (HaveNumbers (kinds place)) ∷ further_rules place
+    rule 21 (IsOfKinds (kinds place)) ∷ rule 22 (HaveNumbers (kinds place)) ∷ further_rules place
 
 abbrev pub body : Version → List ℕ → Format Line Place
 body v left = record { rules = rules left; after = after v; missing = [] }
 
 abbrev pub IsFaultOf : Version → List ℕ → ℕ → DocFault → Type 0
 IsFaultOf v text first fault = IsFault (body v) first AtNames text fault
-
-abbrev pub IsReadableBody : Version → List ℕ → Type 0
-IsReadableBody v text = IsReadable (body v (left_of text)) AtNames (lines_of text)
 
 -- ---- texts
 

@@ -6,15 +6,16 @@
 --   Slot               == what stands for a word: this word; a number; a number or `-`; a number of any size
 --   Kind               == the slots, and whether any number of further numbers may stand behind them
 --   kind ss, open_kind ss == a kind without and with further numbers
---   IsSpelt w          == w spells some number, however great
+--   Spells w n         == the word w spells n, however great n is
+--   IsSpelt w          == w spells some number
 --   InSlots, IsOfKind  == the line has the words of the slots; and is of the kind
 --   FitSlots, HasNumbers == what stands for a number is one
 --   IsOfKinds ks l     == l is of one of the kinds ks
 --   HaveNumbers ks l   == of whichever of them it is, it has its numbers
-use Rattle.std.specs.Prelude.{ℕ, ◌≡◌, ◌⊎◌, ⊤, Bool, true, false, List, [], ◌∷◌, codes, All}
+use Rattle.std.specs.Prelude.{ℕ, ◌<◌, ◌≡◌, ◌⊎◌, ⊤, Bool, true, false, get_or, List, [], ◌∷◌, codes, length, All}
+use Rattle.std.specs.Str.{all_ascii_digits}
 use Rattle.ml_lines.specs.Lines.{Word, Line}
-use Rattle.ml_lines.specs.Reading.{AreWords, IsNumber}
-use Rattle.ml_refutation_text.specs.RefutationText.{Spells}
+use Rattle.ml_lines.specs.Reading.{AreWords, IsNumber, value}
 
 pub data Slot : Type 0 where
   Fixed : Word → Slot
@@ -32,14 +33,19 @@ kind slots = record { slots = slots; further = false }
 abbrev pub open_kind : List Slot → Kind
 open_kind slots = record { slots = slots; further = true }
 
+-- in decimal and without leading zeros
+pub record Spells (w : Word) (n : ℕ) : Type 0 where
+  pub digits : all_ascii_digits w ≡ true
+  pub some : 0 < length w
+  pub no_zero_leads : get_or w 0 0 ≡ 48 → length w ≡ 1
+  pub is_value : value w ≡ n
+
 abbrev pub IsSpelt : Word → Type 0
 IsSpelt w = (n : ℕ) × Spells w n
 
 abbrev pub InSlot : Slot → Word → Type 0
 InSlot (Fixed word) w = w ≡ word
-InSlot ANumber w = ⊤
-InSlot AGuess w = ⊤
-InSlot AnySize w = ⊤
+InSlot _ w = ⊤
 
 abbrev pub FitsSlot : Slot → Word → Type 0
 FitsSlot (Fixed word) w = ⊤

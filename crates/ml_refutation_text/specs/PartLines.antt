@@ -2,7 +2,7 @@
 --
 -- The first line of the text has a number that is given, and the entries are its last lines but one. An entry has its
 -- number and its sequent, in version 1 on two lines and in version 2 on one; then a line for the names in use, one for
--- each item, one for the heights, and those of its decision.
+-- each item, one for the heights, and one for each branch of its decision.
 --
 --   head_size v             == how many lines tell the number and the sequent of an entry
 --   sequent_at v n          == the line that tells the sequent of an entry whose first line is n
@@ -17,9 +17,9 @@ use Rattle.std.specs.Prelude.{ℕ, ◌+◌, ◌-◌, ◌≡◌, List, [], ◌∷
 use Rattle.ml_base.specs.declared.version.Version.{Version}
 use Rattle.ml_base.specs.declared.version.Version.TheVariants.{One, Two}
 use Rattle.ml_lines.specs.Reading.{lines_of}
+use Rattle.ml_refutation.specs.Acceptance.{branches}
 use Rattle.ml_refutation.specs.Refutation.{Refutation, Entry}
 use Rattle.ml_refutation_text.specs.BodyRules.{IsTextOf}
-use Rattle.ml_refutation_text.specs.RefutationText.{decision_lines}
 use Rattle.ml_refutation_text.specs.declared.lines.EntryLines.{EntryLines}
 
 -- `entry` and `sequent`, or `entry` alone
@@ -33,7 +33,7 @@ sequent_at One n = n + 1
 sequent_at Two n = n
 
 abbrev pub entry_size : Version → Entry → ℕ
-entry_size v e = head_size v + 1 + length e.traces.items + 1 + length (decision_lines e.decision)
+entry_size v e = head_size v + 1 + length e.traces.items + 1 + length (branches [] e.decision)
 
 abbrev pub parts_of : Version → ℕ → Entry → EntryLines
 parts_of v n e = record {

@@ -5,7 +5,6 @@
 -- and of stacks, and where a sequent or a stack stands there is its number, that is the place of its line in the table,
 -- from 0 on. Which lines are a text of which refutation `BodyRules` says.
 --
---   Spells w n              == the word w spells n, however great n is
 --   names_line, entries_line, sequents_line == `names M`, `entries E`, `sequents S`
 --   stacks_line w           == `stacks` with the word w
 --   sequent_line q, stack_line ns   == `sequent` with the nodes, `stack` with the names
@@ -14,10 +13,7 @@
 --                              the numbers hs
 --   decision_lines d        == the decision in preorder: `split o` with the left and the right decision, `clash` with its
 --                              cause, `go D e` with its mark
---   Form                    == sequents and stacks in full, or by these two tables
-use Rattle.std.specs.Prelude.{ℕ, ◌<◌, ◌≡◌, true, get_or, List, [], ◌∷◌, ◌++◌, Option, None, Some, map, codes, length}
-use Rattle.std.specs.Str.{all_ascii_digits}
-use Rattle.ml_lines.specs.Reading.{value}
+use Rattle.std.specs.Prelude.{ℕ, List, [], ◌∷◌, ◌++◌, Option, None, Some, map, codes}
 use Rattle.ml_lines.specs.Lines.{Word, Line, number}
 use Rattle.ml_trace.specs.declared.letters.AutomatonState.{AutomatonState}
 use Rattle.ml_trace.specs.declared.marks.Mark.{Mark}
@@ -27,13 +23,6 @@ use Rattle.ml_sequent.specs.declared.clashes.ClashCause.TheVariants.{False, Pair
 use Rattle.ml_refutation.specs.Refutation.{Decision, Split, Clash, Go}
 
 -- ---- lines
-
--- in decimal and without leading zeros
-pub record Spells (w : Word) (n : ℕ) : Type 0 where
-  pub digits : all_ascii_digits w ≡ true
-  pub some : 0 < length w
-  pub no_zero_leads : get_or w 0 0 ≡ 48 → length w ≡ 1
-  pub is_value : value w ≡ n
 
 abbrev pub numbers : List ℕ → List Word
 numbers ns = map number ns
@@ -101,10 +90,3 @@ decision_lines (Go diamond entry mark) = go_line diamond entry mark ∷ []
 
 abbrev pub end_line : Line
 end_line = codes "end" ∷ []
-
--- ---- forms
-
--- in full, or by a table of sequents and one of stacks
-pub data Form : Type 0 where
-  InFull : Form
-  ByTables : List (List ℕ) → List (List ℕ) → Form

@@ -1,11 +1,7 @@
--- The text that is written of a refutation, in both versions.
+-- The text that is written of a refutation, in both versions, line by line. It is the only one of which `Canonical` speaks;
+-- so nobody has to believe this.
 --
--- In version 2 the tables have each sequent and each stack of the refutation once, in the order of first use, and each is
--- named by its place there.
---
---   each_once xs           == the lists xs, each once, in the order in which they come first
 --   place_in xs x          == the place of x in xs
---   sequents_of es, stacks_of es == the sequents of the entries es, and the stacks of their items, each once
 --   Writing                == how the first lines of an entry and the words for a stack are written
 --   in_full, by_tables qs ks == in full; by the places in these tables
 --   entry_lines W i e      == the lines of the entry e, whose number is i
@@ -16,37 +12,19 @@
 --   written_lines v r      == the lines of the body of r
 --   written_text v r       == these lines as bytes
 --   IsCounted v r          == what is counted in the version v has a number of 64 bits
-use Rattle.std.specs.Prelude.{ℕ, ◌+◌, ◌<◌, ◌^◌, ⊤, List, [], ◌∷◌, ◌++◌, map, length, fold, if◌then◌else◌}
-use Rattle.std.specs.List.{flat_map, list_any, position_or_len}
+use Rattle.std.specs.Prelude.{ℕ, ◌+◌, ◌<◌, ◌^◌, ⊤, List, [], ◌∷◌, ◌++◌, map, length}
+use Rattle.std.specs.List.{position_or_len}
 use Rattle.std.specs.Str.{bytes_eq}
 use Rattle.ml_base.specs.declared.version.Version.{Version}
 use Rattle.ml_base.specs.declared.version.Version.TheVariants.{One, Two}
 use Rattle.ml_lines.specs.Lines.{Word, Line, number, text_of}
 use Rattle.ml_refutation.specs.Refutation.{Refutation, Entry}
+use Rattle.ml_refutation_text.specs.Canonical.{sequents_of, stacks_of}
 use Rattle.ml_refutation_text.specs.RefutationText.{numbers, names_line, entries_line, sequents_line, stacks_line, sequent_line, stack_line}
 use Rattle.ml_refutation_text.specs.RefutationText.{numbered_line, entry_line, live_line, item_line, heights_line, decision_lines, end_line}
 
--- ---- tables
-
-abbrev pub with_new : List (List ℕ) → List ℕ → List (List ℕ)
-with_new known x = if list_any (bytes_eq x) known then known else known ++ x ∷ []
-
-abbrev pub each_once : List (List ℕ) → List (List ℕ)
-each_once xs = fold with_new [] xs
-
 abbrev pub place_in : List (List ℕ) → List ℕ → ℕ
 place_in known x = position_or_len (bytes_eq x) known
-
-abbrev pub used_stacks : Entry → List (List ℕ)
-used_stacks e = map (λ a. a.stack) e.traces.items
-
-abbrev pub sequents_of : List Entry → List (List ℕ)
-sequents_of entries = each_once (map (λ e. e.sequent) entries)
-
-abbrev pub stacks_of : List Entry → List (List ℕ)
-stacks_of entries = each_once (flat_map used_stacks entries)
-
--- ---- lines
 
 pub record Writing : Type 0 where
   pub head : ℕ → List ℕ → List Line

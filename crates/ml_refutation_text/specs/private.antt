@@ -20,5 +20,7 @@ pub mod BranchReads
 pub mod EntryReads
 -- what it knows of a whole body
 pub mod BodyReads
+-- the kinds of lines with a word and then numbers
+pub mod ListKinds
 -- the texts of refutations, line by line
 pub mod TextLines

@@ -1,6 +1,6 @@
 // The rules of the body of an unsatisfiable document.
 ghost use Rattle.std.specs.Prelude.{◌≡◌};
-ghost use Rattle.ml_refutation_text.specs.BodyRules.{rule_number};
+ghost use Rattle.ml_refutation_text.specs.RuleNumbers.{rule_number};
 
 /// A rule that a line of the body of an unsatisfiable document keeps.
 #[derive(Clone, Copy, Debug, PartialEq, Eq)]

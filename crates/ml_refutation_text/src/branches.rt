@@ -6,8 +6,9 @@ ghost use Rattle.ml_lines.specs.Reading.{words_of, AreWords};
 ghost use Rattle.ml_refutation.specs.Refutation.{Entry, FitsCause, IsMarkOf};
 ghost use Rattle.ml_refutation.specs.Refutation as plain;
 ghost use Rattle.ml_refutation.specs.Views.{decision_of};
-ghost use Rattle.ml_refutation_text.specs.RefutationText.{decision_lines, cause_words, mark_words};
-ghost use Rattle.ml_refutation_text.specs.RefutationText as text;
+ghost use Rattle.ml_refutation.specs.Acceptance.{branches};
+ghost use Rattle.ml_refutation_text.specs.RefutationText.{cause_words, mark_words};
+ghost use Rattle.ml_refutation_text.specs.BodyRules as text;
 ghost use Rattle.ml_refutation_text.specs.BodyRules.{Begun, AtDecision, at_entry, whole};
 ghost use Rattle.ml_refutation_text.specs.private.Reads.{HasRoom, Goes, TellsFault};
 ghost use Rattle.ml_refutation_text.specs.private.ItemReads.{knows};
@@ -48,7 +49,7 @@ pub(crate) fn read_decision<'a>(
     requires { HasRoom at }
     ensures read { IfOk result (λ r. (v : Version) (F : text.Form) (es : List Entry) (b : Begun)
         → Goes v (AtDecision (knows names F wanted) es b []) at.entry (at_entry (knows names F wanted) (es ++ whole b (decision_of r.0) ∷ [])) r.1) }
-    ensures counted { IfOk result (λ r. r.1.line ≡ at.entry.line + length (decision_lines (decision_of r.0))) }
+    ensures counted { IfOk result (λ r. r.1.line ≡ at.entry.line + length (branches [] (decision_of r.0))) }
     ensures refused { IfErr result (λ e. (v : Version) (F : text.Form) (es : List Entry) (b : Begun)
         → TellsFault v (AtDecision (knows names F wanted) es b []) at.entry e) }
 {

@@ -5,7 +5,7 @@ ghost use Rattle.ml_refutation.specs.Refutation as plain;
 ghost use Rattle.ml_lines.specs.Reading.{words_of};
 ghost use Rattle.ml_refutation.specs.Views.{entry_of};
 ghost use Rattle.ml_refutation_text.specs.BodyRules.{AtEntry, AtSequent, AtLive, AtItem, at_entry};
-ghost use Rattle.ml_refutation_text.specs.RefutationText as text;
+ghost use Rattle.ml_refutation_text.specs.BodyRules as text;
 ghost use Rattle.ml_refutation_text.specs.PartLines.{head_size, sequent_at, entry_size, entries_size, parts_of, parts_from};
 ghost use Rattle.ml_refutation_text.specs.private.Reads.{HasRoom, Goes, Breaks, TellsFault};
 ghost use Rattle.ml_refutation_text.specs.private.ReadTables.{form_of, known_of, Grows};

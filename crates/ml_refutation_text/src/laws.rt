@@ -1,9 +1,18 @@
 // What holds of texts of refutations, whoever made them.
-ghost use Rattle.ml_refutation_text.specs.Laws.{FaultOrReadable, OneFault, OneRefutation, ReadableIsRefutation, ReadableOrFault, RulesRise, WrittenIsText};
+ghost use Rattle.ml_refutation_text.specs.Laws.{FaultOrReadable, OneFault, OneRefutation, OneWrittenText, ReadableIsRefutation, ReadableOrFault};
+ghost use Rattle.ml_refutation_text.specs.Laws.{RulesRise, WrittenIsRead, WrittenIsText, WrittenIsWritten};
 
 /// The text that is written of a refutation is a text of it, in both versions: so each refutation has a text.
 pub fn written_is_text()
     ensures { WrittenIsText }
+{}
+
+/// Of each refutation one text is written, in each version, as the format alone says (`IsWrittenText`): there is one, and
+/// no other one, and it is a text of the refutation.
+pub fn one_written_text()
+    ensures some { WrittenIsWritten }
+    ensures once { OneWrittenText }
+    ensures read { WrittenIsRead }
 {}
 
 /// A text is of one refutation at most, in each version.

@@ -5,7 +5,7 @@ ghost use Rattle.ml_base.specs.declared.doc_fault.DocFault.{DocFault};
 ghost use Rattle.ml_refutation.specs.Views.{of_parts};
 ghost use Rattle.ml_refutation_text.specs.BodyRules.{IsTextOf};
 ghost use Rattle.ml_refutation.specs.Refutation as plain;
-ghost use Rattle.ml_refutation_text.specs.RefutationText as text;
+ghost use Rattle.ml_refutation_text.specs.BodyRules as text;
 ghost use Rattle.ml_refutation_text.specs.PartLines.{AreLinesOf};
 ghost use Rattle.ml_refutation_text.specs.BodyRules.{IsFaultOf, AtNames, AtEntries, AtEnd, AtNothing, after_names, at_entry};
 ghost use Rattle.ml_refutation_text.specs.private.Reads.{HasRoom, Goes, TellsFault};

@@ -2,7 +2,8 @@
 ghost use Rattle.std.specs.Prelude.{◌≡◌, IfOk, IfErr};
 ghost use Rattle.ml_base.specs.declared.version.Version.{Version};
 ghost use Rattle.ml_lines.specs.Reading.{words_of};
-ghost use Rattle.ml_refutation_text.specs.BodyRules.{Place, rule_number};
+ghost use Rattle.ml_refutation_text.specs.BodyRules.{Place};
+ghost use Rattle.ml_refutation_text.specs.RuleNumbers.{rule_number};
 ghost use Rattle.ml_refutation_text.specs.private.Reads as reads;
 ghost use Rattle.ml_refutation_text.specs.private.Reads.{HasRoom, IsNext, IsUsual, TellsFault};
 

@@ -5,7 +5,7 @@ ghost use Rattle.ml_lines.specs.Reading.{words_of, AreWords};
 ghost use Rattle.ml_refutation.specs.Refutation as plain;
 ghost use Rattle.ml_refutation_text.specs.LineKinds.{IsOfKind};
 ghost use Rattle.ml_refutation_text.specs.RefutationText.{sequent_line, stack_line};
-ghost use Rattle.ml_refutation_text.specs.RefutationText as text;
+ghost use Rattle.ml_refutation_text.specs.BodyRules as text;
 ghost use Rattle.ml_refutation_text.specs.BodyRules.{Known, AtSequents, AtTableSequent, AtSequent, AtStacks, AtTableStack, AtEntries, at_sequent_table, at_stack_table, stack_kind};
 ghost use Rattle.ml_refutation_text.specs.private.Reads.{HasRoom, Goes, Breaks, TellsFault, TellsRule};
 ghost use Rattle.ml_lists.specs.Ascending.{IsAscending};

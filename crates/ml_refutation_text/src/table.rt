@@ -1,6 +1,7 @@
 // A table of version 2: lists of a refutation, each once, in the order in which they are met first.
 ghost use Rattle.std.specs.Prelude.{◌≡◌, [], None, slice_index_or, IfOk, OnOk, OnErr};
-ghost use Rattle.ml_refutation_text.specs.WrittenText.{with_new, place_in};
+ghost use Rattle.ml_refutation_text.specs.WrittenText.{place_in};
+ghost use Rattle.ml_refutation_text.specs.Canonical.{with_new};
 ghost use Rattle.ml_refutation_text.specs.private.Collecting.{shown, IsPlace};
 
 use indexmap::IndexSet;

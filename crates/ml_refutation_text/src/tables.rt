@@ -1,8 +1,8 @@
 // The tables of version 2: each sequent and each stack of a refutation once, in the order of first use.
 ghost use Rattle.std.specs.Prelude.{◌≡◌, map, fold, IfOk, OnOk};
 ghost use Rattle.ml_refutation.specs.Views.{item_of};
-ghost use Rattle.ml_refutation_text.specs.WrittenText.{with_new};
-ghost use Rattle.ml_refutation_text.specs.WrittenText as plain;
+ghost use Rattle.ml_refutation_text.specs.Canonical.{with_new};
+ghost use Rattle.ml_refutation_text.specs.Canonical as plain;
 ghost use Rattle.ml_refutation_text.specs.private.Filings.{entries_of};
 
 use crate::table::Table;

@@ -8,7 +8,7 @@ ghost use Rattle.ml_refutation.specs.Refutation as plain;
 ghost use Rattle.ml_refutation.specs.Refutation.{Entry, FitsGuess, IsAbove};
 ghost use Rattle.ml_refutation.specs.Views.{item_of};
 ghost use Rattle.ml_refutation_text.specs.RefutationText.{guess_word};
-ghost use Rattle.ml_refutation_text.specs.RefutationText as text;
+ghost use Rattle.ml_refutation_text.specs.BodyRules as text;
 ghost use Rattle.ml_refutation_text.specs.BodyRules.{AtItem, AtDecision};
 ghost use Rattle.ml_base.specs.declared.version.Version.{Version};
 ghost use Rattle.ml_refutation_text.specs.private.Reads.{HasRoom, Goes, TellsFault};

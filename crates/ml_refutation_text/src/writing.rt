@@ -5,7 +5,8 @@ ghost use Rattle.ml_lines.specs.Lines.{number, next, line_text, text_of};
 ghost use Rattle.ml_refutation.specs.Views.{decision_of, of_parts};
 ghost use Rattle.ml_refutation_text.specs.RefutationText.{numbers, guess_word, entry_line, item_line, cause_words, clash_line, mark_words, go_line, decision_lines};
 ghost use Rattle.ml_refutation_text.specs.BodyRules.{IsTextOf};
-ghost use Rattle.ml_refutation_text.specs.WrittenText.{IsCounted, stacks_of as used, written_text, entry_lines, entries_lines, table_lines, last_lines, lines_by_tables};
+ghost use Rattle.ml_refutation_text.specs.WrittenText.{IsCounted, written_text, entry_lines, entries_lines, table_lines, last_lines, lines_by_tables};
+ghost use Rattle.ml_refutation_text.specs.Canonical.{stacks_of as used};
 ghost use Rattle.ml_refutation_text.specs.private.Collecting.{shown};
 ghost use Rattle.ml_refutation_text.specs.private.Filings.{entries_of, sequents_in, stacks_in, entry_in, item_in, writing_of};
 

@@ -16,7 +16,8 @@ use Rattle.ml_front.proofs.OneFault as head
 use Rattle.ml_front.proofs.SomeGraph.{some_graph}
 use Rattle.ml_refutation.specs.Refutation.{Refutation}
 use Rattle.ml_refutation.specs.Acceptance.{entry_at, IsAccepted, IsFirstBad}
-use Rattle.ml_refutation_text.specs.BodyRules.{IsFaultOf, IsReadableBody}
+use Rattle.ml_refutation_text.specs.BodyRules.{IsFaultOf}
+use Rattle.ml_refutation_text.specs.Laws.{IsReadableBody}
 use Rattle.ml_refutation_text.specs.PartLines.{parts_in}
 use Rattle.ml_refutation_text.specs.declared.lines.EntryLines.{EntryLines}
 use Rattle.ml_refutation_text.proofs.RefutationTexts as body

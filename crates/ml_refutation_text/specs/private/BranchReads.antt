@@ -19,7 +19,8 @@ use Rattle.ml_refutation.specs.Refutation.{Entry, Decision, Fits, IsDecided, nes
 use Rattle.ml_refutation.specs.Views.{decision_of}
 use Rattle.ml_refutation.specs.declared.refutation.Decision as program
 use Rattle.ml_refutation.specs.declared.refutation.TheConstants.{NESTING_LIMIT}
-use Rattle.ml_refutation_text.specs.RefutationText.{Form, split_line, decision_lines}
+use Rattle.ml_refutation_text.specs.RefutationText.{split_line, decision_lines}
+use Rattle.ml_refutation_text.specs.BodyRules.{Form}
 use Rattle.ml_refutation_text.specs.BodyRules.{Known, Around, InLeft, InRight, Begun, Place, AtDecision, at_entry, closed, whole}
 use Rattle.ml_refutation_text.specs.private.Reads.{arounds_of, Breaks}
 use Rattle.ml_refutation_text.specs.private.ItemReads.{knows}

@@ -11,7 +11,8 @@ use Rattle.ml_lines.specs.Lines.{Word, Line}
 use Rattle.ml_lines.specs.Reading.{value}
 use Rattle.ml_lists.specs.Ascending.{IsAscending}
 use Rattle.ml_refutation.specs.Refutation.{Entry, Fits}
-use Rattle.ml_refutation_text.specs.RefutationText.{Spells, sequent_line, stacks_line, entry_line}
+use Rattle.ml_refutation_text.specs.RefutationText.{sequent_line, stacks_line, entry_line}
+use Rattle.ml_refutation_text.specs.LineKinds.{Spells}
 use Rattle.ml_refutation_text.specs.BodyRules.{Known, AtTableSequent, AtSequent}
 use Rattle.ml_refutation_text.specs.private.Reads.{IsNext, TellsFault}
 use Rattle.ml_refutation_text.specs.declared.rest.Rest.{Rest}

@@ -26,9 +26,11 @@ use Rattle.ml_refutation.specs.Refutation.{Entry, Fits, FitsGuess, IsAbove}
 use Rattle.ml_refutation.specs.Views.{item_of}
 use Rattle.ml_refutation.specs.declared.refutation.Item.{Item}
 use Rattle.ml_refutation_text.specs.LineKinds.{IsOfKind}
-use Rattle.ml_refutation_text.specs.RefutationText.{Form, InFull, ByTables, heights_line}
+use Rattle.ml_refutation_text.specs.RefutationText.{heights_line}
+use Rattle.ml_refutation_text.specs.BodyRules.{Form, InFull, ByTables}
 use Rattle.ml_refutation_text.specs.private.TextLines.{ItemLine}
-use Rattle.ml_refutation_text.specs.BodyRules.{Known, AtItem, heights_kind}
+use Rattle.ml_refutation_text.specs.BodyRules.{Known, AtItem}
+use Rattle.ml_refutation_text.specs.private.ListKinds.{heights_kind}
 use Rattle.ml_refutation_text.specs.private.Reads.{TellsRule}
 use Rattle.ml_refutation_text.specs.declared.rest.LineRefusal.{LineRefusal}
 use Rattle.ml_refutation_text.specs.declared.rest.LineRefusal.TheVariants as refusal

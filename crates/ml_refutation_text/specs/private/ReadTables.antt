@@ -8,7 +8,7 @@
 use Rattle.std.specs.Prelude.{ℕ, ◌≡◌, List, ◌++◌}
 use Rattle.ml_base.specs.declared.version.Version.{Version}
 use Rattle.ml_base.specs.declared.version.Version.TheVariants.{One, Two}
-use Rattle.ml_refutation_text.specs.RefutationText.{Form, InFull, ByTables}
+use Rattle.ml_refutation_text.specs.BodyRules.{Form, InFull, ByTables}
 use Rattle.ml_refutation_text.specs.BodyRules as body
 use Rattle.ml_refutation_text.specs.declared.known.Known.{Known}
 use Rattle.ml_refutation_text.specs.declared.known.Tables.{Tables}

@@ -24,7 +24,8 @@ use Rattle.ml_lists.specs.Documents.{IsFirstBroken}
 use Rattle.ml_lists.specs.Readings.{IsReadTo}
 use Rattle.ml_refutation.specs.Views.{decision_of}
 use Rattle.ml_refutation_text.specs.BodyRules as body
-use Rattle.ml_refutation_text.specs.BodyRules.{Place, AtNothing, rules, rule_number}
+use Rattle.ml_refutation_text.specs.BodyRules.{Place, AtNothing, rules}
+use Rattle.ml_refutation_text.specs.RuleNumbers.{rule_number}
 use Rattle.ml_refutation_text.specs.declared.body_rule.BodyRule.{BodyRule}
 use Rattle.ml_refutation_text.specs.declared.rest.Rest.{Rest}
 use Rattle.ml_refutation_text.specs.declared.rest.LineRefusal.{LineRefusal}

@@ -17,7 +17,9 @@ use Rattle.ml_lists.specs.Ascending.{IsAscending}
 use Rattle.ml_trace.specs.declared.letters.AutomatonState.{AutomatonState}
 use Rattle.ml_trace.specs.Stack as traced
 use Rattle.ml_refutation.specs.Refutation.{Refutation, Entry, Fits, IsStack}
-use Rattle.ml_refutation_text.specs.RefutationText.{Spells, Form, InFull, ByTables, numbers, numbered_line, sequent_line, entry_line}
+use Rattle.ml_refutation_text.specs.RefutationText.{numbers, numbered_line, sequent_line, entry_line}
+use Rattle.ml_refutation_text.specs.LineKinds.{Spells}
+use Rattle.ml_refutation_text.specs.BodyRules.{Form, InFull, ByTables}
 use Rattle.ml_refutation_text.specs.RefutationText.{item_line, live_line, heights_line, decision_lines, names_line, sequents_line}
 use Rattle.ml_refutation_text.specs.RefutationText.{stacks_line, stack_line, entries_line, end_line}
 

@@ -1,5 +1,6 @@
 use Rattle.std.proofs.Common.{refl, sym, subst, ◌∙◌}
-use Rattle.ml_refutation_text.specs.RefutationText.{InFull, numbered_line}
+use Rattle.ml_refutation_text.specs.RefutationText.{numbered_line}
+use Rattle.ml_refutation_text.specs.BodyRules.{InFull}
 use Rattle.ml_refutation_text.specs.BodyRules.{AtEntry}
 use Rattle.ml_refutation_text.specs.private.Reads.{TellsFault}
 use Rattle.ml_refutation_text.specs.private.ItemReads.{knows}

@@ -1,6 +1,6 @@
 use Rattle.std.proofs.Common.{◌≡◌, ◌++◌, [], ◌∷◌, slice_index_or, ap, sym, subst, ◌∙◌}
 use Rattle.ml_base.specs.declared.version.Version.TheVariants.{One}
-use Rattle.ml_refutation_text.specs.RefutationText.{InFull, ByTables}
+use Rattle.ml_refutation_text.specs.BodyRules.{InFull, ByTables}
 use Rattle.ml_refutation_text.specs.BodyRules.{AtEntry, AtSequent, AtLive}
 use Rattle.ml_refutation_text.specs.private.Reads.{Goes, TellsFault}
 use Rattle.ml_refutation_text.specs.private.ReadTables.{form_of, Grows}

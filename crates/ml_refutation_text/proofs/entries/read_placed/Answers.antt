@@ -1,6 +1,6 @@
 use Rattle.std.proofs.Common.{sym, subst}
 use Rattle.ml_lines.specs.Reading.{words_of}
-use Rattle.ml_refutation_text.specs.RefutationText.{ByTables}
+use Rattle.ml_refutation_text.specs.BodyRules.{ByTables}
 use Rattle.ml_refutation_text.specs.BodyRules.{AtEntry}
 use Rattle.ml_refutation_text.specs.private.Reads.{TellsFault}
 use Rattle.ml_refutation_text.specs.private.ItemReads.{knows}

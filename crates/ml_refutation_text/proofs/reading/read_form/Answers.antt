@@ -2,7 +2,7 @@ use Rattle.std.proofs.Common.{sym, subst}
 use Rattle.std.proofs.lemmas.Result.{IfOk-weaker}
 use Rattle.ml_base.specs.declared.version.Version.{Version}
 use Rattle.ml_base.specs.declared.version.Version.TheVariants.{One, Two}
-use Rattle.ml_refutation_text.specs.RefutationText.{InFull, ByTables}
+use Rattle.ml_refutation_text.specs.BodyRules.{InFull, ByTables}
 use Rattle.ml_refutation_text.specs.BodyRules.{AtSequents, AtEntries, after_names}
 use Rattle.ml_refutation_text.specs.private.Reads.{Goes}
 use Rattle.ml_refutation_text.specs.private.ReadTables.{form_of}

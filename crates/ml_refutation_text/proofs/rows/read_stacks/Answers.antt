@@ -2,7 +2,7 @@ use Rattle.std.proofs.Common.{ℕ, ◌≡◌, ◌-◌, ◌^◌, min, List, [], s
 use Rattle.std.proofs.lemmas.Result.{IfErr-weaker, IfOk-weaker}
 use Rattle.ml_base.specs.declared.version.Version.{Version}
 use Rattle.ml_lines.specs.Reading.{words_of, value}
-use Rattle.ml_refutation_text.specs.RefutationText.{ByTables}
+use Rattle.ml_refutation_text.specs.BodyRules.{ByTables}
 use Rattle.ml_refutation_text.specs.BodyRules.{AtStacks, AtEntries, at_stack_table}
 use Rattle.ml_refutation_text.specs.private.Reads.{Goes, TellsFault}
 use Rattle.ml_refutation_text.proofs.Going.{goes_on, fault_on, fault_line}

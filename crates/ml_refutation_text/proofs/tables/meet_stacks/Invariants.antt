@@ -1,6 +1,6 @@
 use Rattle.std.proofs.Common.{◌≡◌, map, fold, take}
 use Rattle.ml_refutation.specs.Views.{item_of}
-use Rattle.ml_refutation_text.specs.WrittenText.{with_new}
+use Rattle.ml_refutation_text.specs.Canonical.{with_new}
 use Rattle.ml_refutation_text.proofs.tables.meet_stacks.Given as goal
 
 abbrev pub invariant-loop-item : goal.invariant-loop-item

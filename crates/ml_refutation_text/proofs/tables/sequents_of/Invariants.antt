@@ -1,6 +1,6 @@
 use Rattle.std.proofs.Common.{◌≡◌, map, take}
 use Rattle.ml_refutation.specs.Views.{entry_of}
-use Rattle.ml_refutation_text.specs.WrittenText.{sequents_of}
+use Rattle.ml_refutation_text.specs.Canonical.{sequents_of}
 use Rattle.ml_refutation_text.proofs.tables.sequents_of.Given as goal
 
 abbrev pub invariant-loop-entry : goal.invariant-loop-entry

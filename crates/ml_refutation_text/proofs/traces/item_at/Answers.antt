@@ -3,7 +3,7 @@ use Rattle.std.proofs.lemmas.Result.{IfErr-weaker, IfOk-weaker}
 use Rattle.std.specs.Option.{option_copied}
 use Rattle.ml_lines.specs.Reading.{words_of}
 use Rattle.ml_refutation.specs.Views.{item_of}
-use Rattle.ml_refutation_text.specs.RefutationText.{ByTables}
+use Rattle.ml_refutation_text.specs.BodyRules.{ByTables}
 use Rattle.ml_refutation_text.specs.private.ReadTables.{form_of, Grows}
 use Rattle.ml_refutation_text.specs.private.ItemReads.{before_of, IsItemOf, TellsItem}
 use Rattle.ml_refutation_text.specs.declared.known.Tables.{Tables}

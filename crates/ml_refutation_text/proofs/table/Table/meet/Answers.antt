@@ -1,5 +1,5 @@
 use Rattle.std.proofs.Common.{◌≡◌, [], None, Some, sym, ap, ◌∙◌, subst, slice_index_or}
-use Rattle.ml_refutation_text.specs.WrittenText.{with_new}
+use Rattle.ml_refutation_text.specs.Canonical.{with_new}
 use Rattle.ml_refutation_text.specs.private.Collecting.{shown, Collected}
 use Rattle.ml_refutation_text.proofs.MetLists.{met_again}
 use Rattle.ml_refutation_text.proofs.table.Table.meet.Goals as goal

@@ -1,5 +1,5 @@
 use Rattle.std.proofs.Common.{[], ◌∙◌, ap, slice_index_or, arith}
-use Rattle.ml_refutation_text.specs.WrittenText.{with_new}
+use Rattle.ml_refutation_text.specs.Canonical.{with_new}
 use Rattle.ml_refutation_text.specs.private.Collecting.{shown, Collected}
 use Rattle.ml_refutation_text.proofs.MetLists.{known_kept, one_known}
 use Rattle.ml_refutation_text.proofs.table.Table.meet_first.Goals as goal
