@@ -26,13 +26,14 @@ use Rattle.ml_bisim.proofs.Merged.{few_classes}
 use Rattle.ml_bisim.proofs.OneQuotient.{one_quotient}
 use Rattle.ml_bisim_problems.proofs.Carried.{admitted_kept, problems_carried}
 use Rattle.ml_front.specs.Logics.{IsWellFormed, logic_of}
-use Rattle.ml_front.specs.Problems.{HoldsAt}
+use Rattle.ml_front.specs.Problems.{HoldsAt, IsAdmitted}
 use Rattle.ml_front.specs.declared.problem.Problem.{Problem}
 use Rattle.ml_front.proofs.Graphs.{meaningful, never_both}
 use Rattle.ml_front.proofs.Logics.{parsed_well}
-use Rattle.ml_model_check.specs.Checked.{Finds, IsCheckedAs, IsDocument, IsDocumentFault, Shows, SpeaksOf}
+use Rattle.ml_model_check.specs.Checked.{Finds, IsCheckedAs, IsDocument}
 use Rattle.ml_model_check.specs.declared.checked.Checked.{Checked}
 use Rattle.ml_model_check.specs.declared.checked.Checked.TheVariants as checked
+use Rattle.ml_model_check.proofs.Findings.{IsFault, IsFoundIn}
 use Rattle.ml_model_check.proofs.OneCheck.{SomeDocument, SomeFault, document_fault, document_or_fault, one_document, one_fault}
 use Rattle.ml_model_check.proofs.ReadBack.{documents_read_back}
 use Rattle.ml_driver.specs.Documents.{satisfiable_document}
@@ -48,12 +49,12 @@ use Rattle.ml_driver.proofs.SomeQuotient.{some_quotient}
 
 -- ---- one status, one output
 
-read_or_refused : (text out more : List ℕ) → IsReduced text out → IsUnreadable (IsDocumentFault text) more → ⊥
+read_or_refused : (text out more : List ℕ) → IsReduced text out → IsUnreadable (IsFault text) more → ⊥
 read_or_refused text out more x r =
     document_fault text x.problem x.structure x.start r.fault x.is_document r.is_fault
 
-one_line : (text out more : List ℕ) (r : IsUnreadable (IsDocumentFault text) out)
-    (w : IsUnreadable (IsDocumentFault text) more) → out ≡ more
+one_line : (text out more : List ℕ) (r : IsUnreadable (IsFault text) out)
+    (w : IsUnreadable (IsFault text) more) → out ≡ more
 one_line text out more r w =
     r.is_written ∙ ap (λ f. line_text (refused_document f)) (one_fault text r.fault w.fault r.is_fault w.is_fault) ∙ sym w.is_written
 
@@ -92,7 +93,7 @@ one_quotient_due text s t out more x y =
 of_document : (text : List ℕ) (p : Problem) (m : Structure) (start : ℕ) → IsDocument text p m start
     → SomeAnswer Quotient text
 of_document text p m start is =
-    let q = some_quotient m is.is_written.is_structure in (
+    let q = some_quotient m is.2.is_structure in (
       Yes,
       (
         satisfiable_document p q.structure (class_of q.class start),
@@ -148,11 +149,11 @@ module _ (m q : Structure) (class : List ℕ) (ok : IsStructure m) (names : HasN
 
 module _ (text out : List ℕ) (x : IsReduced text out) where
   is_well : IsWellFormed x.problem.formula
-  is_well = let h = x.is_document.has_head in parsed_well h.formula_text x.problem.formula h.is_parsed
+  is_well = let h = x.is_document.1 in parsed_well h.formula_text x.problem.formula h.is_parsed
 
   can_be_written : IsWritten x.quotient (class_of x.class x.start)
   can_be_written =
-      let old = x.is_document.is_written in
+      let old = x.is_document.2 in
       let few = few_classes x.structure x.quotient.states x.class x.is_quotient.classes in
       record {
         is_structure = x.is_quotient.is_structure;
@@ -168,16 +169,16 @@ module _ (text out : List ℕ) (x : IsReduced text out) where
       (documents_read_back Two x.problem x.quotient (class_of x.class x.start) is_well can_be_written
       x.is_quotient.is_ordered)
 
-  module _ (speaks : SpeaksOf x.problem x.structure) where
-    speaks_too : SpeaksOf x.problem x.quotient
+  module _ (speaks : IsAdmitted (logic_of x.problem.formula) x.structure) where
+    speaks_too : IsAdmitted (logic_of x.problem.formula) x.quotient
     speaks_too =
-        admitted_kept x.structure x.quotient x.class x.is_document.is_written.is_structure x.is_quotient
+        admitted_kept x.structure x.quotient x.class x.is_document.2.is_structure x.is_quotient
         (logic_of x.problem.formula) speaks
 
     same_there : HoldsAt x.structure x.start x.problem ↔ HoldsAt x.quotient (class_of x.class x.start) x.problem
     same_there =
         problems_carried x.structure x.quotient x.class x.is_quotient x.problem
-        (meaningful x.problem.formula is_well) speaks x.start x.is_document.is_written.is_state
+        (meaningful x.problem.formula is_well) speaks x.start x.is_document.2.is_state
 
     -- what checking finds of the document
     found : (c : Checked) → Finds c x.problem x.structure x.start
@@ -189,23 +190,14 @@ module _ (text out : List ℕ) (x : IsReduced text out) where
     found (checked.NotAWord state) f = absurd (never_both (logic_of x.problem.formula) x.structure state speaks (inr f))
     found (checked.Unreadable fault) f = absurd f
 
-    finds_here : (c : Checked) → Shows text c → Finds c x.problem x.structure x.start
-    finds_here c shows =
-        let same =
-        one_document text shows.problem x.problem shows.structure x.structure shows.start x.start shows.is_document
-        x.is_document in
+    finds_here : (c : Checked) → IsFoundIn text c → Finds c x.problem x.structure x.start
+    finds_here c (p, m, start, is, finds) =
+        let same = one_document text p x.problem m x.structure start x.start is x.is_document in
         subst (λ s. Finds c x.problem x.structure s) same.1.1
-        (subst (λ m. Finds c x.problem m shows.start) same.1.0
-        (subst (λ p. Finds c p shows.structure shows.start) same.0 shows.finds))
+        (subst (λ n. Finds c x.problem n start) same.1.0 (subst (λ q. Finds c q m start) same.0 finds))
 
-    carried : (c : Checked) → Shows text c → Shows out c
-    carried c shows = record {
-      problem = x.problem;
-      structure = x.quotient;
-      start = class_of x.class x.start;
-      is_document = read_back;
-      finds = found c (finds_here c shows);
-    }
+    carried : (c : Checked) → IsFoundIn text c → IsFoundIn out c
+    carried c shows = (x.problem, x.quotient, class_of x.class x.start, read_back, found c (finds_here c shows))
 
     carried_as : (c : Checked) → IsCheckedAs text c → IsCheckedAs out c
     carried_as (checked.Unreadable fault) is =

@@ -6,7 +6,7 @@
 --   decide_is_checked, valid_is_checked, find_is_checked, prove_is_checked == the laws on the commands
 use Rattle.std.proofs.Common.{◌≢◌, ℕ, Bool, true, false, List, if◌then◌else◌, inl, refl, sym, ap, subst, arith}
 use Rattle.ml_base.specs.declared.version.Version.TheVariants.{Two}
-use Rattle.ml_model_check.specs.Checked.{IsDocument, Shows}
+use Rattle.ml_model_check.specs.Checked.{IsCheckedAs, IsDocument}
 use Rattle.ml_model_check.specs.declared.checked.Checked.TheVariants.{Holds}
 use Rattle.ml_model_check.proofs.ReadBack.{documents_read_back}
 use Rattle.ml_front.specs.declared.logic.Logic.{Logic}
@@ -20,13 +20,13 @@ use Rattle.ml_driver.specs.declared.question.Way.{Way}
 use Rattle.ml_driver.specs.declared.question.Way.TheVariants.{WholeGame, Search}
 use Rattle.ml_driver.specs.Laws.{DecidedAreChecked, DecideIsChecked, FindIsChecked, IsFoundAccepted, IsFoundToHold, ProveIsChecked, RefutedAreAccepted, ValidIsChecked}
 use Rattle.ml_driver.specs.Run.{asked, IsWhole}
-use Rattle.ml_refute_check.specs.Documents.{HoldsNowhere, IsDocument as IsDocumentWith}
+use Rattle.ml_refute_check.specs.Documents.{Finds, HoldsNowhere, IsDocument as IsDocumentWith}
 use Rattle.ml_refute_check.specs.declared.verdict.Verdict.TheVariants.{Accepted}
 use Rattle.ml_driver.proofs.Answered.{closure_fits}
 use Rattle.ml_driver.proofs.RefutationDocuments.{refutation_read_back}
 use Rattle.ml_front.proofs.Logics.{parsed_well}
 
-satisfied_read : (q : Question) (text out : List ℕ) → Satisfied q text out → Shows out Holds
+satisfied_read : (q : Question) (text out : List ℕ) → Satisfied q text out → IsCheckedAs out Holds
 satisfied_read q text out x =
     let p = x.problem in
     let m = x.structure in
@@ -34,13 +34,7 @@ satisfied_read q text out x =
     let shown : IsDocument out p m x.start =
     subst (λ t. IsDocument t p m x.start) (sym x.is_written)
     (documents_read_back Two p m x.start well x.can_be_written x.is_ordered) in
-    record {
-      problem = p;
-      structure = m;
-      start = x.start;
-      is_document = shown;
-      finds = (x.is_admitted, closure_fits q.way q.limit x.problem x.is_closed, x.holds);
-    }
+    (p, m, x.start, shown, (x.is_admitted, closure_fits q.way q.limit x.problem x.is_closed, x.holds))
 
 pub decided_are_checked : DecidedAreChecked
 decided_are_checked q text out x = satisfied_read q text out x
@@ -55,17 +49,19 @@ refutation_shown q text out x =
 
 pub refuted_are_accepted : RefutedAreAccepted
 refuted_are_accepted q text out x =
+    let shown = refutation_shown q text out x in
+    let found : Finds Accepted Two shown.0 x.problem x.refutation = record {
+      closed = closure_fits q.way q.limit x.problem x.is_closed;
+      graph = x.graph;
+      is_graph = x.is_graph;
+      holds = x.is_accepted;
+    } in
     record {
       version = Two;
       problem = x.problem;
-      refutation = x.refutation;
-      is_document = refutation_shown q text out x;
-      holds = record {
-        closed = closure_fits q.way q.limit x.problem x.is_closed;
-        graph = x.graph;
-        is_graph = x.is_graph;
-        holds = x.is_accepted;
-      };
+      body = shown.0;
+      has_head = shown.1;
+      holds = (x.refutation, shown.2, shown.3, found);
     }
 
 -- ---- what the commands answer
@@ -80,9 +76,9 @@ found_accepted q text out whole x =
     let is_true : HoldsNowhere out = record {
       version = Two;
       problem = x.problem;
-      body = shown.body;
-      has_head = shown.has_head;
-      holds_nowhere = x.is_unsatisfiable;
+      body = shown.0;
+      has_head = shown.1;
+      holds = x.is_unsatisfiable;
     } in
     inl (
       whole,

@@ -1,49 +1,14 @@
--- Documents with a refutation: one of two things.
+-- Documents with a refutation that are written.
 --
---   ShowsRefutation        == the text shows a refutation for a problem, in some version
---   refutation_or_fault    == a text shows a refutation, or has a first bad line
 --   refutation_read_back   == a document that is written is read back
-use Rattle.std.proofs.Common.{◌⊎◌, List, ℕ, inl, inr, ⊎_elim}
-use Rattle.ml_base.specs.declared.doc_fault.DocFault.{DocFault}
-use Rattle.ml_base.specs.declared.version.Version.{Version}
-use Rattle.ml_front.specs.declared.answer.Answer.TheVariants.{Unsatisfiable}
-use Rattle.ml_front.specs.declared.problem.Problem.{Problem}
-use Rattle.ml_front.specs.HeadRules.{IsHead, IsHeadFault}
-use Rattle.ml_front.proofs.OneFault.{some_head}
 use Rattle.ml_base.specs.declared.version.Version.TheVariants.{Two}
-use Rattle.ml_front.proofs.ReadBack.{heads_read_back}
+use Rattle.ml_front.specs.declared.problem.Problem.{Problem}
 use Rattle.ml_front.specs.Logics.{IsWellFormed}
-use Rattle.ml_refutation_text.proofs.WrittenTexts.{written_is_text}
-use Rattle.ml_refutation_text.specs.WrittenText.{written_text}
 use Rattle.ml_refutation.specs.Refutation.{Refutation, IsRefutation}
-use Rattle.ml_refutation_text.specs.BodyRules.{IsFaultOf}
-use Rattle.ml_refutation_text.specs.Laws.{IsReadableBody}
-use Rattle.ml_refutation_text.proofs.RefutationTexts.{readable_is_refutation, readable_or_fault}
-use Rattle.ml_refute_check.specs.Documents.{IsDocument, IsDocumentFault, document_of, first_body_line}
-
-abbrev pub ShowsRefutation : List ℕ → Type 0
-ShowsRefutation text = (v : Version) × ((p : Problem) × ((r : Refutation) × IsDocument text v p r))
-
-pub refutation_or_fault : (text : List ℕ) → ShowsRefutation text ⊎ ((fault : DocFault) × IsDocumentFault text fault)
-refutation_or_fault text =
-    ⊎_elim
-    (λ (h : (v : Version) × (p : Problem) × (rest : List ℕ) × IsHead Unsatisfiable text v p rest).
-    ⊎_elim
-    (λ (good : IsReadableBody h.0 h.2).
-    let r = (readable_is_refutation h.0 h.2).0 good in
-    inl (h.0, (h.1, (r.0, record { body = h.2; has_head = h.3; is_refutation = r.1; has_body = r.2 }))))
-    (λ (bad : (fault : DocFault) × IsFaultOf h.0 h.2 first_body_line fault).
-    inr (bad.0, inr (record { version = h.0; problem = h.1; body = h.2; has_head = h.3; is_fault = bad.1 })))
-    (readable_or_fault h.0 h.2 first_body_line))
-    (λ (bad : (fault : DocFault) × IsHeadFault Unsatisfiable text fault). inr (bad.0, inl bad.1))
-    (some_head Unsatisfiable text)
+use Rattle.ml_refute_check.specs.Documents.{IsDocument, document_of}
+use Rattle.ml_refute_check.proofs.Accepted.{documents_read_back}
 
 -- what is written for a problem of a well-formed formula, and a refutation, is read back
 pub refutation_read_back : (p : Problem) (r : Refutation) → IsWellFormed p.formula → IsRefutation r
     → IsDocument (document_of p r) Two p r
-refutation_read_back p r well is_refutation = record {
-  body = written_text Two r;
-  has_head = heads_read_back Unsatisfiable Two p (written_text Two r) well;
-  is_refutation = is_refutation;
-  has_body = written_is_text Two r is_refutation;
-}
+refutation_read_back p r well is_refutation = documents_read_back p r well is_refutation

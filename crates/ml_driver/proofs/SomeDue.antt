@@ -4,14 +4,15 @@
 --   of_family         == by what is found of the problem of a family
 --   answered          == some status is the answer to each command
 --   some_due          == some status is due, with some output
-use Rattle.std.proofs.Common.{◌≡◌, ℕ, true, false, List, Some, None, refl, subst, ⊎_elim, arith}
+use Rattle.std.proofs.Common.{◌≡◌, ◌⊎◌, ℕ, true, false, List, Some, None, inl, inr, refl, subst, arith}
 use Rattle.ml_lines.specs.Lines.{line_text}
 use Rattle.ml_base.specs.declared.doc_fault.DocFault.{DocFault}
 use Rattle.ml_model_check.proofs.OneCheck.{some_check}
-use Rattle.ml_refute_check.specs.Documents as refuted
+use Rattle.ml_refutation_text.specs.BodyRules.{IsFaultOf}
+use Rattle.ml_refutation_text.specs.Laws.{IsRefutationText}
 use Rattle.ml_refute_check.specs.Documents.{IsVerdict, document_of}
 use Rattle.ml_refute_check.proofs.Accepted.{accepted_is_true}
-use Rattle.ml_refute_check.proofs.SomeVerdict.{some_verdict}
+use Rattle.ml_refute_check.proofs.SomeVerdict.{refutation_or_fault, some_verdict}
 use Rattle.ml_gen.specs.Families.{formula_text}
 use Rattle.ml_gen.specs.FamilyRanges.{is_in_range}
 use Rattle.ml_gen.specs.declared.family.Family.{Family}
@@ -30,9 +31,12 @@ use Rattle.ml_driver.specs.declared.status.Status.TheVariants.{Yes, Text}
 use Rattle.ml_driver.specs.Statuses.{model_said, refused_document, refutation_said, words_refused}
 use Rattle.ml_driver.specs.Run.{asked}
 use Rattle.ml_driver.proofs.InputLimits.{SomeAnswer, some_due_for}
-use Rattle.ml_driver.proofs.RefutationDocuments.{ShowsRefutation, refutation_or_fault, refutation_read_back}
+use Rattle.ml_driver.proofs.RefutationDocuments.{refutation_read_back}
 use Rattle.ml_driver.proofs.SomeAnswer.{some_answer}
 use Rattle.ml_driver.specs.Laws.{HasFitNumbers, SomeDue}
+use Rattle.ml_front.specs.Documents.{IsDocumentFault, Shows}
+use Rattle.ml_front.specs.declared.answer.Answer.TheVariants.{Unsatisfiable}
+use Rattle.ml_front.proofs.Documents.{shown_well}
 use Rattle.ml_front.proofs.Logics.{parsed_well}
 
 on_document : (text : List ℕ) → SomeAnswer CheckModel text
@@ -58,31 +62,29 @@ on_refutation text =
     )
 
 to_migrate : (text : List ℕ) → SomeAnswer Migrate text
-to_migrate text =
-    ⊎_elim
-    (λ (d : ShowsRefutation text).
-    let p = d.1.0 in
-    let r = d.1.1.0 in
-    let shown = d.1.1.1 in (
-      Yes,
-      (
-        document_of p r,
-        record {
-          version = d.0;
-          problem = p;
-          refutation = r;
-          is_document = shown;
-          holds = (
-            refl,
-            refutation_read_back p r (parsed_well shown.has_head.formula_text p.formula shown.has_head.is_parsed)
-                shown.is_refutation,
-          );
-        },
-      ),
-    ))
-    (λ (bad : (fault : DocFault) × refuted.IsDocumentFault text fault).
-    (Text, (line_text (refused_document bad.0), record { fault = bad.0; is_fault = bad.1; is_written = refl })))
-    (refutation_or_fault text)
+to_migrate text = go (refutation_or_fault text)
+  where
+    go : Shows Unsatisfiable text (λ v p body. IsRefutationText v body)
+        ⊎ ((fault : DocFault) × IsDocumentFault Unsatisfiable IsFaultOf text fault)
+        → SomeAnswer Migrate text
+    go (inl x) =
+        let p = x.problem in
+        let r = x.holds.0 in
+        let well = shown_well Unsatisfiable text (λ v p body. IsRefutationText v body) x in (
+          Yes,
+          (
+            document_of p r,
+            record {
+              version = x.version;
+              problem = p;
+              body = x.body;
+              has_head = x.has_head;
+              holds = (r, x.holds.1, x.holds.2, (refl, refutation_read_back p r well x.holds.1));
+            },
+          ),
+        )
+    go (inr (fault, bad)) =
+        (Text, (line_text (refused_document fault), record { fault = fault; is_fault = bad; is_written = refl }))
 
 of_family : (f : Family) (n : ℕ) (text : List ℕ) → is_in_range f n ≡ true → SomeAnswer (Bench f n) text
 of_family f n text inside =

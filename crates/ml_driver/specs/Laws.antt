@@ -41,11 +41,11 @@ use Rattle.ml_product.specs.DecisionGame.{HasMoreThan}
 use Rattle.ml_driver.specs.declared.command.Command.TheVariants.{Decide, Valid, Find, Prove, CheckModel, CheckRefutation, Quotient, Determinise, Gen, Bench}
 use Rattle.ml_driver.specs.declared.command.Command.{Command}
 use Rattle.ml_bisim.specs.Quotient.{class_of}
-use Rattle.ml_model_check.specs.Checked.{IsDocument, Shows, SpeaksOf}
+use Rattle.ml_model_check.specs.Checked.{IsCheckedAs, IsDocument}
 use Rattle.ml_model_check.specs.declared.checked.Checked.TheVariants.{Holds}
 use Rattle.ml_front.specs.Graphs.{HasLargeClosure, IsGraphOf}
-use Rattle.ml_front.specs.Logics.{IsWellFormed}
-use Rattle.ml_front.specs.Problems.{HoldsAt, IsSatisfiable}
+use Rattle.ml_front.specs.Logics.{IsWellFormed, logic_of}
+use Rattle.ml_front.specs.Problems.{HoldsAt, IsAdmitted, IsSatisfiable}
 use Rattle.ml_front.specs.declared.logic.Logic.{Logic}
 use Rattle.ml_front.specs.declared.problem.Problem.{Problem}
 use Rattle.ml_front.specs.declared.problem.TheConstants.{MOST_NODES}
@@ -131,7 +131,7 @@ AnswersAreExact = (q : Question) (text : List ℕ) (p : Problem) (s : Status) (o
 
 -- the document with a structure is one in which its problem holds, and the one with a refutation is accepted
 abbrev pub DecidedAreChecked : Type 0
-DecidedAreChecked = (q : Question) (text out : List ℕ) → Satisfied q text out → Shows out Holds
+DecidedAreChecked = (q : Question) (text out : List ℕ) → Satisfied q text out → IsCheckedAs out Holds
 
 abbrev pub RefutedAreAccepted : Type 0
 RefutedAreAccepted = (q : Question) (text out : List ℕ) → Refuted q text out → IsAcceptedDocument out
@@ -185,14 +185,15 @@ QuotientsAreRead = (text out : List ℕ) (x : IsReduced text out)
     → IsDocument out x.problem x.quotient (class_of x.class x.start)
 
 abbrev pub WrittenHoldsTheSame : Type 0
-WrittenHoldsTheSame = (text out : List ℕ) (x : IsReduced text out) → SpeaksOf x.problem x.structure
-    → SpeaksOf x.problem x.quotient
+WrittenHoldsTheSame = (text out : List ℕ) (x : IsReduced text out)
+    → IsAdmitted (logic_of x.problem.formula) x.structure
+    → IsAdmitted (logic_of x.problem.formula) x.quotient
     × (HoldsAt x.structure x.start x.problem ↔ HoldsAt x.quotient (class_of x.class x.start) x.problem)
 
 -- where the logic of the problem speaks of the structure that was read
 abbrev pub QuotientsAreCheckedAlike : Type 0
 QuotientsAreCheckedAlike = (text out : List ℕ) (x : IsReduced text out)
-    → SpeaksOf x.problem x.structure
+    → IsAdmitted (logic_of x.problem.formula) x.structure
     → IsWhole text
     → IsWhole out
     → (s : Status) (line : List ℕ) → IsDue (Some CheckModel) text s line → IsDue (Some CheckModel) out s line

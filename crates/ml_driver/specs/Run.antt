@@ -28,13 +28,12 @@ use Rattle.std.specs.Io.KnownBytes.{IsAtEnd, append_known, prepend_known}
 use Rattle.ml_base.specs.Faults.{Rose}
 use Rattle.ml_base.specs.Whole.{AppendsPart, Gives}
 use Rattle.ml_front.specs.declared.logic.Logic.{Logic}
-use Rattle.ml_model_check.specs.Checked as shown
 use Rattle.ml_model_check.specs.Checked.{IsCheckedAs}
 use Rattle.ml_model_check.specs.declared.checked.Checked.{Checked}
-use Rattle.ml_refute_check.specs.Documents as refuted
+use Rattle.ml_model_check.specs.declared.checked.Checked.TheVariants as checked
 use Rattle.ml_refute_check.specs.Documents.{HoldsNowhere, IsMigrated, IsVerdict}
 use Rattle.ml_refute_check.specs.declared.verdict.Verdict.{Verdict}
-use Rattle.ml_refute_check.specs.declared.verdict.Verdict.TheVariants.{Accepted}
+use Rattle.ml_refute_check.specs.declared.verdict.Verdict.TheVariants as verdict
 use Rattle.ml_driver.specs.declared.command.Command.{Command}
 use Rattle.ml_driver.specs.declared.command.Command.TheVariants.{Decide, Valid, Find, Prove, CheckModel, CheckRefutation, Migrate, Quotient, SolveGame, Determinise, Realize, Gen, Bench}
 use Rattle.ml_driver.specs.declared.command.TheConstants.{LONGEST_DOCUMENT}
@@ -64,7 +63,7 @@ pub record IsChecked (text : List ℕ) (s : Status) (out : List ℕ) : Type 0 wh
 pub record IsJudged (text : List ℕ) (s : Status) (out : List ℕ) : Type 0 where
   pub finding : Verdict
   pub is_found : IsVerdict text finding
-  pub is_true : finding ≡ Accepted → HoldsNowhere text
+  pub is_true : finding ≡ verdict.Accepted → HoldsNowhere text
   pub is_said : IsSaid (refutation_said finding) s out
 
 abbrev pub IsAnswer : Command → List ℕ → Status → List ℕ → Type 0
@@ -75,9 +74,9 @@ IsAnswer (Prove l n) text s out = IsAnswered (asked true Search l n) text s out
 IsAnswer CheckModel text s out = IsChecked text s out
 IsAnswer CheckRefutation text s out = IsJudged text s out
 IsAnswer Migrate text Yes out = IsMigrated text out
-IsAnswer Migrate text Text out = IsUnreadable (refuted.IsDocumentFault text) out
+IsAnswer Migrate text Text out = IsUnreadable (λ fault. IsVerdict text (verdict.Unreadable fault)) out
 IsAnswer Quotient text Yes out = IsReduced text out
-IsAnswer Quotient text Text out = IsUnreadable (shown.IsDocumentFault text) out
+IsAnswer Quotient text Text out = IsUnreadable (λ fault. IsCheckedAs text (checked.Unreadable fault)) out
 IsAnswer (SolveGame e) text Yes out = IsSolved e text out
 IsAnswer (SolveGame e) text Text out = IsRefusedGame text out
 IsAnswer (Determinise n) text Yes out = StandsForOne text (λ a. IsWrittenFor a n out)

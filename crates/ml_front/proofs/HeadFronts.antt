@@ -24,7 +24,8 @@ use Rattle.ml_lines.proofs.WrittenLines.{text_read}
 use Rattle.ml_lists.specs.Documents.{IsGood}
 use Rattle.ml_lists.specs.Readings.{nothing_read, line_read}
 use Rattle.ml_front.specs.Head.{title_line, answer_line, logic_line, sense_line}
-use Rattle.ml_front.specs.HeadRules.{IsHead, IsHeadFault, IsFormulaOf, HeadPlace, AtTitle, AtAnswer, AtLogic, AtSense, AtFormula, after, head, rule_number}
+use Rattle.ml_front.specs.HeadRules.{IsHead, IsHeadFault, IsFormulaOf, HeadPlace, AtTitle, AtAnswer, AtLogic, AtSense, AtFormula, after, head}
+use Rattle.ml_front.specs.RuleNumbers.{rule_number}
 use Rattle.ml_front.specs.private.HeadParts.{first_line, Breaks, IsFormulaRead, TellsHead, TellsFormula, formula_refusal}
 use Rattle.ml_front.specs.declared.answer.Answer.{Answer}
 use Rattle.ml_front.specs.declared.head_rule.HeadRule.{HeadRule}

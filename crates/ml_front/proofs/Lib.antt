@@ -11,6 +11,8 @@ pub mod HeadLines
 pub mod ReadableHeads
 -- a text is a head or has one first bad line
 pub mod OneFault
+-- what a text shows, it shows of one head and one body
+pub mod Documents
 -- a head, read line by line
 pub mod HeadFronts
 -- what is written is read back

@@ -11,8 +11,9 @@
 --   formula_bytes line      == what stands behind the first blank of a line
 --   IsFormulaLine line      == the line is `formula`, a blank, and anything
 --   IsFormulaOf l text      == the text stands for a formula of the logic l
---   rule_number r           == the number of a rule, from 1 to 3
---   rules a place           == the rules of a line at a place, where the answer a is wanted
+--   rules a place           == the rules of a line at a place, with their numbers, where the answer a is wanted: 1, that the
+--                              line is there and of the kind that stands there; 2, that the formula's text is parsed; 3,
+--                              that the answer is the one that is wanted
 --   head a                  == the places with their rules
 --   IsHeadFault a text f    == f tells the first bad line of the head, and the lowest rule that it breaks
 use Rattle.std.specs.Prelude.{ℕ, ◌≡◌, Bool, false, List, [], ◌∷◌, ◌++◌, drop, codes}
@@ -26,8 +27,6 @@ use Rattle.ml_lists.specs.Documents.{Format, Rule, rule}
 use Rattle.ml_front.specs.Head.{title_line, answer_line, logic_line, sense_line, lines_about}
 use Rattle.ml_front.specs.Logics.{logic_of, some_logic, IsParsedAs}
 use Rattle.ml_front.specs.declared.answer.Answer.{Answer}
-use Rattle.ml_front.specs.declared.head_rule.HeadRule.{HeadRule}
-use Rattle.ml_front.specs.declared.head_rule.HeadRule.TheVariants.{OfKind, Parses, Answers}
 use Rattle.ml_front.specs.declared.logic.Logic.{Logic}
 use Rattle.ml_front.specs.declared.problem.AnyFormula.{AnyFormula}
 use Rattle.ml_front.specs.declared.problem.Problem.{Problem}
@@ -65,20 +64,12 @@ IsFormulaLine line = (w : Word) × (ws : Line) × (line ≡ codes "formula" ∷ 
 abbrev pub IsFormulaOf : Logic → List ℕ → Type 0
 IsFormulaOf l text = (f : AnyFormula) × (logic_of f ≡ l) × IsParsedAs text f
 
-abbrev pub rule_number : HeadRule → ℕ
-rule_number OfKind = 1
-rule_number Parses = 2
-rule_number Answers = 3
-
-abbrev asks : HeadRule → (Line → Type 0) → Rule Line
-asks r = rule (rule_number r)
-
 abbrev pub rules : Answer → HeadPlace → List (Rule Line)
-rules a AtTitle = asks OfKind (λ line. (v : Version) × (line ≡ title_line v)) ∷ []
-rules a AtAnswer = asks OfKind (λ line. (b : Answer) × (line ≡ answer_line b)) ∷ asks Answers (λ line. line ≡ answer_line a) ∷ []
-rules a AtLogic = asks OfKind (λ line. (l : Logic) × (line ≡ logic_line l)) ∷ []
-rules a (AtSense l) = asks OfKind (λ line. (negated : Bool) × (line ≡ sense_line negated)) ∷ []
-rules a (AtFormula l) = asks OfKind IsFormulaLine ∷ asks Parses (λ line. IsFormulaOf l (formula_bytes line)) ∷ []
+rules a AtTitle = rule 1 (λ line. (v : Version) × (line ≡ title_line v)) ∷ []
+rules a AtAnswer = rule 1 (λ line. (b : Answer) × (line ≡ answer_line b)) ∷ rule 3 (λ line. line ≡ answer_line a) ∷ []
+rules a AtLogic = rule 1 (λ line. (l : Logic) × (line ≡ logic_line l)) ∷ []
+rules a (AtSense l) = rule 1 (λ line. (negated : Bool) × (line ≡ sense_line negated)) ∷ []
+rules a (AtFormula l) = rule 1 IsFormulaLine ∷ rule 2 (λ line. IsFormulaOf l (formula_bytes line)) ∷ []
 rules a Behind = []
 
 abbrev pub head : Answer → Format Line HeadPlace

@@ -10,6 +10,10 @@ pub mod Graphs
 pub mod Head
 -- the rules of a head, and its first bad line
 pub mod HeadRules
+-- the numbers of its rules, as they are told
+pub mod RuleNumbers
+-- documents: a head, and a body behind it
+pub mod Documents
 -- laws of heads and graphs
 pub mod Laws
 -- what private contracts cite

@@ -1,6 +1,6 @@
 // The rules of the head of a document.
 ghost use Rattle.std.specs.Prelude.{◌≡◌};
-ghost use Rattle.ml_front.specs.HeadRules.{rule_number};
+ghost use Rattle.ml_front.specs.RuleNumbers.{rule_number};
 
 /// A rule that a line of the head of a document keeps.
 #[derive(Clone, Copy, Debug, PartialEq, Eq)]

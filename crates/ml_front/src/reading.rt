@@ -10,7 +10,8 @@ ghost use Rattle.ml_lines.specs.Lines.{Word, Line};
 ghost use Rattle.ml_lines.specs.Reading.{words_of};
 ghost use Rattle.ml_lines.specs.private.Fronts.{GoesOn};
 ghost use Rattle.ml_front.specs.Head.{title_line, answer_line, logic_line, sense_line};
-ghost use Rattle.ml_front.specs.HeadRules.{IsHead, IsHeadFault, AtTitle, AtAnswer, AtLogic, AtSense, rule_number};
+ghost use Rattle.ml_front.specs.HeadRules.{IsHead, IsHeadFault, AtTitle, AtAnswer, AtLogic, AtSense};
+ghost use Rattle.ml_front.specs.RuleNumbers.{rule_number};
 ghost use Rattle.ml_front.specs.private.HeadParts as parts;
 ghost use Rattle.ml_front.specs.private.HeadParts.{first_line, IsPair, Breaks, IsFormulaRead, TellsHead, TellsFormula};
 

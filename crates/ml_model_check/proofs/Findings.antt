@@ -2,26 +2,34 @@
 --
 --   one_finding      == one thing is found of them at most
 --   some_finding     == and something, where s is a state and the formula means something
+--   IsFoundIn text c == c is found of what the text shows
 --   found_in, told   == what checking a text finds is what is found of what it shows, or its first bad line
 use Rattle.std.proofs.Common.{◌≡◌, ℕ, ◌<◌, ◌⊎◌, List, inl, inr, refl, ap}
 use Rattle.ml_base.specs.Structure.{Structure, IsStructure}
 use Rattle.ml_base.specs.declared.doc_fault.DocFault.{DocFault}
 use Rattle.ml_lists.proofs.Decided.{Decided}
+use Rattle.ml_kripke.specs.BodyRules.{IsFaultOf}
 use Rattle.ml_graph.specs.Graph.{Graph}
+use Rattle.ml_front.specs.Documents.{IsDocumentFault}
 use Rattle.ml_front.specs.Graphs.{HasLargeClosure, IsGraphOf}
 use Rattle.ml_front.specs.WellFormed.{IsMeaningful}
 use Rattle.ml_front.specs.Logics.{logic_of}
-use Rattle.ml_front.specs.Problems.{HoldsAt}
+use Rattle.ml_front.specs.Problems.{HoldsAt, IsAdmitted}
+use Rattle.ml_front.specs.declared.answer.Answer.TheVariants.{Satisfiable}
 use Rattle.ml_front.specs.declared.problem.Problem.{Problem}
 use Rattle.ml_front.specs.declared.problem.TheConstants.{MOST_NODES}
 use Rattle.ml_front.proofs.Graphs.{IsFirstUnfit, admitted_or_not, dead_or_fork, holds_or_fails, never_both, one_deadlock, one_fork}
 use Rattle.ml_front.proofs.SomeGraph.{some_graph}
-use Rattle.ml_model_check.specs.Checked.{Finds, IsCheckedAs, IsDocumentFault, Shows, SpeaksOf}
+use Rattle.ml_model_check.specs.Checked.{Finds, IsCheckedAs, IsDocument}
 use Rattle.ml_model_check.specs.declared.checked.Checked.{Checked}
 use Rattle.ml_model_check.specs.declared.checked.Checked.TheVariants.{Holds, Fails, Unreadable, NotTotal, NotAWord, ClosureTooLarge}
 
 abbrev IsClosed : Problem → Type 0
 IsClosed p = ¬ (HasLargeClosure p MOST_NODES)
+
+-- the logic of the problem speaks of the structure
+abbrev SpeaksOf : Problem → Structure → Type 0
+SpeaksOf p m = IsAdmitted (logic_of p.formula) m
 
 module _ (p : Problem) (m : Structure) (s : ℕ) where
   never : (state : ℕ) → SpeaksOf p m → ¬ (IsFirstUnfit (logic_of p.formula) m state)
@@ -77,11 +85,18 @@ module _ (p : Problem) (m : Structure) (s : ℕ) where
 
 -- ---- in a text
 
--- c is the first bad line of the text
-abbrev pub IsFault : List ℕ → Checked → Type 0
-IsFault text c = (fault : DocFault) × (c ≡ Unreadable fault) × IsDocumentFault text fault
+-- the text shows a structure and a start for a problem, and c is found of them
+abbrev pub IsFoundIn : List ℕ → Checked → Type 0
+IsFoundIn text c = (p : Problem) × (m : Structure) × (s : ℕ) × IsDocument text p m s × Finds c p m s
 
-pub found_in : (text : List ℕ) (c : Checked) → IsCheckedAs text c → Shows text c ⊎ IsFault text c
+abbrev pub IsFault : List ℕ → DocFault → Type 0
+IsFault text fault = IsDocumentFault Satisfiable (λ v. IsFaultOf) text fault
+
+-- c is the first bad line of the text
+abbrev pub IsFoundBad : List ℕ → Checked → Type 0
+IsFoundBad text c = (fault : DocFault) × (c ≡ Unreadable fault) × IsFault text fault
+
+pub found_in : (text : List ℕ) (c : Checked) → IsCheckedAs text c → IsFoundIn text c ⊎ IsFoundBad text c
 found_in text (Unreadable fault) x = inr (fault, refl, x)
 found_in text Holds x = inl x
 found_in text Fails x = inl x
@@ -89,8 +104,8 @@ found_in text (NotTotal dead) x = inl x
 found_in text (NotAWord fork) x = inl x
 found_in text ClosureTooLarge x = inl x
 
-pub told : (text : List ℕ) (c : Checked) → Shows text c → IsCheckedAs text c
-told text (Unreadable fault) x = absurd x.finds
+pub told : (text : List ℕ) (c : Checked) → IsFoundIn text c → IsCheckedAs text c
+told text (Unreadable fault) (p, m, s, is, finds) = absurd finds
 told text Holds x = x
 told text Fails x = x
 told text (NotTotal dead) x = x

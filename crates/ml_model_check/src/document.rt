@@ -1,7 +1,9 @@
 // Reading a document with a structure.
 ghost use Rattle.std.specs.Prelude.{IfOk, IsErrOf};
 ghost use Rattle.ml_base.specs.declared.doc_fault.DocFault.{DocFault};
-ghost use Rattle.ml_model_check.specs.Checked.{IsDocument, IsDocumentFault};
+ghost use Rattle.ml_kripke.specs.BodyRules.{IsFaultOf};
+ghost use Rattle.ml_front.specs.Documents.{IsDocumentFault};
+ghost use Rattle.ml_model_check.specs.Checked.{IsDocument};
 
 use ml_base::DocRefusal;
 use ml_front::{Answer, Problem, read_head};
@@ -29,7 +31,8 @@ pub struct ShownModel {
 /// Cost: linear in the bytes.
 pub fn read_document(alloc: Global, bytes: &[u8]) -> Result<ShownModel, DocRefusal>
     ensures shown { IfOk result (λ d. IsDocument bytes.now d.problem d.model.structure d.model.start) }
-    ensures refused { (fault : DocFault) → IsErrOf result (DocRefusal.Fault fault) → IsDocumentFault bytes.now fault }
+    ensures refused { (fault : DocFault) → IsErrOf result (DocRefusal.Fault fault)
+        → IsDocumentFault Answer.Satisfiable (λ v. IsFaultOf) bytes.now fault }
 {
     let head = read_head(alloc, bytes, Answer::Satisfiable)?;
     match read_model(alloc, head.rest, FIRST_BODY_LINE) {

@@ -14,21 +14,22 @@ use Rattle.ml_refute_check.proofs.Refuted.{refuted_is_unsatisfiable}
 
 pub accepted_is_true : AcceptedIsTrue
 accepted_is_true text a =
-    let head = a.is_document.has_head in
+    let head = a.has_head in
+    let found = a.holds.3 in
     record {
       version = a.version;
       problem = a.problem;
-      body = a.is_document.body;
+      body = a.body;
       has_head = head;
-      holds_nowhere = refuted_is_unsatisfiable a.problem a.holds.graph a.refutation
+      holds = refuted_is_unsatisfiable a.problem found.graph a.holds.0
           (meaningful a.problem.formula (parsed_well head.formula_text a.problem.formula head.is_parsed))
-          a.holds.is_graph a.is_document.is_refutation a.holds.holds;
+          found.is_graph a.holds.1 found.holds;
     }
 
 pub documents_read_back : DocumentsReadBack
-documents_read_back p r well is_refutation = record {
-  body = written_text Two r;
-  has_head = heads_read_back Unsatisfiable Two p (written_text Two r) well;
-  is_refutation = is_refutation;
-  has_body = written_is_text Two r is_refutation;
-}
+documents_read_back p r well is_refutation = (
+  written_text Two r,
+  heads_read_back Unsatisfiable Two p (written_text Two r) well,
+  is_refutation,
+  written_is_text Two r is_refutation,
+)

@@ -1,7 +1,7 @@
 -- Checking a document finds one thing at most.
 --
---   one_document   == a text shows one refutation for one problem, in one version
---   document_fault, one_fault == it has no bad line then, and else one first bad line
+--   shown_both     == two that are true of what a text shows are true of one refutation for one problem
+--   shown_fault, one_fault == a text that shows a refutation has no bad line, and each other one has one first bad line
 --   alike_checked  == documents that show one refutation for one problem are both accepted, or neither is
 --   one_found      == one thing at most is found of a refutation for a problem
 --   one_verdict    == so checking finds one thing at most
@@ -10,14 +10,14 @@ use Rattle.ml_base.specs.declared.doc_fault.DocFault.{DocFault}
 use Rattle.ml_base.specs.declared.version.Version.{Version}
 use Rattle.ml_front.specs.declared.answer.Answer.TheVariants.{Unsatisfiable}
 use Rattle.ml_front.specs.declared.problem.Problem.{Problem}
-use Rattle.ml_front.proofs.HeadLines.{one_head}
-use Rattle.ml_front.proofs.OneFault as head
+use Rattle.ml_front.specs.Documents.{IsDocumentFault, first_body_line}
+use Rattle.ml_front.proofs.Documents.{one_document_fault, shown_no_fault, together}
 use Rattle.ml_refutation.specs.Refutation.{Refutation, IsRefutation}
 use Rattle.ml_refutation.specs.Acceptance.{entry_at, IsAccepted}
 use Rattle.ml_refutation_text.specs.BodyRules.{IsFaultOf, IsTextOf}
 use Rattle.ml_refutation_text.proofs.RefutationTexts as body
 use Rattle.ml_refutation_text.proofs.BodyRead.{one_parts}
-use Rattle.ml_refute_check.specs.Documents.{IsDocument, IsDocumentFault, IsAcceptedDocument, Shows, InGraph, IsRejectedBy, Finds, line_of, first_body_line}
+use Rattle.ml_refute_check.specs.Documents.{IsDocument, IsAcceptedDocument, ShowsRefutation, InGraph, IsRejectedBy, Finds, line_of}
 use Rattle.ml_refute_check.specs.Laws.{AlikeChecked, OneVerdict}
 use Rattle.ml_refute_check.specs.declared.verdict.Verdict.{Verdict}
 use Rattle.ml_refute_check.specs.declared.verdict.Verdict.TheVariants.{Accepted, Unreadable, Rejected}
@@ -25,72 +25,67 @@ use Rattle.ml_refute_check.proofs.AlikeGraphs.{accepted_same, first_bad_same}
 use Rattle.ml_front.proofs.Graphs.{graphs_alike}
 use Rattle.ml_refute_check.proofs.OneFault as parts
 
-pub record OneDocument (v w : Version) (p q : Problem) (r s : Refutation) (one other : List ℕ) : Type 0 where
-  pub versions : v ≡ w
-  pub problems : p ≡ q
-  pub bodies : one ≡ other
-  pub refutations : r ≡ s
-
-pub one_document : (text : List ℕ) (v w : Version) (p q : Problem) (r s : Refutation)
-    (x : IsDocument text v p r) (y : IsDocument text w q s) → OneDocument v w p q r s x.body y.body
-one_document text v w p q r s x y =
-    let heads = one_head Unsatisfiable text v w p q x.body y.body x.has_head y.has_head in
-    let other : IsTextOf v x.body s =
-    subst (λ b. IsTextOf v b s) (sym heads.2) (subst (λ u. IsTextOf u y.body s) (sym heads.0) y.has_body) in
+pub shown_both : (text : List ℕ) (P Q : Version → List ℕ → Problem → Refutation → Type 0)
+    → ShowsRefutation text P
+    → ShowsRefutation text Q
+    → ShowsRefutation text (λ v rest p r. P v rest p r × Q v rest p r)
+shown_both text P Q x y =
+    let both =
+    together Unsatisfiable text (λ v p rest. (r : Refutation) × IsRefutation r × IsTextOf v rest r × P v rest p r)
+    (λ v p rest. (r : Refutation) × IsRefutation r × IsTextOf v rest r × Q v rest p r) x y in
+    let one = both.holds.0 in
+    let other = both.holds.1 in
+    let same =
+    body.one_refutation both.version both.body other.0 one.0 other.1 one.1 other.2 one.2 in
     record {
-      versions = heads.0;
-      problems = heads.1;
-      bodies = heads.2;
-      refutations = body.one_refutation v x.body r s x.is_refutation y.is_refutation x.has_body other;
+      version = both.version;
+      problem = both.problem;
+      body = both.body;
+      has_head = both.has_head;
+      holds = (one.0, one.1, one.2, (one.3, subst (Q both.version both.body both.problem) same other.3));
     }
 
--- what holds of one holds of the other
-moved : {v w : Version} {p q : Problem} {r s : Refutation} {one other : List ℕ}
-    (P : Version → List ℕ → Problem → Refutation → Type 0)
-    → OneDocument v w p q r s one other
-    → P v one p r
-    → P w other q s
-moved {v = v} {w = w} {p = p} {q = q} {r = r} {one = one} {other = other} P same holds =
-    subst (P w other q) same.refutations
-    (subst (λ x. P w other x r) same.problems
-    (subst (λ x. P w x p r) same.bodies (subst (λ x. P x one p r) same.versions holds)))
+-- what holds of them is said of this refutation for this problem
+abbrev OfThese : Problem → Refutation → Version → List ℕ → Problem → Refutation → Type 0
+OfThese p r v rest q s = (q ≡ p) × (s ≡ r)
 
 accepted_so : (text other : List ℕ) (v w : Version) (p : Problem) (r : Refutation)
     → IsDocument text v p r → IsDocument other w p r → IsAcceptedDocument text → IsAcceptedDocument other
 accepted_so text other v w p r x y a =
-    let one = one_document text a.version v a.problem p a.refutation r a.is_document x in
-    record { version = w; problem = p; refutation = r; is_document = y; holds = moved (Finds Accepted) one a.holds }
+    let here : ShowsRefutation text (OfThese p r) = record {
+      version = v;
+      problem = p;
+      body = x.0;
+      has_head = x.1;
+      holds = (r, x.2, x.3, (refl, refl));
+    } in
+    let both = shown_both text (Finds Accepted) (OfThese p r) a here in
+    let same = both.holds.3.1 in
+    let found : InGraph p (λ g. IsAccepted g r) =
+    subst (λ s. InGraph p (λ g. IsAccepted g s)) same.1
+    (subst (λ q. InGraph q (λ g. IsAccepted g both.holds.0)) same.0 both.holds.3.0) in
+    record { version = w; problem = p; body = y.0; has_head = y.1; holds = (r, y.2, y.3, found) }
 
 pub alike_checked : AlikeChecked
 alike_checked text other v w p r x y =
     (accepted_so text other v w p r x y, accepted_so other text w v p r y x)
 
-pub document_fault : (text : List ℕ) (v : Version) (p : Problem) (r : Refutation) (fault : DocFault)
-    → IsDocument text v p r → IsDocumentFault text fault → ⊥
-document_fault text v p r fault x (inl of_head) =
-    head.head_or_fault Unsatisfiable text v p x.body fault x.has_head of_head
-document_fault text v p r fault x (inr of_body) =
-    let heads =
-    one_head Unsatisfiable text v of_body.version p of_body.problem x.body of_body.body x.has_head of_body.has_head in
-    let there : IsFaultOf v x.body first_body_line fault =
-    subst (λ b. IsFaultOf v b first_body_line fault) (sym heads.2)
-    (subst (λ u. IsFaultOf u of_body.body first_body_line fault) (sym heads.0) of_body.is_fault) in
-    body.fault_or_readable v x.body first_body_line fault
-    ((body.readable_is_refutation v x.body).1 (r, x.is_refutation, x.has_body)) there
+pub shown_fault : (text : List ℕ) (P : Version → List ℕ → Problem → Refutation → Type 0) (fault : DocFault)
+    → ShowsRefutation text P
+    → IsDocumentFault Unsatisfiable IsFaultOf text fault
+    → ⊥
+shown_fault text P fault x bad =
+    shown_no_fault Unsatisfiable text IsFaultOf
+    (λ v p rest. (r : Refutation) × IsRefutation r × IsTextOf v rest r × P v rest p r) fault
+    (λ v p rest (r, ok, is, holds).
+    body.fault_or_readable v rest first_body_line fault ((body.readable_is_refutation v rest).1 (r, ok, is))) x bad
 
-one_fault : (text : List ℕ) (e f : DocFault) → IsDocumentFault text e → IsDocumentFault text f → e ≡ f
-one_fault text e f (inl x) (inl y) = head.one_fault Unsatisfiable text e f x y
-one_fault text e f (inl x) (inr y) =
-    absurd (head.head_or_fault Unsatisfiable text y.version y.problem y.body e y.has_head x)
-one_fault text e f (inr x) (inl y) =
-    absurd (head.head_or_fault Unsatisfiable text x.version x.problem x.body f x.has_head y)
-one_fault text e f (inr x) (inr y) =
-    let heads =
-    one_head Unsatisfiable text x.version y.version x.problem y.problem x.body y.body x.has_head y.has_head in
-    let there : IsFaultOf y.version y.body first_body_line e =
-    subst (λ b. IsFaultOf y.version b first_body_line e) heads.2
-    (subst (λ u. IsFaultOf u x.body first_body_line e) heads.0 x.is_fault) in
-    body.one_fault y.version y.body first_body_line e f there y.is_fault
+one_fault : (text : List ℕ) (e f : DocFault)
+    → IsDocumentFault Unsatisfiable IsFaultOf text e
+    → IsDocumentFault Unsatisfiable IsFaultOf text f
+    → e ≡ f
+one_fault text e f x y =
+    one_document_fault Unsatisfiable text IsFaultOf e f (λ v rest. body.one_fault v rest first_body_line e f) x y
 
 -- ---- what is found of one refutation for one problem
 
@@ -151,22 +146,18 @@ module _ (v : Version) (rest : List ℕ) (p : Problem) (r : Refutation) (ok : Is
 
 -- ---- one verdict
 
-one_shown : (text : List ℕ) (v w : Verdict) → Shows text (Finds v) → Shows text (Finds w) → v ≡ w
+one_shown : (text : List ℕ) (v w : Verdict) → ShowsRefutation text (Finds v) → ShowsRefutation text (Finds w) → v ≡ w
 one_shown text v w x y =
-    let one =
-    one_document text x.version y.version x.problem y.problem x.refutation y.refutation x.is_document y.is_document in
-    one_found y.version y.is_document.body y.problem y.refutation y.is_document.is_refutation v w
-    (moved (Finds v) one x.holds) y.holds
-
-shown_fault : (text : List ℕ) (v : Verdict) (fault : DocFault) → Shows text (Finds v) → IsDocumentFault text fault → ⊥
-shown_fault text v fault x = document_fault text x.version x.problem x.refutation fault x.is_document
+    let both = shown_both text (Finds v) (Finds w) x y in
+    let found = both.holds.3 in
+    one_found both.version both.body both.problem both.holds.0 both.holds.1 v w found.0 found.1
 
 pub one_verdict : OneVerdict
 one_verdict text (Unreadable e) (Unreadable f) x y = ap Unreadable (one_fault text e f x y)
-one_verdict text (Unreadable e) Accepted x y = absurd (shown_fault text Accepted e y x)
-one_verdict text (Unreadable e) (Rejected l n) x y = absurd (shown_fault text (Rejected l n) e y x)
-one_verdict text Accepted (Unreadable f) x y = absurd (shown_fault text Accepted f x y)
-one_verdict text (Rejected l n) (Unreadable f) x y = absurd (shown_fault text (Rejected l n) f x y)
+one_verdict text (Unreadable e) Accepted x y = absurd (shown_fault text (Finds Accepted) e y x)
+one_verdict text (Unreadable e) (Rejected l n) x y = absurd (shown_fault text (Finds (Rejected l n)) e y x)
+one_verdict text Accepted (Unreadable f) x y = absurd (shown_fault text (Finds Accepted) f x y)
+one_verdict text (Rejected l n) (Unreadable f) x y = absurd (shown_fault text (Finds (Rejected l n)) f x y)
 one_verdict text Accepted Accepted x y = refl
 one_verdict text Accepted (Rejected l n) x y = one_shown text Accepted (Rejected l n) x y
 one_verdict text (Rejected l n) Accepted x y = one_shown text (Rejected l n) Accepted x y

@@ -1,6 +1,5 @@
 -- Documents that show a refutation, as they are read and rejected.
 --
---   document_of_shown == what was read of a text, it shows
 --   as_many_lines     == as many entries begin at lines as there are
 --   shown_so          == what holds of what was read of a text, of this it shows
 --   accepted_there    == a text whose refutation is accepted
@@ -22,22 +21,12 @@ use Rattle.ml_refutation.specs.declared.refutation.Refutation as held
 use Rattle.ml_refutation_text.specs.PartLines.{parts_from, entry_size}
 use Rattle.ml_refutation_text.specs.declared.lines.EntryLines.{EntryLines}
 use Rattle.ml_refutation_text.specs.declared.lines.Lines.{Lines}
-use Rattle.ml_refute_check.specs.Documents.{Finds, IsAcceptedDocument, IsDocument, IsMigrated, IsRejectedAt, Shows, document_of, formula_line, line_of}
+use Rattle.ml_refute_check.specs.Documents.{Finds, IsAcceptedDocument, IsDocument, IsMigrated, IsRejectedAt, ShowsRefutation, document_of, formula_line, line_of}
 use Rattle.ml_refute_check.specs.declared.verdict.Verdict.TheVariants.{Accepted, Rejected}
 use Rattle.ml_refute_check.specs.private.Parts.{plain, plain_entry}
 use Rattle.ml_refute_check.specs.private.Shown.{IsShown}
 use Rattle.ml_front.proofs.Logics.{parsed_well}
 use Rattle.ml_refute_check.proofs.Accepted.{documents_read_back}
-
-pub document_of_shown : (text : List ℕ) (p : Problem) (r : held.Refutation) (lines : Lines)
-    (shown : IsShown text p r lines)
-    → IsDocument text shown.version p (plain r)
-document_of_shown text p r lines shown = record {
-  body = shown.body;
-  has_head = shown.has_head;
-  is_refutation = r.is_refutation;
-  has_body = shown.has_body;
-}
 
 abbrev pub IsClosed : Problem → Type 0
 IsClosed p = ¬ (HasLargeClosure p MOST_NODES)
@@ -56,14 +45,13 @@ as_many_lines text p r lines shown =
 shown_so : (text : List ℕ) (p : Problem) (r : held.Refutation) (lines : Lines) (shown : IsShown text p r lines)
     (P : Version → List ℕ → Problem → Refutation → Type 0)
     → P shown.version shown.body p (plain r)
-    → Shows text P
-unfolding document_of_shown
+    → ShowsRefutation text P
 shown_so text p r lines shown P holds = record {
   version = shown.version;
   problem = p;
-  refutation = plain r;
-  is_document = document_of_shown text p r lines shown;
-  holds = holds;
+  body = shown.body;
+  has_head = shown.has_head;
+  holds = (plain r, r.is_refutation, shown.has_body, holds);
 }
 
 pub accepted_there : (text : List ℕ) (p : Problem) (r : held.Refutation) (lines : Lines)

@@ -2,14 +2,12 @@
 --
 -- A document shows a refutation for a problem where its head answers `unsatisfiable` about the problem, and its body is
 -- a text of the refutation, in the version that the head tells. Where a document shows none, its first bad line tells
--- why; the lines of the body are counted on from those of the head, so from 6 on. Where the problem's closure is too
--- large, the document is rejected at the line of the formula. Else what is shown is accepted where the refutation
--- breaks no rule of acceptance in the problem's graph, and rejected at the line of the first part that breaks one. Who
--- wrote the document, and how, is asked nowhere.
+-- why. Where the problem's closure is too large, the document is rejected at the line of the formula. Else what is shown
+-- is accepted where the refutation breaks no rule of acceptance in the problem's graph, and rejected at the line of the
+-- first part that breaks one. Who wrote the document, and how, is asked nowhere.
 --
 --   IsDocument text v p r == the text shows, in the version v, the refutation r for the problem p
---   IsDocumentFault text f == f tells the first bad line of the text, and the lowest rule that it breaks
---   Shows text P           == the text shows a refutation for a problem, and P holds of its version, its body and the two
+--   ShowsRefutation text P == the text shows a refutation for a problem, and P is true of its version, its body and the two
 --   InGraph p P            == the closure of the problem p isn't too large, and P holds in its graph
 --   line_of at n k         == the line of part k of an entry with n items, whose parts begin at these lines
 --   IsRejectedBy g v b r line number == the first bad part of r in g, with this lowest rule that it breaks, stands at this
@@ -23,7 +21,6 @@
 --                             two
 --   document_of p r        == the document that is written for the problem p and the refutation r
 use Rattle.std.specs.Prelude.{ℕ, ◌≡◌, ◌⊎◌, ◌+◌, ◌-◌, ◌==◌, nat_lt, List, ◌++◌, Some, length, slice_get, if◌then◌else◌}
-use Rattle.ml_base.specs.declared.doc_fault.DocFault.{DocFault}
 use Rattle.ml_base.specs.declared.version.Version.{Version}
 use Rattle.ml_base.specs.declared.version.Version.TheVariants.{Two}
 use Rattle.ml_lines.specs.Lines.{text_of}
@@ -31,9 +28,10 @@ use Rattle.ml_graph.specs.Graph.{Graph}
 use Rattle.ml_front.specs.declared.answer.Answer.TheVariants.{Unsatisfiable}
 use Rattle.ml_front.specs.declared.problem.Problem.{Problem}
 use Rattle.ml_front.specs.declared.problem.TheConstants.{MOST_NODES}
+use Rattle.ml_front.specs.Documents.{Shows, IsDocumentFault, first_body_line}
 use Rattle.ml_front.specs.Graphs.{HasLargeClosure, IsGraphOf}
 use Rattle.ml_front.specs.Head.{head_lines}
-use Rattle.ml_front.specs.HeadRules.{IsHead, IsHeadFault}
+use Rattle.ml_front.specs.HeadRules.{IsHead}
 use Rattle.ml_front.specs.Problems.{IsSatisfiable}
 use Rattle.ml_refutation.specs.Refutation.{Refutation, IsRefutation}
 use Rattle.ml_refutation.specs.Acceptance.{entry_at, IsAccepted, IsFirstBad}
@@ -45,39 +43,18 @@ use Rattle.ml_refutation_text.specs.declared.lines.EntryLines.{EntryLines}
 use Rattle.ml_refute_check.specs.declared.verdict.Verdict.{Verdict}
 use Rattle.ml_refute_check.specs.declared.verdict.Verdict.TheVariants.{Accepted, Unreadable, Rejected}
 
--- the number of the line of the formula, and that of the first line of a body
+-- the number of the line of the formula
 abbrev pub formula_line : ℕ
 formula_line = 5
 
-abbrev pub first_body_line : ℕ
-first_body_line = 6
-
 -- ---- what a text shows
 
-pub record IsDocument (text : List ℕ) (v : Version) (p : Problem) (r : Refutation) : Type 0 where
-  pub body : List ℕ
-  pub has_head : IsHead Unsatisfiable text v p body
-  pub is_refutation : IsRefutation r
-  pub has_body : IsTextOf v body r
+abbrev pub IsDocument : List ℕ → Version → Problem → Refutation → Type 0
+IsDocument text v p r = (body : List ℕ) × IsHead Unsatisfiable text v p body × IsRefutation r × IsTextOf v body r
 
--- the first bad line is one of a body behind a head
-pub record IsFaultOfBody (text : List ℕ) (fault : DocFault) : Type 0 where
-  pub version : Version
-  pub problem : Problem
-  pub body : List ℕ
-  pub has_head : IsHead Unsatisfiable text version problem body
-  pub is_fault : IsFaultOf version body first_body_line fault
-
-abbrev pub IsDocumentFault : List ℕ → DocFault → Type 0
-IsDocumentFault text fault = IsHeadFault Unsatisfiable text fault ⊎ IsFaultOfBody text fault
-
--- the text shows a refutation for a problem, and this holds of them, and of the version and the body
-pub record Shows (text : List ℕ) (P : Version → List ℕ → Problem → Refutation → Type 0) : Type 0 where
-  pub version : Version
-  pub problem : Problem
-  pub refutation : Refutation
-  pub is_document : IsDocument text version problem refutation
-  pub holds : P version is_document.body problem refutation
+abbrev pub ShowsRefutation : List ℕ → (Version → List ℕ → Problem → Refutation → Type 0) → Type 0
+ShowsRefutation text P =
+    Shows Unsatisfiable text (λ v p body. (r : Refutation) × IsRefutation r × IsTextOf v body r × P v body p r)
 
 -- ---- what checking it finds
 
@@ -115,24 +92,20 @@ Finds (Rejected line number) v body p r =
 Finds (Unreadable fault) v body p r = ⊥
 
 abbrev pub IsAcceptedDocument : List ℕ → Type 0
-IsAcceptedDocument text = Shows text (Finds Accepted)
+IsAcceptedDocument text = ShowsRefutation text (Finds Accepted)
 
 abbrev pub IsRejectedAt : List ℕ → ℕ → ℕ → Type 0
-IsRejectedAt text line number = Shows text (Finds (Rejected line number))
+IsRejectedAt text line number = ShowsRefutation text (Finds (Rejected line number))
 
 abbrev pub IsVerdict : List ℕ → Verdict → Type 0
-IsVerdict text (Unreadable fault) = IsDocumentFault text fault
-IsVerdict text v = Shows text (Finds v)
+IsVerdict text (Unreadable fault) = IsDocumentFault Unsatisfiable IsFaultOf text fault
+IsVerdict text v = ShowsRefutation text (Finds v)
 
 -- ---- what it tells
 
 -- the text answers `unsatisfiable` about a problem, and no admitted structure has a state at which the problem holds
-pub record HoldsNowhere (text : List ℕ) : Type 0 where
-  pub version : Version
-  pub problem : Problem
-  pub body : List ℕ
-  pub has_head : IsHead Unsatisfiable text version problem body
-  pub holds_nowhere : ¬ (IsSatisfiable problem)
+abbrev pub HoldsNowhere : List ℕ → Type 0
+HoldsNowhere text = Shows Unsatisfiable text (λ v p body. ¬ (IsSatisfiable p))
 
 -- ---- what is written
 
@@ -141,4 +114,4 @@ document_of p r = text_of (head_lines Two Unsatisfiable p) ++ written_text Two r
 
 -- the text shows a refutation, and the other one is the document that is written of it, which shows the same
 abbrev pub IsMigrated : (text other : List ℕ) → Type 0
-IsMigrated text other = Shows text (λ v body p r. (other ≡ document_of p r) × IsDocument other Two p r)
+IsMigrated text other = ShowsRefutation text (λ v body p r. (other ≡ document_of p r) × IsDocument other Two p r)

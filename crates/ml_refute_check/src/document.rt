@@ -1,9 +1,11 @@
 // Documents that show a refutation: read, checked, and written anew.
 ghost use Rattle.std.specs.Prelude.{◌≡◌, ◌+◌, ◌<◌, Ok, Some, IfOk, IsErrOf, length, slice_get};
 ghost use Rattle.ml_base.specs.declared.doc_fault.DocFault.{DocFault};
+ghost use Rattle.ml_front.specs.Documents.{IsDocumentFault};
 ghost use Rattle.ml_refutation.specs.Acceptance.{entry_at};
+ghost use Rattle.ml_refutation_text.specs.BodyRules.{IsFaultOf};
 ghost use Rattle.ml_refutation_text.specs.declared.lines.EntryLines.{EntryLines};
-ghost use Rattle.ml_refute_check.specs.Documents.{IsDocumentFault, IsMigrated, IsVerdict, HoldsNowhere, document_of, line_of};
+ghost use Rattle.ml_refute_check.specs.Documents.{IsMigrated, IsVerdict, HoldsNowhere, document_of, line_of};
 ghost use Rattle.ml_refute_check.specs.private.Parts.{plain};
 ghost use Rattle.ml_refute_check.specs.private.Shown.{IsShown};
 
@@ -63,7 +65,8 @@ pub fn check(alloc: Global, bytes: &[u8]) -> Result<Verdict, NoMemory>
 /// Reads a document.
 fn read_document(alloc: Global, bytes: &[u8]) -> Result<Shown, DocRefusal>
     ensures shown { IfOk result (λ shown. IsShown bytes.now shown.problem shown.refutation shown.lines) }
-    ensures refused { (fault : DocFault) → IsErrOf result (DocRefusal.Fault fault) → IsDocumentFault bytes.now fault }
+    ensures refused { (fault : DocFault) → IsErrOf result (DocRefusal.Fault fault)
+        → IsDocumentFault Answer.Unsatisfiable IsFaultOf bytes.now fault }
 {
     let head = read_head(alloc, bytes, Answer::Unsatisfiable)?;
     match read(alloc, head.rest, FIRST_BODY_LINE, head.version) {
@@ -151,7 +154,8 @@ fn line_behind(first: u64, lines: usize) -> Result<u64, NoMemory>
 /// Cost: linear in the bytes and in the document that is written.
 pub fn migrate(alloc: Global, bytes: &[u8]) -> Result<Vec<u8>, DocRefusal>
     ensures written { IfOk result (λ text. IsMigrated bytes.now text.items) }
-    ensures refused { (fault : DocFault) → IsErrOf result (DocRefusal.Fault fault) → IsDocumentFault bytes.now fault }
+    ensures refused { (fault : DocFault) → IsErrOf result (DocRefusal.Fault fault)
+        → IsDocumentFault Answer.Unsatisfiable IsFaultOf bytes.now fault }
 {
     match read_document(alloc, bytes) {
         Ok(shown) => Ok(write_document(alloc, &shown)?),

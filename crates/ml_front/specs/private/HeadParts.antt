@@ -18,7 +18,8 @@ use Rattle.ml_lines.specs.Reading.{lines_of, words_of, word}
 use Rattle.ml_lines.specs.private.Fronts.{GoesOn}
 use Rattle.ml_lists.specs.Documents.{IsFirstBroken}
 use Rattle.ml_front.specs.Logics.{logic_of, IsParsedAs}
-use Rattle.ml_front.specs.HeadRules.{HeadPlace, AtFormula, rules, rule_number, IsHeadFault}
+use Rattle.ml_front.specs.HeadRules.{HeadPlace, AtFormula, rules, IsHeadFault}
+use Rattle.ml_front.specs.RuleNumbers.{rule_number}
 use Rattle.ml_front.specs.declared.answer.Answer.{Answer}
 use Rattle.ml_front.specs.declared.head_rule.HeadRule.{HeadRule}
 use Rattle.ml_front.specs.declared.head_rule.HeadRule.TheVariants.{Parses}

@@ -6,12 +6,12 @@ use Rattle.std.specs.Prelude.{ℕ, List}
 use Rattle.ml_base.specs.declared.version.Version.{Version}
 use Rattle.ml_front.specs.declared.answer.Answer.TheVariants.{Unsatisfiable}
 use Rattle.ml_front.specs.declared.problem.Problem.{Problem}
+use Rattle.ml_front.specs.Documents.{first_body_line}
 use Rattle.ml_front.specs.HeadRules.{IsHead}
 use Rattle.ml_refutation.specs.declared.refutation.Refutation as held
 use Rattle.ml_refutation_text.specs.PartLines.{AreLinesOf}
 use Rattle.ml_refutation_text.specs.BodyRules.{IsTextOf}
 use Rattle.ml_refutation_text.specs.declared.lines.Lines.{Lines}
-use Rattle.ml_refute_check.specs.Documents.{first_body_line}
 use Rattle.ml_refute_check.specs.private.Parts.{plain}
 
 pub record IsShown (text : List ℕ) (p : Problem) (r : held.Refutation) (lines : Lines) : Type 0 where

@@ -9,7 +9,7 @@ new-model-requires c =
     let made = c.in_ok-quotient.ensures in
     let class = c.in_ok-quotient.quotient.class.items in
     let start = c.args.shown.now.model.start in
-    let low : start < length class = omega (arith, made.classes.each_state, c.requires.is_written.is_state) in
+    let low : start < length class = omega (arith, made.classes.each_state, c.requires.2.is_state) in
     let same = get_or_default_zero class start c.index-start.result.now low in
     omega (
       arith,

@@ -13,5 +13,5 @@ returns-in-Err-clause-refused c = λ fault is. inr (record {
   problem = c.in_ok-head.head.problem;
   body = c.in_ok-head.head.rest.now;
   has_head = c.in_ok-head.ensures.read;
-  is_fault = c.in-Err.ensures.refused fault (same_error c.in-Err.refusal _ is);
+  holds = c.in-Err.ensures.refused fault (same_error c.in-Err.refusal _ is);
 })
