@@ -23,6 +23,8 @@ use Rattle.ml_text.specs.Tokens.{tokens}
 use Rattle.ml_text.specs.Words.{constant_of, is_word_from}
 use Rattle.ml_text.specs.Refusals.{signs_of}
 use Rattle.ml_text.specs.Operators.{spelling_of}
+use Rattle.ml_text.specs.Levels.{Joined, Operand}
+use Rattle.ml_text.proofs.LooserLevels.{raised, left_raised, right_raised, loosest}
 use Rattle.ml_text.proofs.ByteKinds.{differs_by}
 use Rattle.ml_text.proofs.NamedSigns.{action_sign, proposition_sign}
 use Rattle.ml_text.proofs.Pieces.{lone, lone_piece, less_piece, not_piece, operator_piece, between_same, ends_word, word_piece}
@@ -45,11 +47,10 @@ use Rattle.ml_pdl.specs.Marks.{asks, is_test_behind, mark_of, with_mark}
 use Rattle.ml_pdl.specs.MarkLaws.{marked}
 use Rattle.ml_pdl.specs.Spelling.{is_action, is_proposition, is_reserved, is_spelled, program_is_spelled}
 use Rattle.ml_pdl.specs.Grammar as grammar
-use Rattle.ml_pdl.specs.Grammar.{Reads, iff_alone, iff, imp_alone, imp, or_alone, or, and, negation, modal, modal_blank, repetition, group, constant}
+use Rattle.ml_pdl.specs.Grammar.{Reads, alone, joined, negation, modal, modal_blank, repetition, group, constant}
 use Rattle.ml_pdl.specs.Grammar.{proposition, ReadsProgram, alt_alone, alt, seq_alone, seq, star_alone, star, action, test, program_group, tested_group}
 use Rattle.ml_pdl.specs.Text.{items, sign_by}
 use Rattle.ml_pdl.specs.TextLaws.{IsTextOf}
-use Rattle.ml_pdl.proofs.FromTables.{un_raised}
 use Rattle.ml_pdl.proofs.MarkBytes.{neutral_test, neutral_word, weaker}
 use Rattle.ml_pdl.proofs.MarkedTexts.{marks_are_of_texts}
 
@@ -421,14 +422,18 @@ marked_action : (b : Bool) (s : Sign) → action_of (with_mark b s) ≡ action_o
 marked_action b Open = refl
 marked_action b _ = refl
 
-binary_read : (o : Operator) (k : Mark) (ts us rest : List Sign) (f g : Formula)
-    → Reads grammar.Un ts f (Connective o ∷ us)
-    → Reads grammar.Un us g (Close ∷ rest)
-    → Reads grammar.Un (Added (Paren k) ∷ ts) (plain.Binary o f g) rest
-binary_read operator.Iff k ts us rest f g a b = group k (iff (un_raised grammar.Imp a) (un_raised grammar.Iff b))
-binary_read operator.Implies k ts us rest f g a b = group k (iff_alone (imp (un_raised grammar.Or a) (un_raised grammar.Imp b)))
-binary_read operator.Or k ts us rest f g a b = group k (iff_alone (imp_alone (or (un_raised grammar.Or a) (un_raised grammar.And b))))
-binary_read operator.And k ts us rest f g a b = group k (iff_alone (imp_alone (or_alone (and (un_raised grammar.And a) b))))
+-- an operand, and two operands with a connective between them, as whole formulas
+pub operand_read : {ts rest : List Sign} {f : Formula} → Reads Operand ts f rest → Reads (Joined operator.Iff) ts f rest
+operand_read {ts} {rest} {f} r = raised (λ l. Reads l ts f rest) alone operator.Iff r
+
+pub operands_read : {ts us rest : List Sign} {f g : Formula} (o : Operator)
+    → Reads Operand ts f (Connective o ∷ us)
+    → Reads Operand us g rest
+    → Reads (Joined operator.Iff) ts (plain.Binary o f g) rest
+operands_read {ts} {us} {rest} {f} {g} o a b =
+    let left = left_raised (λ l. Reads l ts f (Connective o ∷ us)) alone o a in
+    let right = right_raised (λ l. Reads l us g rest) alone o b in
+    loosest (λ l. Reads l ts (plain.Binary o f g) rest) alone o (joined o left right)
 
 star_raised : {ts rest : List Sign} {p : Program}
     → ReadsProgram grammar.Star ts p rest
@@ -445,30 +450,30 @@ group_read b ts rest p is r = subst (λ k. ReadsProgram grammar.Star (Added (Par
 -- and a test
 test_read : (b : Bool) (ts rest : List Sign) (f : Formula)
     → b ≡ true
-    → Reads grammar.Un ts f (Close ∷ Added Question ∷ rest)
+    → Reads Operand ts f (Close ∷ Added Question ∷ rest)
     → ReadsProgram grammar.Star (Added (Paren (mark_of b)) ∷ ts) (plain.Test f) rest
 test_read b ts rest f is r =
     subst (λ k. ReadsProgram grammar.Star (Added (Paren (mark_of k)) ∷ ts) (plain.Test f) rest) (sym is)
-    (star_alone (test refl (tested_group Marked (un_raised grammar.Iff r))))
+    (star_alone (test refl (tested_group Marked (operand_read r))))
 
 -- a modality, by its program
 modal_read : (m : Modality) (p : Program) (f : Formula) (own after : List Spelt) (rest : List Sign)
     → ReadsProgram grammar.Star (signs_with_marks own) p (Added (Ends m) ∷ signs_with_marks after)
-    → Reads grammar.Un (signs_with_marks after) f rest
+    → Reads Operand (signs_with_marks after) f rest
     → (l : List Spelt) → signs_with_marks (lone (end_byte m) ∷ after) ≡ Added (Ends m) ∷ signs_with_marks after
     → l ≡ whole_tokens p own (lone (end_byte m) ∷ after)
-    → Reads grammar.Un (Added (Begins m) ∷ signs_with_marks l) (plain.Modal m p f) rest
+    → Reads Operand (Added (Begins m) ∷ signs_with_marks l) (plain.Modal m p f) rest
 modal_read m p f own after rest a b l last is =
-    subst (λ x. Reads grammar.Un (Added (Begins m) ∷ signs_with_marks x) (plain.Modal m p f) rest) (sym is)
+    subst (λ x. Reads Operand (Added (Begins m) ∷ signs_with_marks x) (plain.Modal m p f) rest) (sym is)
     (⊎_elim
     (λ (is_blank : p ≡ plain.Act (codes "_")).
     subst
-    (λ q. Reads grammar.Un (Added (Begins m) ∷ signs_with_marks (whole_tokens q own (lone (end_byte m) ∷ after)))
+    (λ q. Reads Operand (Added (Begins m) ∷ signs_with_marks (whole_tokens q own (lone (end_byte m) ∷ after)))
     (plain.Modal m q f) rest)
     (sym is_blank)
-    (subst (λ ts. Reads grammar.Un (Added (Begins m) ∷ ts) (plain.Modal m (plain.Act (codes "_")) f) rest) (sym last) (modal_blank m b)))
+    (subst (λ ts. Reads Operand (Added (Begins m) ∷ ts) (plain.Modal m (plain.Act (codes "_")) f) rest) (sym last) (modal_blank m b)))
     (λ (w : IsWhole p).
-    subst (λ x. Reads grammar.Un (Added (Begins m) ∷ signs_with_marks x) (plain.Modal m p f) rest) (sym (w.toks own (lone (end_byte m) ∷ after)))
+    subst (λ x. Reads Operand (Added (Begins m) ∷ signs_with_marks x) (plain.Modal m p f) rest) (sym (w.toks own (lone (end_byte m) ∷ after)))
     (modal m (star_raised a) b))
     (whole_cases p))
 
@@ -476,29 +481,30 @@ mutual
   pub reads_formula : (f : Formula)
       → is_spelled f ≡ true
       → (ss : List Spelt)
-      → Reads grammar.Un (signs_with_marks (tokens_onto f ss)) f (signs_with_marks ss)
+      → Reads Operand (signs_with_marks (tokens_onto f ss)) f (signs_with_marks ss)
   reads_formula (plain.Const true) is ss =
       subst
-      (λ t. Reads grammar.Un (with_mark (is_test_behind 0 (plain_signs ss)) t ∷ signs_with_marks ss) (plain.Const true)
+      (λ t. Reads Operand (with_mark (is_test_behind 0 (plain_signs ss)) t ∷ signs_with_marks ss) (plain.Const true)
       (signs_with_marks ss))
       (sym true_sign) (constant true)
   reads_formula (plain.Const false) is ss =
       subst
       (λ t.
-      Reads grammar.Un (with_mark (is_test_behind 0 (plain_signs ss)) t ∷ signs_with_marks ss) (plain.Const false)
+      Reads Operand (with_mark (is_test_behind 0 (plain_signs ss)) t ∷ signs_with_marks ss) (plain.Const false)
       (signs_with_marks ss))
       (sym false_sign) (constant false)
   reads_formula (plain.Prop p) is ss =
       subst
-      (λ t. Reads grammar.Un (with_mark (is_test_behind 0 (plain_signs ss)) t ∷ signs_with_marks ss) (plain.Prop p)
+      (λ t. Reads Operand (with_mark (is_test_behind 0 (plain_signs ss)) t ∷ signs_with_marks ss) (plain.Prop p)
       (signs_with_marks ss))
       (sym (proposition_sign added p (first_so (is_proposition p) true is))) (proposition p)
   reads_formula (plain.Not f) is ss = negation (reads_formula f is ss)
   reads_formula (plain.Binary o f g) is ss =
       let parts = spelled_parts added (names f) (names g) is in
-      binary_read o _ _ _ (signs_with_marks ss) f g
+      group _
+      (operands_read o
       (reads_formula f parts.0 ((token.Operator o, spelling_of o) ∷ tokens_onto g (lone 41 ∷ ss)))
-      (reads_formula g parts.1 (lone 41 ∷ ss))
+      (reads_formula g parts.1 (lone 41 ∷ ss)))
   reads_formula (plain.Modal Diamond p f) is ss =
       let parts = spelled_parts added (program_names p) (names f) is in
       let after = tokens_onto f ss in
@@ -515,7 +521,7 @@ mutual
       let own = program_onto p (lone 41 ∷ ss) in
       let inside = plain_signs own in
       subst
-      (λ t. Reads grammar.Un
+      (λ t. Reads Operand
       (with_mark (is_test_behind 0 (plain_signs (lone 40 ∷ own))) t ∷ Added (Paren (mark_of (is_test_behind 0 inside)))
       ∷ signs_with_marks own)
       (plain.Repeat p) (signs_with_marks ss))
@@ -570,4 +576,4 @@ canonical_stands f is =
     let text = canonical_text f in
     let signs_are : signs_of (items text) ≡ signs_with_marks (tokens_onto f []) =
     marks_are_of_texts text ∙ ap marked (plain_spelt text (tokens AnyLetter text) ∙ ap plain_signs (canonical_tokens f is)) in
-    subst (λ ts. Reads grammar.Iff ts f []) (sym signs_are) (un_raised grammar.Iff (reads_formula f is []))
+    subst (λ ts. Reads (Joined operator.Iff) ts f []) (sym signs_are) (operand_read (reads_formula f is []))

@@ -8,6 +8,7 @@ use Rattle.std.proofs.Common.{◌≡◌, ℕ, ◌+◌, ◌≤◌, Bool, true, fa
 use Rattle.ml_text.specs.declared.token.Placed.{Placed}
 use Rattle.ml_text.specs.Refusals.{Item, signs_of, counted}
 use Rattle.ml_text.specs.Items as text_items
+use Rattle.ml_text.specs.Levels.{Level}
 use Rattle.ml_pdl.specs.Formula as plain
 use Rattle.ml_pdl.specs.Formula.{Formula, Program, occurrences, program_occurrences}
 use Rattle.ml_pdl.specs.FormulaNames.{names, program_names}
@@ -15,7 +16,7 @@ use Rattle.ml_text.specs.declared.named_signs.Sign.TheVariants.{Lower, Upper, Ad
 use Rattle.ml_pdl.specs.Signs.{Sign, action_of}
 use Rattle.ml_pdl.specs.declared.signs.Own.TheVariants.{Blank}
 use Rattle.ml_pdl.specs.Grammar as grammar
-use Rattle.ml_pdl.specs.Grammar.{Reads, iff_alone, iff, imp_alone, imp, or_alone, or, and_alone, and, negation, modal, modal_blank, repetition}
+use Rattle.ml_pdl.specs.Grammar.{Reads, alone, joined, negation, modal, modal_blank, repetition}
 use Rattle.ml_pdl.specs.Grammar.{group, constant, proposition, ReadsProgram, alt_alone, alt, seq_alone, seq, star_alone, star, action, test}
 use Rattle.ml_pdl.specs.Grammar.{program_group, ReadsTested, tested_negation, tested_constant, tested_proposition, tested_group}
 use Rattle.ml_pdl.specs.Text.{weight_of, begins_modality, pdl_signs, sign_at}
@@ -77,17 +78,11 @@ action_counts a (Upper b) ts is = refl
 action_counts a _ ts is = absurd (cc)
 
 mutual
-  pub counts : {l : grammar.Level} {ts rest : List Sign} {f : Formula}
+  pub counts : {l : Level} {ts rest : List Sign} {f : Formula}
       → Reads l ts f rest
       → count_signs false ts ≡ occurrences f + count_signs false rest
-  counts (iff_alone r) = counts r
-  counts (iff a b) = let x = counts a in let y = counts b in omega (arith, x, y)
-  counts (imp_alone r) = counts r
-  counts (imp a b) = let x = counts a in let y = counts b in omega (arith, x, y)
-  counts (or_alone r) = counts r
-  counts (or a b) = let x = counts a in let y = counts b in omega (arith, x, y)
-  counts (and_alone r) = counts r
-  counts (and a b) = let x = counts a in let y = counts b in omega (arith, x, y)
+  counts (alone o r) = counts r
+  counts (joined o a b) = let x = counts a in let y = counts b in omega (arith, x, y)
   counts (negation r) = let x = counts r in omega (arith, x)
   counts (modal m a b) = let x = program_counts a in let y = counts b in let z = program_first a in omega (arith, x, y, z)
   counts (modal_blank m r) = let x = counts r in omega (arith, x)

@@ -4,14 +4,16 @@
 --   Completes, Enters, Opened, OfMode, OfTurn    == what the grammar reads behind signs of a form, by the form
 --   Untabled p ts v rest                         == what the grammar reads where the tables read the part p
 --   untabled                                     == what the tables read, the grammar reads
-use Rattle.std.proofs.Common.{◌≡◌, ℕ, zero, suc, false, List, ◌∷◌, Option, Some, None, refl, sym, ap, subst, arith, codes}
+use Rattle.std.proofs.Common.{◌≡◌, ℕ, ◌≤◌, zero, suc, false, List, ◌∷◌, Option, Some, None, refl, sym, ap, subst, arith, codes}
 use Rattle.ml_text.specs.declared.token.Operator.{Operator}
 use Rattle.ml_text.specs.declared.token.Operator.TheVariants as operator
 use Rattle.ml_text.specs.Grammar as tables
-use Rattle.ml_text.specs.Grammar.{Whole, More, Read, Inner, Opens, Part, Level, Operand, Rest, Behind, alone, joined, postfixed, form, whole, sign, read, inner, opens, left_level, right_level}
+use Rattle.ml_text.specs.Grammar.{Whole, More, Read, Inner, Opens, Part, Rest, Behind, postfixed, form, whole, sign, read, inner, opens, left_level, right_level}
 use Rattle.ml_text.specs.declared.forms.Role.TheVariants.{Infix, Postfix}
 use Rattle.ml_text.specs.Operators.{operator_level}
+use Rattle.ml_text.specs.Levels.{Level, Joined, Operand, tighter}
 use Rattle.ml_text.proofs.Levels.{looser}
+use Rattle.ml_text.proofs.LevelNumbers.{level_of, joined_is, left_is, right_is, loosened, from_top}
 use Rattle.ml_pdl.specs.Formula as plain
 use Rattle.ml_pdl.specs.Formula.{Formula, Program}
 use Rattle.ml_pdl.specs.declared.term.Modality.{Modality}
@@ -23,36 +25,22 @@ use Rattle.ml_pdl.specs.declared.signs.Own.TheVariants.{Begins, Ends, Repeats, P
 use Rattle.ml_pdl.specs.declared.signs.Mark.{Mark}
 use Rattle.ml_pdl.specs.declared.signs.Mark.TheVariants.{Marked, Unmarked}
 use Rattle.ml_pdl.specs.Grammar as grammar
-use Rattle.ml_pdl.specs.Grammar.{Reads, iff_alone, iff, imp_alone, imp, or_alone, or, and_alone, and, negation, modal, modal_blank, repetition}
+use Rattle.ml_pdl.specs.Grammar.{Reads, alone, joined, negation, modal, modal_blank, repetition}
 use Rattle.ml_pdl.specs.Grammar.{group, constant, proposition, ReadsProgram, alt_alone, alt, seq_alone, seq, star_alone, star, action, test}
 use Rattle.ml_pdl.specs.Grammar.{program_group, ReadsTested, tested_negation, tested_constant, tested_proposition, tested_group}
 use Rattle.ml_pdl.specs.Tables.{Phrase, OfFormula, OfProgram, Name, formula_of, program_of, negated, Sort, Formulas, Programs, Wait, FormulaStart}
 use Rattle.ml_pdl.specs.Tables.{ProgramStart, BehindBegin, BehindProgram, BehindRepeat, BehindRepeatInside, BehindFormulaInside, BehindProgramInside}
 use Rattle.ml_pdl.specs.Tables.{BehindTestInside, BehindNegations, BehindTested, Hold, Negation, ModalProgram, Modal, FormulaGroup, ProgramGroup}
 use Rattle.ml_pdl.specs.Tables.{RepeatGroup, TestGroup, PdlTurn, shift, resume, role, join, post, pdl_grammar}
-use Rattle.ml_pdl.proofs.ToTables.{Tabled}
+use Rattle.ml_pdl.proofs.ToTables.{Tabled, pdl_groups}
 
 -- ---- levels
-
-abbrev pub level_of : ℕ → grammar.Level
-level_of zero = grammar.Iff
-level_of (suc zero) = grammar.Imp
-level_of (suc (suc zero)) = grammar.Or
-level_of (suc (suc (suc zero))) = grammar.And
-level_of (suc (suc (suc (suc l)))) = grammar.Un
 
 -- the levels of programs that have operators between operands
 abbrev pub program_level_of : ℕ → grammar.ProgramLevel
 program_level_of zero = grammar.Prog
 program_level_of (suc zero) = grammar.Seq
 program_level_of (suc (suc l)) = grammar.Star
-
-pub un_raised : (l : grammar.Level) {ts rest : List Sign} {f : Formula} → Reads grammar.Un ts f rest → Reads l ts f rest
-un_raised grammar.Un r = r
-un_raised grammar.And r = and_alone r
-un_raised grammar.Or r = or_alone (and_alone r)
-un_raised grammar.Imp r = imp_alone (or_alone (and_alone r))
-un_raised grammar.Iff r = iff_alone (imp_alone (or_alone (and_alone r)))
 
 base_raised : (l : grammar.ProgramLevel) {ts rest : List Sign} {p : Program}
     → ReadsProgram grammar.Base ts p rest
@@ -64,7 +52,7 @@ base_raised grammar.Prog r = alt_alone (seq_alone (star_alone r))
 
 -- ---- trees
 
-abbrev pub AsFormula : grammar.Level → List Sign → Phrase → List Sign → Type 0
+abbrev pub AsFormula : Level → List Sign → Phrase → List Sign → Type 0
 AsFormula l ts (OfFormula f) rest = Reads l ts f rest
 AsFormula l ts _ rest = ⊥
 
@@ -74,7 +62,7 @@ AsProgram l ts (OfProgram p) rest = ReadsProgram l ts p rest
 AsProgram l ts (Name a) rest = ts ≡ Lower a ∷ rest
 AsProgram l ts (OfFormula f) rest = ⊥
 
-formula_read : (l : grammar.Level) (ts rest : List Sign) (v : Phrase)
+formula_read : (l : Level) (ts rest : List Sign) (v : Phrase)
     → AsFormula l ts v rest
     → Reads l ts (formula_of v) rest
 formula_read l ts rest (OfFormula f) r = r
@@ -92,16 +80,16 @@ program_read l ts rest (Name a) r = subst (λ us. ReadsProgram l us (plain.Act a
 
 -- what the rest of a form makes of the signs that were read of it
 abbrev pub Completes : Wait → List Sign → Phrase → List Sign → Type 0
-Completes FormulaStart ts v rest = AsFormula grammar.Un ts v rest
+Completes FormulaStart ts v rest = AsFormula Operand ts v rest
 Completes ProgramStart ts v rest = AsProgram grammar.Base ts v rest
-Completes (BehindBegin m) ts v rest = AsFormula grammar.Un (Added (Begins m) ∷ ts) v rest
-Completes (BehindProgram m p) ts v rest = (us : List Sign) → ReadsProgram grammar.Prog us p ts → AsFormula grammar.Un (Added (Begins m) ∷ us) v rest
-Completes BehindRepeat ts v rest = AsFormula grammar.Un (Added Repeats ∷ ts) v rest
+Completes (BehindBegin m) ts v rest = AsFormula Operand (Added (Begins m) ∷ ts) v rest
+Completes (BehindProgram m p) ts v rest = (us : List Sign) → ReadsProgram grammar.Prog us p ts → AsFormula Operand (Added (Begins m) ∷ us) v rest
+Completes BehindRepeat ts v rest = AsFormula Operand (Added Repeats ∷ ts) v rest
 Completes (BehindRepeatInside p) ts v rest =
     (us : List Sign) (k : Mark)
     → ReadsProgram grammar.Prog us p ts
-    → AsFormula grammar.Un (Added Repeats ∷ Added (Paren k) ∷ us) v rest
-Completes (BehindFormulaInside h) ts v rest = (us : List Sign) (k : Mark) → Reads grammar.Iff us h ts → AsFormula grammar.Un (Added (Paren k) ∷ us) v rest
+    → AsFormula Operand (Added Repeats ∷ Added (Paren k) ∷ us) v rest
+Completes (BehindFormulaInside h) ts v rest = (us : List Sign) (k : Mark) → Reads (Joined operator.Iff) us h ts → AsFormula Operand (Added (Paren k) ∷ us) v rest
 Completes (BehindProgramInside p) ts v rest =
     (us : List Sign) → ReadsProgram grammar.Prog us p ts → AsProgram grammar.Base (Added (Paren Unmarked) ∷ us) v rest
 Completes (BehindTestInside h) ts v rest = (ts ≡ Close ∷ Added Question ∷ rest) × (OfProgram (plain.Test h) ≡ v)
@@ -110,17 +98,17 @@ Completes (BehindTested h) ts v rest = (ts ≡ Added Question ∷ rest) × (OfPr
 
 -- a held operand with what its form makes of it
 abbrev pub Enters : Hold → List Sign → Phrase → List Sign → Type 0
-Enters Negation ts v rest = (h : Formula) × Reads grammar.Un ts h rest × (OfFormula (plain.Not h) ≡ v)
+Enters Negation ts v rest = (h : Formula) × Reads Operand ts h rest × (OfFormula (plain.Not h) ≡ v)
 Enters (ModalProgram m) ts v rest = Unit {0}
-Enters (Modal m p) ts v rest = (h : Formula) × Reads grammar.Un ts h rest × (OfFormula (plain.Modal m p h) ≡ v)
-Enters FormulaGroup ts v rest = (k : Mark) → AsFormula grammar.Un (Added (Paren k) ∷ ts) v rest
-Enters RepeatGroup ts v rest = (k : Mark) → AsFormula grammar.Un (Added Repeats ∷ Added (Paren k) ∷ ts) v rest
+Enters (Modal m p) ts v rest = (h : Formula) × Reads Operand ts h rest × (OfFormula (plain.Modal m p h) ≡ v)
+Enters FormulaGroup ts v rest = (k : Mark) → AsFormula Operand (Added (Paren k) ∷ ts) v rest
+Enters RepeatGroup ts v rest = (k : Mark) → AsFormula Operand (Added Repeats ∷ Added (Paren k) ∷ ts) v rest
 Enters ProgramGroup ts v rest = AsProgram grammar.Base (Added (Paren Unmarked) ∷ ts) v rest
-Enters (TestGroup n) ts v rest = (h : Formula) × Reads grammar.Iff ts h (Close ∷ Added Question ∷ rest) × (OfProgram (plain.Test (negated n h)) ≡ v)
+Enters (TestGroup n) ts v rest = (h : Formula) × Reads (Joined operator.Iff) ts h (Close ∷ Added Question ∷ rest) × (OfProgram (plain.Test (negated n h)) ≡ v)
 
 -- the same of an operand that begins with the sign itself
 abbrev pub Opened : Hold → List Sign → Phrase → List Sign → Type 0
-Opened (ModalProgram m) ts v rest = AsFormula grammar.Un (Added (Begins m) ∷ ts) v rest
+Opened (ModalProgram m) ts v rest = AsFormula Operand (Added (Begins m) ∷ ts) v rest
 Opened _ ts v rest = Unit {0}
 
 abbrev pub OfMode : tables.Mode Phrase Wait → List Sign → Phrase → List Sign → Type 0
@@ -134,37 +122,42 @@ OfTurn t (Some (Inner k)) ts v rest = Enters k ts v rest
 OfTurn t (Some (Opens k)) ts v rest = Opened k (t ∷ ts) v rest
 
 abbrev pub AtLevel : Sort → ℕ → List Sign → Phrase → List Sign → Type 0
-AtLevel Formulas l ts v rest = AsFormula (level_of l) ts v rest
+AtLevel Formulas l ts v rest = AsFormula (level_of Operand l) ts v rest
 AtLevel Programs l ts v rest = AsProgram (program_level_of l) ts v rest
 
 abbrev pub AsOperand : Sort → List Sign → Phrase → List Sign → Type 0
-AsOperand Formulas ts v rest = AsFormula grammar.Un ts v rest
+AsOperand Formulas ts v rest = AsFormula Operand ts v rest
 AsOperand Programs ts v rest = AsProgram grammar.Star ts v rest
 
 abbrev pub Untabled : Part pdl_grammar → List Sign → Phrase → List Sign → Type 0
-Untabled (Level s l) ts v rest = AtLevel s l ts v rest
-Untabled (Operand s) ts v rest = AsOperand s ts v rest
+Untabled (tables.Level s l) ts v rest = AtLevel s l ts v rest
+Untabled (tables.Operand s) ts v rest = AsOperand s ts v rest
 Untabled (Rest m) ts v rest = OfMode m ts v rest
 Untabled (Behind t turn) ts v rest = OfTurn t turn ts v rest
 
 -- ---- operands alone, and forms
 
-before : (s : Sort) (ts rest : List Sign) (v : Phrase) (l : ℕ) → AtLevel s (suc l) ts v rest → AtLevel s l ts v rest
-before Formulas ts rest (OfFormula f) zero r = iff_alone r
-before Formulas ts rest (OfFormula f) (suc zero) r = imp_alone r
-before Formulas ts rest (OfFormula f) (suc (suc zero)) r = or_alone r
-before Formulas ts rest (OfFormula f) (suc (suc (suc zero))) r = and_alone r
-before Formulas ts rest (OfFormula f) (suc (suc (suc (suc l)))) r = r
-before Programs ts rest (OfProgram p) zero r = alt_alone r
-before Programs ts rest (OfProgram p) (suc zero) r = seq_alone r
-before Programs ts rest (OfProgram p) (suc (suc l)) r = r
-before _ ts rest _ l r = r
+phrase_alone : (o : Operator) (ts rest : List Sign) (v : Phrase)
+    → AsFormula (tighter o) ts v rest
+    → AsFormula (Joined o) ts v rest
+phrase_alone o ts rest (OfFormula f) r = alone o r
+phrase_alone o ts rest _ r = absurd r
+
+before : (ts rest : List Sign) (v : Phrase) (l : ℕ) → AtLevel Programs (suc l) ts v rest → AtLevel Programs l ts v rest
+before ts rest (OfProgram p) zero r = alt_alone r
+before ts rest (OfProgram p) (suc zero) r = seq_alone r
+before ts rest (OfProgram p) (suc (suc l)) r = r
+before ts rest _ l r = r
+
+looser_back : (s : Sort) (ts rest : List Sign) (v : Phrase) (l m : ℕ) → l ≤ m → AtLevel s m ts v rest → AtLevel s l ts v rest
+looser_back Formulas ts rest v l m le r =
+    loosened Operand (λ x. AsFormula x ts v rest) (λ o. phrase_alone o ts rest v) (λ x. x) l m le r
+looser_back Programs ts rest v l m le r = looser (λ n. AtLevel Programs n ts v rest) (before ts rest v) l m le r
 
 alone_back : (s : Sort) (l : ℕ) (ts rest : List Sign) (v : Phrase) → AsOperand s ts v rest → AtLevel s l ts v rest
 alone_back Formulas l ts rest v r =
-    looser (λ n. AtLevel Formulas n ts v rest) (before Formulas ts rest v) l (suc (suc (suc (suc l)))) (omega arith) r
-alone_back Programs l ts rest v r =
-    looser (λ n. AtLevel Programs n ts v rest) (before Programs ts rest v) l (suc (suc l)) (omega arith) r
+    from_top Operand (λ x. AsFormula x ts v rest) (λ o. phrase_alone o ts rest v) (λ x. x) l r
+alone_back Programs l ts rest v r = looser_back Programs ts rest v l (suc (suc l)) (omega arith) r
 
 form_back : (s : Sort) (ts rest : List Sign) (v : Phrase)
     → Completes (Rattle.ml_pdl.specs.Tables.start s) ts v rest
@@ -177,9 +170,9 @@ form_back _ ts rest _ r = r
 -- a formula, or a program, that is equal to the one that is read, with an equal rest
 whole_formula : (ts us rest : List Sign) (f : Formula) (v : Phrase)
     → (OfFormula f ≡ v) × (us ≡ rest)
-    → Reads grammar.Un ts f us
-    → AsFormula grammar.Un ts v rest
-whole_formula ts us rest f v e r = subst (λ x. AsFormula grammar.Un ts x rest) e.0 (subst (λ x. Reads grammar.Un ts f x) e.1 r)
+    → Reads Operand ts f us
+    → AsFormula Operand ts v rest
+whole_formula ts us rest f v e r = subst (λ x. AsFormula Operand ts x rest) e.0 (subst (λ x. Reads Operand ts f x) e.1 r)
 
 whole_program : (ts us rest : List Sign) (p : Program) (v : Phrase)
     → (OfProgram p ≡ v) × (us ≡ rest)
@@ -223,13 +216,13 @@ program_completes _ ts rest v r = absurd r
 -- a formula that a form made of the one that it held
 made_formula : (ts rest : List Sign) (f : Formula) (v : Phrase)
     → OfFormula f ≡ v
-    → Reads grammar.Un ts f rest
-    → AsFormula grammar.Un ts v rest
-made_formula ts rest f v e r = subst (λ x. AsFormula grammar.Un ts x rest) e r
+    → Reads Operand ts f rest
+    → AsFormula Operand ts v rest
+made_formula ts rest f v e r = subst (λ x. AsFormula Operand ts x rest) e r
 
 formula_completes : (t : Sign) (ts rest : List Sign) (v : Phrase)
     → OfTurn t (shift FormulaStart t) ts v rest
-    → AsFormula grammar.Un (t ∷ ts) v rest
+    → AsFormula Operand (t ∷ ts) v rest
 formula_completes Not ts rest v r = made_formula (Not ∷ ts) rest (plain.Not r.0) v r.2 (negation r.1)
 formula_completes (Const b) ts rest v r = whole_formula (Const b ∷ ts) ts rest (plain.Const b) v r (constant b)
 formula_completes (Lower p) ts rest v r = whole_formula (Lower p ∷ ts) ts rest (plain.Prop p) v r (proposition p)
@@ -240,7 +233,7 @@ formula_completes _ ts rest v r = absurd r
 
 begin_completes : (m : Modality) (t : Sign) (ts rest : List Sign) (v : Phrase)
     → OfTurn t (shift (BehindBegin m) t) ts v rest
-    → AsFormula grammar.Un (Added (Begins m) ∷ t ∷ ts) v rest
+    → AsFormula Operand (Added (Begins m) ∷ t ∷ ts) v rest
 begin_completes Diamond (Added (Ends Diamond)) ts rest v r =
     made_formula (Added (Begins Diamond) ∷ Added (Ends Diamond) ∷ ts) rest (plain.Modal Diamond (plain.Act (codes "_")) r.0) v r.2
     (modal_blank Diamond r.1)
@@ -256,7 +249,7 @@ end_completes : (m : Modality) (p : Program) (t : Sign) (ts rest : List Sign) (v
     → OfTurn t (shift (BehindProgram m p) t) ts v rest
     → (us : List Sign)
     → ReadsProgram grammar.Prog us p (t ∷ ts)
-    → AsFormula grammar.Un (Added (Begins m) ∷ us) v rest
+    → AsFormula Operand (Added (Begins m) ∷ us) v rest
 end_completes Diamond p (Added (Ends Diamond)) ts rest v r us a =
     made_formula (Added (Begins Diamond) ∷ us) rest (plain.Modal Diamond p r.0) v r.2 (modal Diamond a r.1)
 end_completes Square p (Added (Ends Square)) ts rest v r us a = made_formula (Added (Begins Square) ∷ us) rest (plain.Modal Square p r.0) v r.2 (modal Square a r.1)
@@ -290,11 +283,11 @@ sign_completes (BehindTested h) _ ts rest v r = absurd r
 -- ---- held operands
 
 -- what is held as a formula, and then passed on
-held_formula : (ts us : List Sign) (w : Phrase) → AtLevel Formulas 4 ts w us → Reads grammar.Un ts (formula_of w) us
-held_formula ts us w a = formula_read grammar.Un ts us w a
+held_formula : (ts us : List Sign) (w : Phrase) → AtLevel Formulas 4 ts w us → Reads Operand ts (formula_of w) us
+held_formula ts us w a = formula_read Operand ts us w a
 
-held_group : (ts us : List Sign) (w : Phrase) → AtLevel Formulas 0 ts w us → Reads grammar.Iff ts (formula_of w) us
-held_group ts us w a = formula_read grammar.Iff ts us w a
+held_group : (ts us : List Sign) (w : Phrase) → AtLevel Formulas 0 ts w us → Reads (Joined operator.Iff) ts (formula_of w) us
+held_group ts us w a = formula_read (Joined operator.Iff) ts us w a
 
 held_program : (ts us : List Sign) (w : Phrase)
     → AtLevel Programs 0 ts w us
@@ -305,13 +298,13 @@ inner_enters : (k : Hold) (ts us rest : List Sign) (w v : Phrase)
     → AtLevel (Rattle.ml_pdl.specs.Tables.sort k) (Rattle.ml_pdl.specs.Tables.level k) ts w us
     → OfMode (resume k w) us v rest
     → Enters k ts v rest
-inner_enters Negation ts us rest w v a r = (formula_of w, subst (λ x. Reads grammar.Un ts (formula_of w) x) r.1 (held_formula ts us w a), r.0)
+inner_enters Negation ts us rest w v a r = (formula_of w, subst (λ x. Reads Operand ts (formula_of w) x) r.1 (held_formula ts us w a), r.0)
 inner_enters (ModalProgram m) ts us rest w v a r = tt
-inner_enters (Modal m p) ts us rest w v a r = (formula_of w, subst (λ x. Reads grammar.Un ts (formula_of w) x) r.1 (held_formula ts us w a), r.0)
+inner_enters (Modal m p) ts us rest w v a r = (formula_of w, subst (λ x. Reads Operand ts (formula_of w) x) r.1 (held_formula ts us w a), r.0)
 inner_enters FormulaGroup ts us rest w v a r = λ k. r ts k (held_group ts us w a)
 inner_enters RepeatGroup ts us rest w v a r = λ k. r ts k (held_program ts us w a)
 inner_enters ProgramGroup ts us rest w v a r = r ts (held_program ts us w a)
-inner_enters (TestGroup n) ts us rest w v a r = (formula_of w, subst (λ x. Reads grammar.Iff ts (formula_of w) x) r.0 (held_group ts us w a), r.1)
+inner_enters (TestGroup n) ts us rest w v a r = (formula_of w, subst (λ x. Reads (Joined operator.Iff) ts (formula_of w) x) r.0 (held_group ts us w a), r.1)
 
 opens_enters : (k : Hold) (ts us rest : List Sign) (w v : Phrase)
     → AtLevel (Rattle.ml_pdl.specs.Tables.sort k) (Rattle.ml_pdl.specs.Tables.level k) ts w us
@@ -322,22 +315,9 @@ opens_enters _ ts us rest w v a r = tt
 
 -- ---- operators
 
-joined_formula : (o : Operator) (ts us rest : List Sign) (v w : Phrase)
-    → AtLevel Formulas (left_level pdl_grammar Formulas (operator_level o)) ts v (Connective o ∷ us)
-    → AtLevel Formulas (right_level pdl_grammar Formulas (operator_level o)) us w rest
-    → Reads (level_of (operator_level o)) ts (plain.Binary o (formula_of v) (formula_of w)) rest
-joined_formula operator.Iff ts us rest v w a b =
-    iff (formula_read grammar.Imp ts (Connective operator.Iff ∷ us) v a) (formula_read grammar.Iff us rest w b)
-joined_formula operator.Implies ts us rest v w a b =
-    imp (formula_read grammar.Or ts (Connective operator.Implies ∷ us) v a) (formula_read grammar.Imp us rest w b)
-joined_formula operator.Or ts us rest v w a b =
-    or (formula_read grammar.Or ts (Connective operator.Or ∷ us) v a) (formula_read grammar.And us rest w b)
-joined_formula operator.And ts us rest v w a b =
-    and (formula_read grammar.And ts (Connective operator.And ∷ us) v a) (formula_read grammar.Un us rest w b)
-
 -- what is read at the level that an operator has
-abbrev pub Joined : Sort → ℕ → Sign → List Sign → Phrase → Phrase → List Sign → Type 0
-Joined s m o ts v w rest =
+abbrev pub Joins : Sort → ℕ → Sign → List Sign → Phrase → Phrase → List Sign → Type 0
+Joins s m o ts v w rest =
     (us : List Sign)
     → AtLevel s (left_level pdl_grammar s m) ts v (o ∷ us)
     → AtLevel s (right_level pdl_grammar s m) us w rest
@@ -345,18 +325,22 @@ Joined s m o ts v w rest =
 
 joined_back : (s : Sort) (o : Sign) (m : ℕ) (ts rest : List Sign) (v w : Phrase)
     → role s o ≡ Infix m
-    → Joined s m o ts v w rest
+    → Joins s m o ts v w rest
 joined_back Formulas (Connective o) m ts rest v w is =
     let same : operator_level o ≡ m = cc in
-    subst (λ n. Joined Formulas n (Connective o) ts v w rest) same (λ us a b. joined_formula o ts us rest v w a b)
+    λ us a b.
+    let left = subst (λ l. AsFormula l ts v (Connective o ∷ us)) (left_is pdl_grammar Formulas pdl_groups Operand o m same) a in
+    let right = subst (λ l. AsFormula l us w rest) (right_is pdl_grammar Formulas pdl_groups Operand o m same) b in
+    subst (λ l. AsFormula l ts (join (Connective o) v w) rest) (sym (joined_is Operand o m same))
+    (joined o (formula_read _ ts (Connective o ∷ us) v left) (formula_read _ us rest w right))
 joined_back Formulas _ m ts rest v w is = absurd (cc)
 joined_back Programs (Added Plus) m ts rest v w is =
     let same : 0 ≡ m = cc in
-    subst (λ n. Joined Programs n (Added Plus) ts v w rest) same
+    subst (λ n. Joins Programs n (Added Plus) ts v w rest) same
     (λ us a b. alt (program_read grammar.Prog ts (Added Plus ∷ us) v a) (program_read grammar.Seq us rest w b))
 joined_back Programs (Added Semicolon) m ts rest v w is =
     let same : 1 ≡ m = cc in
-    subst (λ n. Joined Programs n (Added Semicolon) ts v w rest) same
+    subst (λ n. Joins Programs n (Added Semicolon) ts v w rest) same
     (λ us a b. seq (program_read grammar.Seq ts (Added Semicolon ∷ us) v a) (program_read grammar.Star us rest w b))
 joined_back Programs _ m ts rest v w is = absurd (cc)
 
@@ -395,9 +379,9 @@ post_back Programs _ ts rest v h is makes r = absurd (cc)
 -- ---- all of it
 
 pub untabled : {p : Part pdl_grammar} {ts rest : List Sign} {v : Phrase} → Tabled p ts v rest → Untabled p ts v rest
-untabled (alone {s = s} {l = l} {ts = ts} {rest = rest} {f = v} r) = alone_back s l ts rest v (untabled r)
-untabled (joined {s = s} {l = l} {ts = ts} {us = us} {rest = rest} {f = v} {h = w} o m is le a b) =
-    looser (λ n. AtLevel s n ts (join o v w) rest) (before s ts rest (join o v w)) l m le
+untabled (tables.alone {s = s} {l = l} {ts = ts} {rest = rest} {f = v} r) = alone_back s l ts rest v (untabled r)
+untabled (tables.joined {s = s} {l = l} {ts = ts} {us = us} {rest = rest} {f = v} {h = w} o m is le a b) =
+    looser_back s ts rest (join o v w) l m le
     (joined_back s o m ts rest v w is us (untabled a) (untabled b))
 untabled (postfixed {s = s} {ts = ts} {rest = rest} {f = v} {h = h} o is makes r) = post_back s o ts rest v h is makes (untabled r)
 untabled (form {s = s} {ts = ts} {rest = rest} {f = v} r) = form_back s ts rest v (untabled r)

@@ -7,6 +7,8 @@
 --   one_formula     == signs stand for one formula at most
 use Rattle.std.proofs.Common.{◌≡◌, true, List, [], ◌∷◌, ◌++◌, Some, refl, ap, subst}
 use Rattle.ml_text.specs.Grammar.{More, Inner, Opens, Behind, Operand, Rest, alone, inner, sign, read, form, whole, front, IsStop, IsRegular, Ending, IsCompletable, StandsFor}
+use Rattle.ml_text.specs.declared.token.Operator.TheVariants.{Iff}
+use Rattle.ml_text.specs.Levels.{Joined}
 use Rattle.ml_text.proofs.Complete.{one_tree}
 use Rattle.ml_pdl.specs.Formula as plain
 use Rattle.ml_pdl.specs.Formula.{Formula, Program}
@@ -15,7 +17,6 @@ use Rattle.ml_text.specs.declared.named_signs.Sign.TheVariants.{Not, Const, Clos
 use Rattle.ml_pdl.specs.Signs.{Sign}
 use Rattle.ml_pdl.specs.declared.signs.Own.TheVariants.{Begins, Blank, Ends, Paren, Question, Repeats}
 use Rattle.ml_pdl.specs.declared.signs.Mark.TheVariants.{Marked, Unmarked}
-use Rattle.ml_pdl.specs.Grammar as grammar
 use Rattle.ml_pdl.specs.Grammar.{IsReadAs}
 use Rattle.ml_pdl.specs.Tables.{Phrase, OfFormula, OfProgram, Name, formula_of, program_of, negated, Sort, Formulas, Programs, Wait}
 use Rattle.ml_pdl.specs.Tables.{FormulaStart, ProgramStart, BehindBegin, BehindProgram, BehindRepeat, BehindRepeatInside, BehindFormulaInside}
@@ -46,7 +47,7 @@ read_true rest = form (sign (read whole))
 
 modal_true : (t : Sign) (m : Modality) (p : Program) (rest : List Sign)
     → Tabled (Behind t (Some (Inner (Modal m p)))) (Const true ∷ rest) (OfFormula (plain.Modal m p (plain.Const true))) rest
-modal_true t m p rest = modal_read m p (read_true rest)
+modal_true t m p rest = modal_read m p (alone (read_true rest))
 
 test_end : (f : Formula) (rest : List Sign)
     → Tabled (Rest (More (BehindTested f))) (Added Question ∷ rest) (OfProgram (plain.Test f)) rest
@@ -130,7 +131,7 @@ pdl_completable = record { ending = ending; closes = closes }
 
 -- the tree of a whole text is a formula
 formula_stands : (ts : List Sign) (v : Phrase)
-    → AsFormula grammar.Iff ts v []
+    → AsFormula (Joined Iff) ts v []
     → (f : Formula) × (OfFormula f ≡ v) × IsReadAs ts f
 formula_stands ts (OfFormula f) r = (f, refl, r)
 formula_stands ts (OfProgram p) r = absurd r

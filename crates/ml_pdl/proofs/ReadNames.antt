@@ -11,6 +11,7 @@ use Rattle.ml_text.specs.declared.token.WordStart.TheVariants.{AnyLetter}
 use Rattle.ml_text.specs.Tokens.{tokens}
 use Rattle.ml_text.specs.Refusals.{NameTooLong, IsAccepted}
 use Rattle.ml_text.specs.Items.{bytes_of}
+use Rattle.ml_text.specs.Levels.{Level}
 use Rattle.ml_text.specs.Names.{Action, KindedName, IsShortName}
 use Rattle.ml_text.specs.SignKinds.{HasShortName}
 use Rattle.ml_text.specs.declared.named_signs.Sign.TheVariants.{Open, Lower, Upper, Added}
@@ -21,7 +22,7 @@ use Rattle.ml_text.proofs.TableItems.{signs_all, signs_short}
 use Rattle.ml_pdl.specs.Formula.{Formula, Program}
 use Rattle.ml_pdl.specs.FormulaNames.{names, program_names}
 use Rattle.ml_pdl.specs.Grammar as grammar
-use Rattle.ml_pdl.specs.Grammar.{IsReadAs, Reads, iff_alone, iff, imp_alone, imp, or_alone, or, and_alone, and, negation, modal, modal_blank}
+use Rattle.ml_pdl.specs.Grammar.{IsReadAs, Reads, alone, joined, negation, modal, modal_blank}
 use Rattle.ml_pdl.specs.Grammar.{repetition, group, constant, proposition, ReadsProgram, alt_alone, alt, seq_alone, seq, star_alone, star, action}
 use Rattle.ml_pdl.specs.Grammar.{test, program_group, ReadsTested, tested_negation, tested_constant, tested_proposition, tested_group}
 use Rattle.ml_pdl.specs.Signs.{Sign, action_of, own}
@@ -62,21 +63,12 @@ module _ (P : KindedName → Type 0) (any : P (Action, codes "_")) where
   both xs ys rest left right = (all_both P xs ys left right.0, right.1)
 
   mutual
-    pub reads_names : {l : grammar.Level} {ts rest : List Sign} {f : Formula}
+    pub reads_names : {l : Level} {ts rest : List Sign} {f : Formula}
         → Reads l ts f rest
         → All ts
         → Keep (names f) rest
-    reads_names (iff_alone r) is = reads_names r is
-    reads_names (iff {f = f} {g = g} a b) is =
-        let x = reads_names a is in both (names f) (names g) _ x.0 (reads_names b (x.1).1)
-    reads_names (imp_alone r) is = reads_names r is
-    reads_names (imp {f = f} {g = g} a b) is =
-        let x = reads_names a is in both (names f) (names g) _ x.0 (reads_names b (x.1).1)
-    reads_names (or_alone r) is = reads_names r is
-    reads_names (or {f = f} {g = g} a b) is =
-        let x = reads_names a is in both (names f) (names g) _ x.0 (reads_names b (x.1).1)
-    reads_names (and_alone r) is = reads_names r is
-    reads_names (and {f = f} {g = g} a b) is =
+    reads_names (alone o r) is = reads_names r is
+    reads_names (joined {f = f} {g = g} o a b) is =
         let x = reads_names a is in both (names f) (names g) _ x.0 (reads_names b (x.1).1)
     reads_names (negation r) is = reads_names r is.1
     reads_names (modal {p = p} {f = f} m a b) is =

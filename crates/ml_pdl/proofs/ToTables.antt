@@ -11,7 +11,10 @@ use Rattle.ml_text.specs.declared.token.Operator.TheVariants as operator
 use Rattle.ml_text.specs.Grammar as tables
 use Rattle.ml_text.specs.Grammar.{More, Inner, Opens, Part, Level, Operand, Rest, Behind, alone, joined, postfixed, form, whole, sign, read, inner, opens, takes, front}
 use Rattle.ml_text.proofs.Fronts.{BeginsWith, begins_with}
+use Rattle.ml_text.specs.Levels as levels
+use Rattle.ml_text.specs.Operators.{operator_level}
 use Rattle.ml_text.proofs.Levels.{loosen}
+use Rattle.ml_text.proofs.LevelNumbers.{GroupsConnectives, number, tighter_above, left_below, right_below}
 use Rattle.ml_pdl.specs.Formula as plain
 use Rattle.ml_pdl.specs.Formula.{Formula, Program}
 use Rattle.ml_pdl.specs.declared.term.Modality.{Modality}
@@ -23,7 +26,7 @@ use Rattle.ml_pdl.specs.declared.signs.Own.TheVariants.{Begins, Ends, Repeats, P
 use Rattle.ml_pdl.specs.declared.signs.Mark.{Mark}
 use Rattle.ml_pdl.specs.declared.signs.Mark.TheVariants.{Marked, Unmarked}
 use Rattle.ml_pdl.specs.Grammar as grammar
-use Rattle.ml_pdl.specs.Grammar.{Reads, iff_alone, iff, imp_alone, imp, or_alone, or, and_alone, and, negation, modal, modal_blank, repetition, group}
+use Rattle.ml_pdl.specs.Grammar.{Reads, negation, modal, modal_blank, repetition, group}
 use Rattle.ml_pdl.specs.Grammar.{constant, proposition, ReadsProgram, alt_alone, alt, seq_alone, seq, star_alone, star, action, test, program_group}
 use Rattle.ml_pdl.specs.Grammar.{ReadsTested, tested_negation, tested_constant, tested_proposition, tested_group, opens_program}
 use Rattle.ml_pdl.specs.Tables.{Phrase, OfFormula, OfProgram, Name, program_of, negated, Formulas, Programs, BehindBegin, BehindProgram}
@@ -40,13 +43,6 @@ TabledTested ts f rest =
     (n : ℕ) (v : Phrase) (out : List Sign)
     → Tabled (Rest (More (BehindTested (negated n f)))) rest v out
     → Tabled (Rest (More (BehindNegations n))) ts v out
-
-abbrev pub part : grammar.Level → Part pdl_grammar
-part grammar.Iff = Level Formulas 0
-part grammar.Imp = Level Formulas 1
-part grammar.Or = Level Formulas 2
-part grammar.And = Level Formulas 3
-part grammar.Un = Operand Formulas
 
 abbrev pub program_part : grammar.ProgramLevel → Part pdl_grammar
 program_part grammar.Prog = Level Programs 0
@@ -91,14 +87,14 @@ begin_program Diamond _ goes = refl
 begin_program Square _ goes = refl
 
 pub modal_read : {t : Sign} {ts rest : List Sign} {f : Formula} (m : Modality) (p : Program)
-    → Tabled (Operand Formulas) ts (OfFormula f) rest
+    → Tabled (Level Formulas 4) ts (OfFormula f) rest
     → Tabled (Behind t (Some (Inner (Modal m p)))) ts (OfFormula (plain.Modal m p f)) rest
-modal_read {rest = rest} m p r = inner (alone r) (tight (front rest)) whole
+modal_read {rest = rest} m p r = inner r (tight (front rest)) whole
 
 -- behind the program of a modality
 program_read : {ts rest : List Sign} {f : Formula} (m : Modality) (p q : Program)
     → p ≡ q
-    → Tabled (Operand Formulas) ts (OfFormula f) rest
+    → Tabled (Level Formulas 4) ts (OfFormula f) rest
     → Tabled (Rest (More (BehindProgram m p))) (Added (Ends m) ∷ ts) (OfFormula (plain.Modal m q f)) rest
 program_read {ts} {rest} {f} m p q same r =
     subst (λ x. Tabled (Rest (More (BehindProgram m p))) (Added (Ends m) ∷ ts) (OfFormula (plain.Modal m x f)) rest) same
@@ -117,7 +113,7 @@ opened m (t ∷ ts) us rest v w r begins later = sign_by (Some (Opens (ModalProg
 
 modal_tabled : {ts us rest : List Sign} {p : Program} {f : Formula} (m : Modality)
     → TabledProgram (Level Programs 0) ts p (Added (Ends m) ∷ us)
-    → Tabled (Operand Formulas) us (OfFormula f) rest
+    → Tabled (Level Formulas 4) us (OfFormula f) rest
     → Tabled (Operand Formulas) (Added (Begins m) ∷ ts) (OfFormula (plain.Modal m p f)) rest
 modal_tabled {ts} {us} {rest} {p} {f} m a b =
     form
@@ -198,25 +194,29 @@ repeat_tabled {ts} {rest} {p} k a =
 
 -- ---- all of it
 
+pub pdl_groups : GroupsConnectives pdl_grammar Formulas
+pdl_groups operator.Iff = refl
+pdl_groups operator.Implies = refl
+pdl_groups operator.Or = refl
+pdl_groups operator.And = refl
+
 mutual
-  pub tabled : {l : grammar.Level} {ts rest : List Sign} {f : Formula}
+  pub tabled : {l : levels.Level} {ts rest : List Sign} {f : Formula}
       → Reads l ts f rest
-      → Tabled (part l) ts (OfFormula f) rest
-  tabled (iff_alone r) = loosen pdl_grammar 0 (omega arith) (tabled r)
-  tabled (iff a b) = joined (Connective operator.Iff) 0 refl (omega arith) (tabled a) (tabled b)
-  tabled (imp_alone r) = loosen pdl_grammar 1 (omega arith) (tabled r)
-  tabled (imp a b) = joined (Connective operator.Implies) 1 refl (omega arith) (tabled a) (tabled b)
-  tabled (or_alone r) = loosen pdl_grammar 2 (omega arith) (tabled r)
-  tabled (or a b) = joined (Connective operator.Or) 2 refl (omega arith) (tabled a) (tabled b)
-  tabled (and_alone r) = alone (tabled r)
-  tabled (and a b) = joined (Connective operator.And) 3 refl (omega arith) (tabled a) (alone (tabled b))
-  tabled (negation {rest = rest} r) = form (sign (inner (alone (tabled r)) (tight (front rest)) whole))
-  tabled (modal m a b) = modal_tabled m (tabled_program a) (tabled b)
-  tabled (modal_blank m r) = form (sign (read (sign_by (Some (Inner (Modal m blank))) (begin_end m) (modal_read m blank (tabled r)))))
-  tabled (repetition k r) = repeat_tabled k (tabled_program r)
-  tabled (group k r) = form (sign (inner (tabled r) refl (sign (read whole))))
-  tabled (constant b) = form (sign (read whole))
-  tabled (proposition p) = form (sign (read whole))
+      → Tabled (Level Formulas (number l)) ts (OfFormula f) rest
+  tabled (grammar.alone o r) = loosen pdl_grammar (operator_level o) (tighter_above o) (tabled r)
+  tabled (grammar.joined o a b) =
+      joined (Connective o) (operator_level o) refl (omega arith)
+      (loosen pdl_grammar _ (left_below pdl_grammar Formulas pdl_groups o) (tabled a))
+      (loosen pdl_grammar _ (right_below pdl_grammar Formulas pdl_groups o) (tabled b))
+  tabled (negation {rest = rest} r) = alone (form (sign (inner (tabled r) (tight (front rest)) whole)))
+  tabled (modal m a b) = alone (modal_tabled m (tabled_program a) (tabled b))
+  tabled (modal_blank m r) =
+      alone (form (sign (read (sign_by (Some (Inner (Modal m blank))) (begin_end m) (modal_read m blank (tabled r))))))
+  tabled (repetition k r) = alone (repeat_tabled k (tabled_program r))
+  tabled (group k r) = alone (form (sign (inner (tabled r) refl (sign (read whole)))))
+  tabled (constant b) = alone (form (sign (read whole)))
+  tabled (proposition p) = alone (form (sign (read whole)))
 
   pub tabled_program : {l : grammar.ProgramLevel} {ts rest : List Sign} {p : Program}
       → ReadsProgram l ts p rest

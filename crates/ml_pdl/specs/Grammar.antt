@@ -14,7 +14,9 @@
 -- test and an unmarked one a program; elsewhere the mark means nothing.
 --
 -- The grammar is a relation with what is left over: Reads l ts f rest says that the signs ts begin with the formula f
--- as the level l, and that rest follows. So each rule reads as its line above.
+-- as the level l, and that rest follows. So each rule reads as its line above; only the lines of iff, imp, or and and are
+-- said at once, for any connective, by the levels that connectives have in all logics. There iff is the level
+-- `Joined Iff`, and un is `Operand`.
 --
 --   Reads l ts f rest        == ts begins with the formula f at the level l, and rest follows it
 --   ReadsProgram l ts p rest == the same of the program p
@@ -22,7 +24,9 @@
 --   opens_program ts         == does ts begin with an unmarked `(`?
 --   IsReadAs ts f            == the signs ts, all of them, are a text of f
 use Rattle.std.specs.Prelude.{◌≡◌, ℕ, Bool, true, false, List, [], ◌∷◌, Some, codes}
-use Rattle.ml_text.specs.declared.token.Operator.TheVariants as operator
+use Rattle.ml_text.specs.declared.token.Operator.{Operator}
+use Rattle.ml_text.specs.declared.token.Operator.TheVariants.{Iff}
+use Rattle.ml_text.specs.Levels.{Level, Joined, Operand, tighter, left_level, right_level}
 use Rattle.ml_pdl.specs.Formula as plain
 use Rattle.ml_pdl.specs.Formula.{Formula, Program}
 use Rattle.ml_pdl.specs.declared.term.Modality.{Modality}
@@ -33,9 +37,6 @@ use Rattle.ml_pdl.specs.declared.signs.Own.TheVariants.{Begins, Ends, Repeats, P
 use Rattle.ml_pdl.specs.declared.signs.Mark.{Mark}
 use Rattle.ml_pdl.specs.declared.signs.Mark.TheVariants.{Unmarked}
 
-pub data Level : Type 0 where
-  Iff Imp Or And Un : Level
-
 pub data ProgramLevel : Type 0 where
   Prog Seq Star Base : ProgramLevel
 
@@ -45,53 +46,35 @@ opens_program _ = false
 
 mutual
   pub data Reads : Level → List Sign → Formula → List Sign → Type 0 where
-    -- iff = imp [ IFF iff ]
-    iff_alone : {ts rest : List Sign} {f : Formula} → Reads Imp ts f rest → Reads Iff ts f rest
-    iff : {ts us rest : List Sign} {f g : Formula}
-        → Reads Imp ts f (Connective operator.Iff ∷ us)
-        → Reads Iff us g rest
-        → Reads Iff ts (plain.Binary operator.Iff f g) rest
-    -- imp = or [ IMP imp ]
-    imp_alone : {ts rest : List Sign} {f : Formula} → Reads Or ts f rest → Reads Imp ts f rest
-    imp : {ts us rest : List Sign} {f g : Formula}
-        → Reads Or ts f (Connective operator.Implies ∷ us)
-        → Reads Imp us g rest
-        → Reads Imp ts (plain.Binary operator.Implies f g) rest
-    -- or = and { OR and }
-    or_alone : {ts rest : List Sign} {f : Formula} → Reads And ts f rest → Reads Or ts f rest
-    or : {ts us rest : List Sign} {f g : Formula}
-        → Reads Or ts f (Connective operator.Or ∷ us)
-        → Reads And us g rest
-        → Reads Or ts (plain.Binary operator.Or f g) rest
-    -- and = un { AND un }
-    and_alone : {ts rest : List Sign} {f : Formula} → Reads Un ts f rest → Reads And ts f rest
-    and : {ts us rest : List Sign} {f g : Formula}
-        → Reads And ts f (Connective operator.And ∷ us)
-        → Reads Un us g rest
-        → Reads And ts (plain.Binary operator.And f g) rest
+    -- iff = imp [ IFF iff ], imp = or [ IMP imp ], or = and { OR and }, and = un { AND un }
+    alone : {ts rest : List Sign} {f : Formula} (o : Operator) → Reads (tighter o) ts f rest → Reads (Joined o) ts f rest
+    joined : {ts us rest : List Sign} {f g : Formula} (o : Operator)
+        → Reads (left_level o) ts f (Connective o ∷ us)
+        → Reads (right_level o) us g rest
+        → Reads (Joined o) ts (plain.Binary o f g) rest
     -- NOT un
     negation : {ts rest : List Sign} {f : Formula}
-        → Reads Un ts f rest
-        → Reads Un (Not ∷ ts) (plain.Not f) rest
+        → Reads Operand ts f rest
+        → Reads Operand (Not ∷ ts) (plain.Not f) rest
     -- "<" prog ">" un, "[" prog "]" un, and both without the program
     modal : {ts us rest : List Sign} {p : Program} {f : Formula} (m : Modality)
         → ReadsProgram Prog ts p (Added (Ends m) ∷ us)
-        → Reads Un us f rest
-        → Reads Un (Added (Begins m) ∷ ts) (plain.Modal m p f) rest
+        → Reads Operand us f rest
+        → Reads Operand (Added (Begins m) ∷ ts) (plain.Modal m p f) rest
     modal_blank : {ts rest : List Sign} {f : Formula} (m : Modality)
-        → Reads Un ts f rest
-        → Reads Un (Added (Begins m) ∷ Added (Ends m) ∷ ts) (plain.Modal m (plain.Act (codes "_")) f) rest
+        → Reads Operand ts f rest
+        → Reads Operand (Added (Begins m) ∷ Added (Ends m) ∷ ts) (plain.Modal m (plain.Act (codes "_")) f) rest
     -- "repeat" "(" prog ")"
     repetition : {ts rest : List Sign} {p : Program} (k : Mark)
         → ReadsProgram Prog ts p (Close ∷ rest)
-        → Reads Un (Added Repeats ∷ Added (Paren k) ∷ ts) (plain.Repeat p) rest
+        → Reads Operand (Added Repeats ∷ Added (Paren k) ∷ ts) (plain.Repeat p) rest
     -- "(" iff ")"
     group : {ts rest : List Sign} {f : Formula} (k : Mark)
-        → Reads Iff ts f (Close ∷ rest)
-        → Reads Un (Added (Paren k) ∷ ts) f rest
+        → Reads (Joined Iff) ts f (Close ∷ rest)
+        → Reads Operand (Added (Paren k) ∷ ts) f rest
     -- TT, FF, PROP
-    constant : {rest : List Sign} (b : Bool) → Reads Un (Const b ∷ rest) (plain.Const b) rest
-    proposition : {rest : List Sign} (p : List ℕ) → Reads Un (Lower p ∷ rest) (plain.Prop p) rest
+    constant : {rest : List Sign} (b : Bool) → Reads Operand (Const b ∷ rest) (plain.Const b) rest
+    proposition : {rest : List Sign} (p : List ℕ) → Reads Operand (Lower p ∷ rest) (plain.Prop p) rest
 
   pub data ReadsProgram : ProgramLevel → List Sign → Program → List Sign → Type 0 where
     -- prog = seq { "+" seq }
@@ -143,8 +126,8 @@ mutual
         → ReadsTested (Lower p ∷ rest) (plain.Prop p) rest
     -- "(" iff ")"
     tested_group : {ts rest : List Sign} {f : Formula} (k : Mark)
-        → Reads Iff ts f (Close ∷ rest)
+        → Reads (Joined Iff) ts f (Close ∷ rest)
         → ReadsTested (Added (Paren k) ∷ ts) f rest
 
 abbrev pub IsReadAs : List Sign → Formula → Type 0
-IsReadAs ts f = Reads Iff ts f []
+IsReadAs ts f = Reads (Joined Iff) ts f []
