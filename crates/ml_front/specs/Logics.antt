@@ -10,7 +10,7 @@
 --   IsParsedAs text f    == the text stands for f in the logic of f, within the limits
 --   IsRefusedBy l text e == the text is refused with e, where a formula of the logic l is wanted
 --   canonical_text f     == the canonical text of f
-use Rattle.std.specs.Prelude.{ℕ, List, Option, Some, None, if◌then◌else◌, unwrap_or, codes}
+use Rattle.std.specs.Prelude.{ℕ, List, [], ◌∷◌, Option, find, unwrap_or, codes}
 use Rattle.std.specs.Str.{bytes_eq}
 use Rattle.ml_base.specs.declared.parse_refusal.ParseRefusal.{ParseRefusal}
 use Rattle.ml_lines.specs.Lines as lines
@@ -43,11 +43,7 @@ logic_word logic.Word = codes "word"
 
 abbrev pub logic_named : lines.Word → Option Logic
 logic_named word =
-    if bytes_eq word (logic_word logic.Mu) then Some logic.Mu
-    else (if bytes_eq word (logic_word logic.Pdl) then Some logic.Pdl
-    else (if bytes_eq word (logic_word logic.Ctl) then Some logic.Ctl
-    else (if bytes_eq word (logic_word logic.Ltl) then Some logic.Ltl
-    else (if bytes_eq word (logic_word logic.Word) then Some logic.Word else None))))
+    find (λ l. bytes_eq word (logic_word l)) (logic.Mu ∷ logic.Pdl ∷ logic.Ctl ∷ logic.Ltl ∷ logic.Word ∷ [])
 
 abbrev pub some_logic : lines.Word → Logic
 some_logic word = unwrap_or (logic_named word) logic.Mu

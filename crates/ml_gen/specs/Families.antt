@@ -22,11 +22,10 @@ family_word Fair = codes "fair"
 family_word Loop = codes "loop"
 
 abbrev pub logic_name : Family → Word
-logic_name And = codes "mu"
-logic_name Or = codes "mu"
 logic_name Step = codes "pdl"
 logic_name Fair = codes "ltl"
 logic_name Loop = codes "pdl"
+logic_name _ = codes "mu"
 
 abbrev pub part : Family → ℕ → List ℕ
 part And i = codes "p" ++ number i

@@ -1,3 +1,5 @@
+-- guesses of automaton states whose numbers fit 32 bits
+pub mod Guesses
 -- refutations as plain data
 pub mod Refutation
 -- the plain refutation that one of the program stands for

@@ -19,7 +19,7 @@
 --   IsEntry n k e       == e is an entry of a refutation with n names and k entries
 --   IsRefutation r      == r has at least one entry, and each is one of it
 --   Fits n              == n is a number of 32 bits, as all numbers of a refutation are
-use Rattle.std.specs.Prelude.{ℕ, ◌+◌, ◌≡◌, ◌<◌, ◌≤◌, ◌^◌, ◌==◌, ◌&&◌, ◌||◌, ⊤, Bool, true, false, nat_lt, max, List, [], ◌∷◌, Option, None, Some, length, map, All, IsTrue}
+use Rattle.std.specs.Prelude.{ℕ, ◌+◌, ◌≡◌, ◌<◌, ◌≤◌, ◌^◌, ◌==◌, ◌&&◌, ◌||◌, ⊤, Bool, true, false, nat_lt, max, List, [], ◌∷◌, Option, None, Some, IfSome, length, map, All, IsTrue}
 use Rattle.ml_lists.specs.Ascending.{IsAscending}
 use Rattle.ml_trace.specs.declared.letters.AutomatonState.{AutomatonState}
 use Rattle.ml_trace.specs.declared.marks.Mark.{Mark}
@@ -79,14 +79,10 @@ pub record IsStack (live : ℕ) (names : List ℕ) : Type 0 where
   pub ascends : IsAscending names
   pub below : All (λ x. x < live) names
 
-abbrev pub FitsGuess : Option ℕ → Type 0
-FitsGuess None = ⊤
-FitsGuess (Some d) = Fits d
-
 -- the numbers of the item fit, and its stack is one of names in use
 pub record IsItem (live : ℕ) (a : traced.Item AutomatonState) : Type 0 where
   pub node_fits : Fits a.state.node
-  pub guess_fits : FitsGuess a.state.odd
+  pub guess_fits : IfSome a.state.odd Fits
   pub is_stack : IsStack live a.stack
 
 pub record IsTraced (names : ℕ) (e : traced.Entry AutomatonState) : Type 0 where

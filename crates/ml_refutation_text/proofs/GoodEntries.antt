@@ -18,7 +18,8 @@ use Rattle.ml_lists.specs.Ascending.{IsAscending}
 use Rattle.ml_lists.specs.Last.{last_of}
 use Rattle.ml_trace.specs.declared.letters.AutomatonState.{AutomatonState}
 use Rattle.ml_trace.specs.Stack as traced
-use Rattle.ml_refutation.specs.Refutation.{Refutation, Entry, Fits, FitsGuess, IsAbove, AreAbove, IsItem, IsEntry, IsRefutation}
+use Rattle.ml_refutation.specs.Refutation.{Refutation, Entry, Fits, IsAbove, AreAbove, IsItem, IsEntry, IsRefutation}
+use Rattle.ml_refutation.specs.Guesses.{FitsGuess}
 use Rattle.ml_refutation_text.specs.RefutationText.{numbers, names_line, entries_line, sequents_line, stacks_line}
 use Rattle.ml_refutation_text.specs.LineKinds.{Spells}
 use Rattle.ml_refutation_text.specs.BodyRules.{Form, InFull, ByTables}

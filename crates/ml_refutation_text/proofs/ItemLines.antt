@@ -16,7 +16,8 @@ use Rattle.ml_lists.specs.Last.{last_of}
 use Rattle.ml_lists.specs.Documents.{IsFirstBroken}
 use Rattle.ml_trace.specs.declared.letters.AutomatonState.{AutomatonState}
 use Rattle.ml_trace.specs.Stack as traced
-use Rattle.ml_refutation.specs.Refutation.{Entry, Fits, FitsGuess, IsAbove}
+use Rattle.ml_refutation.specs.Refutation.{Entry, Fits, IsAbove}
+use Rattle.ml_refutation.specs.Guesses.{FitsGuess}
 use Rattle.ml_refutation_text.specs.RefutationText.{numbers, guess_word, item_line, heights_line}
 use Rattle.ml_refutation_text.specs.LineKinds.{Spells}
 use Rattle.ml_refutation_text.specs.BodyRules.{Form, InFull, ByTables}

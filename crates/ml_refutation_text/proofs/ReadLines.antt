@@ -21,7 +21,8 @@ use Rattle.ml_trace.specs.Stack as traced
 use Rattle.ml_sequent.specs.declared.clashes.ClashCause.{ClashCause}
 use Rattle.ml_sequent.specs.declared.clashes.ClashCause.TheVariants.{False, Pair, Cycle}
 use Rattle.ml_trace.specs.declared.letters.AutomatonState.{AutomatonState}
-use Rattle.ml_refutation.specs.Refutation.{Decision, Clash, Go, IsMarkOf, Fits, FitsCause, FitsGuess, IsStack, IsItem, IsDecided, nesting}
+use Rattle.ml_refutation.specs.Refutation.{Decision, Clash, Go, IsMarkOf, Fits, FitsCause, IsStack, IsItem, IsDecided, nesting}
+use Rattle.ml_refutation.specs.Guesses.{FitsGuess}
 use Rattle.ml_refutation_text.specs.RefutationText.{numbers, stack_line, entry_line, guess_word, cause_words, mark_words, decision_lines}
 use Rattle.ml_refutation_text.specs.LineKinds.{Spells}
 use Rattle.ml_refutation_text.specs.BodyRules.{Form, InFull, ByTables}

@@ -20,7 +20,8 @@ use Rattle.ml_lines.specs.Reading.{AreWords, IsNumber, is_word, is_blank, value,
 use Rattle.ml_lines.proofs.Cuts.{some_part}
 use Rattle.ml_lines.proofs.Numbers.{value-number, digits-number}
 use Rattle.ml_lines.proofs.WordBytes.{number-is_word}
-use Rattle.ml_refutation.specs.Refutation.{Fits, FitsGuess}
+use Rattle.ml_refutation.specs.Refutation.{Fits}
+use Rattle.ml_refutation.specs.Guesses.{FitsGuess}
 use Rattle.ml_refutation_text.specs.RefutationText.{numbers, guess_word}
 use Rattle.ml_refutation_text.specs.LineKinds.{Spells}
 use Rattle.ml_refutation_text.specs.LineKinds.{FitsSlot, AGuess}

@@ -18,7 +18,8 @@ use Rattle.ml_lines.specs.Lines.{Word, number}
 use Rattle.ml_lines.specs.Reading.{value, value_on}
 use Rattle.ml_trace.specs.declared.letters.AutomatonState.{AutomatonState}
 use Rattle.ml_trace.specs.Stack as traced
-use Rattle.ml_refutation.specs.Refutation.{Refutation, Entry, Fits, FitsGuess, AreAbove, IsItem, IsEntry, IsRefutation, comes_before, guess_before}
+use Rattle.ml_refutation.specs.Refutation.{Refutation, Entry, Fits, AreAbove, IsItem, IsEntry, IsRefutation, comes_before, guess_before}
+use Rattle.ml_refutation.specs.Guesses.{FitsGuess}
 use Rattle.ml_refutation_text.specs.LineKinds.{Spells}
 use Rattle.ml_refutation_text.specs.Canonical.{used_stacks, stacks_of}
 use Rattle.ml_refutation_text.proofs.TableEntries.{made_length}

@@ -8,7 +8,7 @@ ghost use Rattle.ml_lines.specs.Reading.{words_of, words_behind, value, AreWords
 ghost use Rattle.ml_refutation_text.specs.RefutationText.{numbers, guess_word};
 ghost use Rattle.ml_refutation_text.specs.LineKinds.{Spells};
 ghost use Rattle.ml_refutation_text.specs.LineKinds.{IsSpelt, IsOfKind, open_kind, Fixed};
-ghost use Rattle.ml_refutation.specs.Refutation.{FitsGuess};
+ghost use Rattle.ml_refutation.specs.Guesses.{FitsGuess};
 ghost use Rattle.ml_refutation.specs.Refutation as refutation;
 ghost use Rattle.ml_refutation_text.specs.private.Reads.{IsNumbered, IsPlaced, HasRoom, IsNext, IsUsual, TellsFault};
 ghost use Rattle.ml_refutation_text.specs.private.WordReads.{FitsAGuess};

@@ -25,7 +25,8 @@ use Rattle.ml_product.proofs.Reached.{Facts, IsTraced}
 use Rattle.ml_refutation.specs.declared.refutation.TheConstants.{NESTING_LIMIT}
 use Rattle.ml_refutation.specs.Acceptance.{entry_at, no_entry, heights_of}
 use Rattle.ml_refutation.specs.Refutation as plain
-use Rattle.ml_refutation.specs.Refutation.{Entry, Decision, Split, Clash, Go, Fits, FitsGuess, FitsCause, IsItem, IsDecided, IsEntry, IsRefutation, nesting}
+use Rattle.ml_refutation.specs.Refutation.{Entry, Decision, Split, Clash, Go, Fits, FitsCause, IsItem, IsDecided, IsEntry, IsRefutation, nesting}
+use Rattle.ml_refutation.specs.Guesses.{FitsGuess}
 use Rattle.ml_sequent.specs.declared.choice.Side.TheVariants.{Left, Right}
 use Rattle.ml_sequent.specs.declared.clashes.ClashCause.{ClashCause}
 use Rattle.ml_sequent.specs.declared.clashes.ClashCause.TheVariants as cause

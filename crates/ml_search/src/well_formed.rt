@@ -1,7 +1,8 @@
 // What can be asked of a refutation without a graph, tested.
 ghost use Rattle.std.specs.Prelude.{◌≡◌, ◌<◌, ◌≤◌, ◌+◌, ◌^◌, ℕ, length, map, All, IsTrue};
 ghost use Rattle.ml_lists.specs.Ascending.{IsAscending};
-ghost use Rattle.ml_refutation.specs.Refutation.{IsRefutation, IsEntry, IsTraced, IsItem, IsStack, IsDecided, IsMarkOf, comes_before, guess_before, nesting, Fits, FitsGuess, FitsCause};
+ghost use Rattle.ml_refutation.specs.Refutation.{IsRefutation, IsEntry, IsTraced, IsItem, IsStack, IsDecided, IsMarkOf, comes_before, guess_before, nesting, Fits, FitsCause};
+ghost use Rattle.ml_refutation.specs.Guesses.{FitsGuess};
 ghost use Rattle.ml_refutation.specs.Views.{decision_of, entry_of, item_of};
 ghost use Rattle.ml_search.specs.private.Checked.{Rise, state_in};
 

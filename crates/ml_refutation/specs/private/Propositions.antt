@@ -10,7 +10,8 @@ use Rattle.ml_trace.specs.declared.marks.Mark.{Mark}
 use Rattle.ml_trace.specs.declared.marks.Mark.TheVariants.{Red, Green, Neutral}
 use Rattle.ml_sequent.specs.declared.clashes.ClashCause.{ClashCause}
 use Rattle.ml_sequent.specs.declared.clashes.ClashCause.TheVariants as cause
-use Rattle.ml_refutation.specs.Refutation.{Refutation, Decision, Split, Clash, Go, FitsGuess, FitsCause, IsMarkOf, IsAbove, AreAbove, IsDecided, IsRefutation}
+use Rattle.ml_refutation.specs.Refutation.{Refutation, Decision, Split, Clash, Go, FitsCause, IsMarkOf, IsAbove, AreAbove, IsDecided, IsRefutation}
+use Rattle.ml_refutation.specs.Guesses.{FitsGuess}
 
 pub prop_ascending : (xs : List ℕ) → IsProp (IsAscending xs)
 prop_ascending [] = hlevel props

@@ -22,7 +22,8 @@ use Rattle.ml_lists.specs.Ascending.{IsAscending}
 use Rattle.ml_lists.specs.Last.{last_of}
 use Rattle.ml_trace.specs.declared.letters.AutomatonState.{AutomatonState}
 use Rattle.ml_trace.specs.Stack as traced
-use Rattle.ml_refutation.specs.Refutation.{Entry, Fits, FitsGuess, IsAbove}
+use Rattle.ml_refutation.specs.Refutation.{Entry, Fits, IsAbove}
+use Rattle.ml_refutation.specs.Guesses.{FitsGuess}
 use Rattle.ml_refutation.specs.Views.{item_of}
 use Rattle.ml_refutation.specs.declared.refutation.Item.{Item}
 use Rattle.ml_refutation_text.specs.LineKinds.{IsOfKind}
