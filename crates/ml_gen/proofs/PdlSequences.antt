@@ -10,6 +10,7 @@ use Rattle.std.specs.List.{AllByRecursion}
 use Rattle.ml_text.specs.declared.token.Operator.TheVariants as operator
 use Rattle.ml_text.specs.declared.token.Token.TheVariants as token
 use Rattle.ml_text.specs.declared.token.WordStart.TheVariants.{AnyLetter}
+use Rattle.ml_text.specs.Levels.{Operand}
 use Rattle.ml_text.specs.Tokens.{tokens}
 use Rattle.ml_text.specs.Words.{constant_of}
 use Rattle.ml_text.specs.Refusals.{signs_of}
@@ -24,7 +25,7 @@ use Rattle.ml_pdl.specs.Formula as plain
 use Rattle.ml_pdl.specs.Formula.{Formula, Program, Seq, Star, occurrences, program_occurrences}
 use Rattle.ml_pdl.specs.declared.term.Modality.TheVariants.{Diamond, Square}
 use Rattle.ml_pdl.specs.Grammar as grammar
-use Rattle.ml_pdl.specs.Grammar.{IsReadAs, Reads, ReadsProgram, iff_alone, imp_alone, or_alone, and, and_alone, alt_alone, seq, seq_alone, modal, repetition}
+use Rattle.ml_pdl.specs.Grammar.{IsReadAs, Reads, ReadsProgram, alt_alone, seq, seq_alone, modal, repetition}
 use Rattle.ml_pdl.specs.Marks.{asks, is_test_behind, mark_of, with_mark}
 use Rattle.ml_pdl.specs.MarkLaws.{marked}
 use Rattle.ml_pdl.specs.Parsing.{IsParsedAs}
@@ -33,9 +34,8 @@ use Rattle.ml_text.specs.declared.named_signs.Sign.TheVariants.{Added}
 use Rattle.ml_pdl.specs.declared.signs.Own.TheVariants.{Paren, Repeats}
 use Rattle.ml_pdl.specs.Text.{pdl_signs, items}
 use Rattle.ml_pdl.proofs.CanonicalLimits.{opens_of, token_bracket, few_open, program_few, program_short, tokens_short}
-use Rattle.ml_pdl.proofs.CanonicalTexts.{plain_signs, program_onto, reads_formula, reads_program, scans_formula, scans_program, sign_spelt, signs_with_marks, tokens_onto, plain_spelt}
+use Rattle.ml_pdl.proofs.CanonicalTexts.{operand_read, operands_read, plain_signs, program_onto, reads_formula, reads_program, scans_formula, scans_program, sign_spelt, signs_with_marks, tokens_onto, plain_spelt}
 use Rattle.ml_pdl.proofs.Counting.{counts, counted_items}
-use Rattle.ml_pdl.proofs.FromTables.{un_raised}
 use Rattle.ml_pdl.proofs.MarkedTexts.{marks_are_of_texts}
 use Rattle.ml_gen.specs.Formulas.{act}
 
@@ -169,7 +169,7 @@ reads_step : (k : ℕ) → IsReadAs (signs_with_marks (step_spelt k)) (step_form
 reads_step k =
     let last = reads_formula box refl [] in
     let first = reads_formula prop refl ((token.Operator operator.And, codes "&") ∷ tokens_onto box []) in
-    iff_alone (imp_alone (or_alone (and (and_alone (modal Diamond (reads_acts k step_end refl) first)) last)))
+    operands_read operator.And (modal Diamond (reads_acts k step_end refl) first) last
 
 pub step_parsed : (k : ℕ) → k ≤ 400 → IsParsedAs (step_text k) (step_formula k)
 step_parsed k few =
@@ -208,9 +208,9 @@ reads_loop : (k : ℕ) → IsReadAs (signs_with_marks (loop_spelt k)) (loop_form
 reads_loop k =
     let toks = program_onto act (more_tokens k (lone 41 ∷ [])) in
     let b = is_test_behind 0 (plain_signs toks) in
-    un_raised grammar.Iff
+    operand_read
     (subst
-    (λ t. Reads grammar.Un
+    (λ t. Reads Operand
     (with_mark (is_test_behind 0 (plain_signs (lone 40 ∷ toks))) t ∷ Added (Paren (mark_of b)) ∷ signs_with_marks toks)
     (loop_formula k) [])
     (sym repeat_sign) (repetition (mark_of b) (reads_acts k (lone 41 ∷ []) refl)))

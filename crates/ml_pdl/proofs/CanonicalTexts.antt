@@ -3,6 +3,7 @@
 --   tokens_onto f ss, program_onto p ss == the tokens of the canonical text of f, or of p, in front of the tokens ss
 --   scans_formula, scans_program        == these are its tokens
 --   formula_even, program_even          == their parentheses are partners of one another
+--   operand_read, operands_read         == an operand, or two with a connective between them, are read as a whole formula
 --   reads_formula, reads_program        == their signs, with the marks that they have, are read as f, or as p
 --   canonical_tokens                    == these are the tokens of the text alone
 --   canonical_stands                    == so the text stands for f
@@ -41,7 +42,6 @@ use Rattle.ml_text.specs.Signs.{name_of, word_sign}
 use Rattle.ml_text.specs.declared.named_signs.Sign.TheVariants.{Connective, Const, Open, Lower, Upper, Close, Added}
 use Rattle.ml_pdl.specs.Signs.{Sign, own as added, sign_of, action_of}
 use Rattle.ml_pdl.specs.declared.signs.Own.TheVariants.{Begins, Ends, Repeats, Question, Paren}
-use Rattle.ml_pdl.specs.declared.signs.Mark.{Mark}
 use Rattle.ml_pdl.specs.declared.signs.Mark.TheVariants.{Marked}
 use Rattle.ml_pdl.specs.Marks.{asks, is_test_behind, mark_of, with_mark}
 use Rattle.ml_pdl.specs.MarkLaws.{marked}

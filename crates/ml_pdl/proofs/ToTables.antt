@@ -5,6 +5,7 @@
 --   Tabled p ts v rest           == the tables read ts as the tree v
 --   TabledProgram p ts q rest    == the tables read ts as a tree that is the program q
 --   TabledTested ts f rest       == behind so many negations, the tables go on with ts to a test of f behind these
+--   pdl_groups                   == the tables group the connectives as the grammar does
 --   tabled, tabled_program, tabled_tested == what the grammar reads, the tables read
 use Rattle.std.proofs.Common.{◌≡◌, ℕ, ◌≤◌, suc, false, List, [], ◌∷◌, Option, Some, None, refl, sym, ◌∙◌, ap, subst, arith, codes}
 use Rattle.ml_text.specs.declared.token.Operator.TheVariants as operator
