@@ -6,6 +6,8 @@ pub mod Tokens
 pub mod Words
 -- the connectives
 pub mod Operators
+-- how tightly connectives bind, and to which side they group
+pub mod Levels
 -- signs: those that all logics have, and those that a logic adds
 pub mod Signs
 -- the names in a formula, with their kinds
