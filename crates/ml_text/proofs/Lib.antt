@@ -14,6 +14,10 @@ pub mod Cover
 pub mod NextToken
 -- levels of operators
 pub mod Levels
+-- levels of connectives, from the tighter to the looser
+pub mod LooserLevels
+-- levels of connectives as numbers
+pub mod LevelNumbers
 -- the machine finds what a text stands for
 pub mod Complete
 -- what the machine finds, the text stands for
