@@ -9,11 +9,13 @@ use Rattle.std.specs.List.{AllByRecursion}
 use Rattle.std.proofs.lemmas.Bool.{and_from}
 use Rattle.ml_text.specs.declared.token.Operator.TheVariants as operator
 use Rattle.ml_text.specs.declared.token.WordStart.TheVariants.{AnyLetter}
+use Rattle.ml_text.specs.Levels.{Joined}
 use Rattle.ml_text.specs.Tokens.{tokens}
 use Rattle.ml_text.specs.Refusals.{signs_of}
 use Rattle.ml_text.specs.Limits.{most_occurrences}
 use Rattle.ml_text.specs.Signs.{bracket_of}
 use Rattle.ml_text.proofs.AcceptedTexts.{accepted}
+use Rattle.ml_text.proofs.LooserLevels.{raised, loosest}
 use Rattle.ml_text.proofs.Pieces.{and_piece, ends_word}
 use Rattle.ml_text.proofs.Scans.{Spelt, spelt_at, Scans, ends, scans_tokens}
 use Rattle.ml_text.proofs.TableItems.{IsShort, signs_spelt}
@@ -22,8 +24,7 @@ use Rattle.ml_text.specs.Names.{IsShortName}
 use Rattle.ml_text.proofs.Names.{all_both, spelled_both}
 use Rattle.ml_mu.specs.Formula.{Formula, Binary, occurrences}
 use Rattle.ml_mu.specs.FormulaNames.{names}
-use Rattle.ml_mu.specs.Grammar as grammar
-use Rattle.ml_mu.specs.Grammar.{IsReadAs, Reads, iff_alone, imp_alone, or_alone, and}
+use Rattle.ml_mu.specs.Grammar.{IsReadAs, Reads, alone, joined}
 use Rattle.ml_mu.specs.Parsing.{IsParsedAs}
 use Rattle.ml_mu.specs.Signs.{Sign, own}
 use Rattle.ml_mu.specs.Spelling.{HasShortNames, is_spelled}
@@ -33,7 +34,6 @@ use Rattle.ml_mu.proofs.CanonicalLimits.{few_open, opens_of, tokens_short}
 use Rattle.ml_mu.proofs.CanonicalTexts.{reads_formula, scans_formula, sign_spelt, tokens_onto}
 use Rattle.ml_mu.proofs.Counting.{counts, counted_items}
 use Rattle.ml_mu.proofs.FaultFree.{well_fine}
-use Rattle.ml_mu.proofs.GrammarTables.{un_raised}
 use Rattle.ml_gen.proofs.Chains as chains
 use Rattle.ml_gen.proofs.Chains.{and_sign}
 
@@ -83,11 +83,11 @@ scans_more (g ∷ gs) all =
 reads_more : (gs : List Formula)
     → AllByRecursion IsPart gs
     → (f : Formula) (ts : List Sign)
-    → Reads grammar.And ts f (map sign_spelt (more_tokens gs))
-    → Reads grammar.And ts (chain f gs) []
+    → Reads (Joined operator.And) ts f (map sign_spelt (more_tokens gs))
+    → Reads (Joined operator.And) ts (chain f gs) []
 reads_more [] all f ts r = r
 reads_more (g ∷ gs) all f ts r =
-    reads_more gs all.1 (Binary operator.And f g) ts (and r (reads_formula g all.0.spelled (more_tokens gs)))
+    reads_more gs all.1 (Binary operator.And f g) ts (joined operator.And r (reads_formula g all.0.spelled (more_tokens gs)))
 
 short_part : (g : Formula) (ss : List Spelt) → IsPart g → AllByRecursion IsShort ss
     → AllByRecursion IsShort (tokens_onto g ss)
@@ -120,10 +120,15 @@ module _ (f : Formula) (gs : List Formula) (part : IsPart f) (parts : AllByRecur
 
   stands : IsReadAs (signs_of (items text)) (chain f gs)
   stands =
-      let first = un_raised grammar.And (reads_formula f part.spelled (more_tokens gs)) in
+      let here = map sign_spelt spelt in
+      let first =
+      raised (λ l. Reads l here f (map sign_spelt (more_tokens gs))) alone operator.And
+      (reads_formula f part.spelled (more_tokens gs))
+      in
+      let all = reads_more gs parts f here first in
       subst (λ ts. IsReadAs ts (chain f gs)) (sym (signs_spelt mu_signs sign_spelt text (λ p. refl) false (tokens AnyLetter text)
       ∙ ap (map sign_spelt) tokens_are))
-      (iff_alone (imp_alone (or_alone (reads_more gs parts f (map sign_spelt spelt) first))))
+      (loosest (λ l. Reads l here (chain f gs) []) alone operator.And all)
 
   pub chain_parsed : IsParsedAs (chain_text f gs) (chain f gs)
   chain_parsed =

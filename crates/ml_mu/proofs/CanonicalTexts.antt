@@ -18,7 +18,9 @@ use Rattle.ml_text.specs.declared.token.WordStart.TheVariants.{AnyLetter}
 use Rattle.ml_text.specs.Tokens.{tokens}
 use Rattle.ml_text.specs.Words.{constant_of, is_word_from}
 use Rattle.ml_text.specs.Refusals.{signs_of}
+use Rattle.ml_text.specs.Levels.{Joined, Operand}
 use Rattle.ml_text.specs.Operators.{spelling_of}
+use Rattle.ml_text.proofs.LooserLevels.{raised, left_raised, right_raised, loosest}
 use Rattle.ml_text.proofs.ByteKinds.{differs_by}
 use Rattle.ml_text.proofs.NamedSigns.{action_sign, proposition_sign, upper_word_sign}
 use Rattle.ml_text.proofs.Pieces.{lone, lone_piece, less_piece, not_piece, operator_piece, between_same, ends_word, word_piece}
@@ -36,9 +38,7 @@ use Rattle.ml_text.specs.declared.named_signs.Sign.TheVariants.{Connective, Cons
 use Rattle.ml_mu.specs.Signs.{Sign, action_of, own, sign_of}
 use Rattle.ml_mu.specs.declared.signs.Own.TheVariants.{Begins, Ends, Binds, Dot}
 use Rattle.ml_mu.specs.Spelling.{is_proposition, is_variable, is_action, is_spelled, is_reserved}
-use Rattle.ml_mu.specs.Grammar as grammar
-use Rattle.ml_mu.specs.Grammar.{Reads, iff_alone, iff, imp_alone, imp, or_alone, or, and, negation, modal, modal_blank, binder, group, constant, proposition, variable}
-use Rattle.ml_mu.proofs.GrammarTables.{un_raised}
+use Rattle.ml_mu.specs.Grammar.{Reads, alone, joined, negation, modal, modal_blank, binder, group, constant, proposition, variable}
 use Rattle.ml_mu.specs.Text.{mu_signs, items}
 use Rattle.ml_mu.specs.TextLaws.{IsTextOf}
 
@@ -210,19 +210,22 @@ end_sign : (m : Modality) → sign_spelt (lone (end_byte m)) ≡ Added (Ends m)
 end_sign Diamond = refl
 end_sign Square = refl
 
+as_text : {ts rest : List Sign} {f : Formula} → Reads Operand ts f rest → Reads (Joined operator.Iff) ts f rest
+as_text {ts} {rest} {f} r = raised (λ l. Reads l ts f rest) alone operator.Iff r
+
 binary_read : (o : Operator) (ts us rest : List Sign) (f g : Formula)
-    → Reads grammar.Un ts f (Connective o ∷ us)
-    → Reads grammar.Un us g (Close ∷ rest)
-    → Reads grammar.Un (Open ∷ ts) (plain.Binary o f g) rest
-binary_read operator.Iff ts us rest f g a b = group (iff (un_raised grammar.Imp a) (un_raised grammar.Iff b))
-binary_read operator.Implies ts us rest f g a b = group (iff_alone (imp (un_raised grammar.Or a) (un_raised grammar.Imp b)))
-binary_read operator.Or ts us rest f g a b = group (iff_alone (imp_alone (or (un_raised grammar.Or a) (un_raised grammar.And b))))
-binary_read operator.And ts us rest f g a b = group (iff_alone (imp_alone (or_alone (and (un_raised grammar.And a) b))))
+    → Reads Operand ts f (Connective o ∷ us)
+    → Reads Operand us g (Close ∷ rest)
+    → Reads Operand (Open ∷ ts) (plain.Binary o f g) rest
+binary_read o ts us rest f g a b =
+    let left = left_raised (λ l. Reads l ts f (Connective o ∷ us)) alone o a in
+    let right = right_raised (λ l. Reads l us g (Close ∷ rest)) alone o b in
+    group (loosest (λ l. Reads l ts (plain.Binary o f g) (Close ∷ rest)) alone o (joined o left right))
 
 modal_read : (m : Modality) (a : List ℕ) (f : Formula) (after : List Spelt) (rest : List Sign)
     → is_action a ≡ true
-    → Reads grammar.Un (map sign_spelt after) f rest
-    → Reads grammar.Un (sign_spelt (lone (begin_byte m)) ∷ map sign_spelt (action_tokens a (lone (end_byte m) ∷ after))) (plain.Modal m a f) rest
+    → Reads Operand (map sign_spelt after) f rest
+    → Reads Operand (sign_spelt (lone (begin_byte m)) ∷ map sign_spelt (action_tokens a (lone (end_byte m) ∷ after))) (plain.Modal m a f) rest
 modal_read m a f after rest is r =
     let open_is = begin_sign m in
     let close_is = end_sign m in
@@ -230,63 +233,63 @@ modal_read m a f after rest is r =
     (λ (any : bytes_eq a (codes "_") ≡ true).
     let same = (Rattle.std.proofs.lemmas.Slice.Eq.bytes_eq-Decides a (codes "_")).0 any in
     let read :
-    Reads grammar.Un (sign_spelt (lone (begin_byte m)) ∷ sign_spelt (lone (end_byte m)) ∷ map sign_spelt after)
+    Reads Operand (sign_spelt (lone (begin_byte m)) ∷ sign_spelt (lone (end_byte m)) ∷ map sign_spelt after)
     (plain.Modal m (codes "_") f) rest =
     subst
     (λ t.
-    Reads grammar.Un (t ∷ sign_spelt (lone (end_byte m)) ∷ map sign_spelt after) (plain.Modal m (codes "_") f) rest)
+    Reads Operand (t ∷ sign_spelt (lone (end_byte m)) ∷ map sign_spelt after) (plain.Modal m (codes "_") f) rest)
     (sym open_is)
-    (subst (λ t. Reads grammar.Un (Added (Begins m) ∷ t ∷ map sign_spelt after) (plain.Modal m (codes "_") f) rest)
+    (subst (λ t. Reads Operand (Added (Begins m) ∷ t ∷ map sign_spelt after) (plain.Modal m (codes "_") f) rest)
     (sym close_is) (modal_blank m r))
     in
     subst
-    (λ c. Reads grammar.Un
+    (λ c. Reads Operand
     (sign_spelt (lone (begin_byte m))
     ∷ map sign_spelt (cond c (lone (end_byte m) ∷ after) ((token.Word, a) ∷ lone (end_byte m) ∷ after)))
     (plain.Modal m a f) rest)
     (sym any)
     (subst
-    (λ b. Reads grammar.Un (sign_spelt (lone (begin_byte m)) ∷ sign_spelt (lone (end_byte m)) ∷ map sign_spelt after)
+    (λ b. Reads Operand (sign_spelt (lone (begin_byte m)) ∷ sign_spelt (lone (end_byte m)) ∷ map sign_spelt after)
     (plain.Modal m b f) rest)
     (sym same) read))
     (λ (other : bytes_eq a (codes "_") ≡ false).
     let s = action_word a is other in
     subst
-    (λ c. Reads grammar.Un
+    (λ c. Reads Operand
     (sign_spelt (lone (begin_byte m))
     ∷ map sign_spelt (cond c (lone (end_byte m) ∷ after) ((token.Word, a) ∷ lone (end_byte m) ∷ after)))
     (plain.Modal m a f) rest)
     (sym other)
-    (subst (λ t. Reads grammar.Un (t ∷ word_sign own a ∷ sign_spelt (lone (end_byte m)) ∷ map sign_spelt after) (plain.Modal m a f) rest) (sym open_is)
-    (subst (λ t. Reads grammar.Un (Added (Begins m) ∷ word_sign own a ∷ t ∷ map sign_spelt after) (plain.Modal m a f) rest)
+    (subst (λ t. Reads Operand (t ∷ word_sign own a ∷ sign_spelt (lone (end_byte m)) ∷ map sign_spelt after) (plain.Modal m a f) rest) (sym open_is)
+    (subst (λ t. Reads Operand (Added (Begins m) ∷ word_sign own a ∷ t ∷ map sign_spelt after) (plain.Modal m a f) rest)
     (sym close_is) (modal m a (word_sign own a) s.1 r))))
     (cases_Bool (bytes_eq a (codes "_")))
 
 binder_read : (q : Fixpoint) (x : List ℕ) (f : Formula) (after : List Spelt) (rest : List Sign)
     → is_variable x ≡ true
-    → Reads grammar.Un (map sign_spelt after) f (Close ∷ rest)
-    → Reads grammar.Un (Open ∷ word_sign own (fixpoint_word q) ∷ word_sign own x ∷ Added Dot ∷ map sign_spelt after) (plain.Binder q x f) rest
+    → Reads Operand (map sign_spelt after) f (Close ∷ rest)
+    → Reads Operand (Open ∷ word_sign own (fixpoint_word q) ∷ word_sign own x ∷ Added Dot ∷ map sign_spelt after) (plain.Binder q x f) rest
 binder_read q x f after rest is r =
-    let bound = un_raised grammar.Iff (binder q x (un_raised grammar.Iff r) refl) in
-    subst (λ t. Reads grammar.Un (Open ∷ t ∷ word_sign own x ∷ Added Dot ∷ map sign_spelt after) (plain.Binder q x f) rest) (sym (fixpoint_sign q))
-    (subst (λ t. Reads grammar.Un (Open ∷ Added (Binds q) ∷ t ∷ Added Dot ∷ map sign_spelt after) (plain.Binder q x f) rest)
+    let bound = as_text (binder q x (as_text r) refl) in
+    subst (λ t. Reads Operand (Open ∷ t ∷ word_sign own x ∷ Added Dot ∷ map sign_spelt after) (plain.Binder q x f) rest) (sym (fixpoint_sign q))
+    (subst (λ t. Reads Operand (Open ∷ Added (Binds q) ∷ t ∷ Added Dot ∷ map sign_spelt after) (plain.Binder q x f) rest)
     (sym (upper_word_sign own refl x is)) (group bound))
 
 pub reads_formula : (f : Formula)
     → is_spelled f ≡ true
     → (ss : List Spelt)
-    → Reads grammar.Un (map sign_spelt (tokens_onto f ss)) f (map sign_spelt ss)
+    → Reads Operand (map sign_spelt (tokens_onto f ss)) f (map sign_spelt ss)
 reads_formula (plain.Const true) is ss =
-    subst (λ t. Reads grammar.Un (t ∷ map sign_spelt ss) (plain.Const true) (map sign_spelt ss)) (sym true_sign)
+    subst (λ t. Reads Operand (t ∷ map sign_spelt ss) (plain.Const true) (map sign_spelt ss)) (sym true_sign)
     (constant true)
 reads_formula (plain.Const false) is ss =
-    subst (λ t. Reads grammar.Un (t ∷ map sign_spelt ss) (plain.Const false) (map sign_spelt ss)) (sym false_sign)
+    subst (λ t. Reads Operand (t ∷ map sign_spelt ss) (plain.Const false) (map sign_spelt ss)) (sym false_sign)
     (constant false)
 reads_formula (plain.Prop p) is ss =
-    subst (λ t. Reads grammar.Un (t ∷ map sign_spelt ss) (plain.Prop p) (map sign_spelt ss))
+    subst (λ t. Reads Operand (t ∷ map sign_spelt ss) (plain.Prop p) (map sign_spelt ss))
     (sym (proposition_sign own p (first_so (is_proposition p) true is))) (proposition p)
 reads_formula (plain.Var x) is ss =
-    subst (λ t. Reads grammar.Un (t ∷ map sign_spelt ss) (plain.Var x) (map sign_spelt ss)) (sym (upper_word_sign own refl x (first_so (is_variable x) true is)))
+    subst (λ t. Reads Operand (t ∷ map sign_spelt ss) (plain.Var x) (map sign_spelt ss)) (sym (upper_word_sign own refl x (first_so (is_variable x) true is)))
     (variable x)
 reads_formula (plain.Not f) is ss = negation (reads_formula f is ss)
 reads_formula (plain.Binary o f g) is ss =
@@ -318,4 +321,4 @@ canonical_stands f is =
     let text = canonical_text f in
     let signs_are : signs_of (items text) ≡ map sign_spelt (tokens_onto f []) =
     signs_spelt mu_signs sign_spelt text (λ p. refl) false (tokens AnyLetter text) ∙ ap (map sign_spelt) (canonical_tokens f is) in
-    subst (λ ts. Reads grammar.Iff ts f []) (sym signs_are) (un_raised grammar.Iff (reads_formula f is []))
+    subst (λ ts. Reads (Joined operator.Iff) ts f []) (sym signs_are) (as_text (reads_formula f is []))

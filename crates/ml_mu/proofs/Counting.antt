@@ -10,6 +10,7 @@
 use Rattle.std.proofs.Common.{◌≡◌, ℕ, suc, ◌+◌, ◌≤◌, Bool, true, false, List, [], ◌∷◌, ◌++◌, length, Some, refl, sym, ◌∙◌, ap, arith, if◌then◌else◌, append_assoc, length-append}
 use Rattle.ml_text.specs.declared.token.Operator.TheVariants as operator
 use Rattle.ml_text.specs.declared.token.Placed.{Placed}
+use Rattle.ml_text.specs.Levels.{Level}
 use Rattle.ml_text.specs.Refusals.{Item, signs_of, counted}
 use Rattle.ml_mu.specs.Formula as plain
 use Rattle.ml_mu.specs.Formula.{Formula, occurrences}
@@ -17,8 +18,7 @@ use Rattle.ml_mu.specs.FormulaNames.{names}
 use Rattle.ml_text.specs.declared.named_signs.Sign.TheVariants.{Lower, Upper, Added}
 use Rattle.ml_mu.specs.Signs.{Sign, action_of}
 use Rattle.ml_mu.specs.declared.signs.Own.TheVariants.{Begins, Ends, Blank}
-use Rattle.ml_mu.specs.Grammar as grammar
-use Rattle.ml_mu.specs.Grammar.{Reads, iff_alone, iff, imp_alone, imp, or_alone, or, and_alone, and, negation, modal, modal_blank, binder, group, constant, proposition, variable}
+use Rattle.ml_mu.specs.Grammar.{Reads, alone, joined, negation, modal, modal_blank, binder, group, constant, proposition, variable}
 use Rattle.ml_mu.specs.Text.{weight_of, silences, sign_at, places_from, is_variable_at}
 use Rattle.ml_mu.specs.TextLaws.{item_by, items_from}
 use Rattle.ml_mu.specs.VariableFaults.{Around, standings_in}
@@ -54,17 +54,11 @@ count_modal m s a ts is =
     let next = ap (λ b. count_signs b (Added (Ends m) ∷ ts)) (action_silences s a is) in
     omega (arith, next)
 
-pub counts : {l : grammar.Level} {ts rest : List Sign} {f : Formula}
+pub counts : {l : Level} {ts rest : List Sign} {f : Formula}
     → Reads l ts f rest
     → count_signs false ts ≡ occurrences f + count_signs false rest
-counts (iff_alone r) = counts r
-counts (iff a b) = let x = counts a in let y = counts b in omega (arith, x, y)
-counts (imp_alone r) = counts r
-counts (imp a b) = let x = counts a in let y = counts b in omega (arith, x, y)
-counts (or_alone r) = counts r
-counts (or a b) = let x = counts a in let y = counts b in omega (arith, x, y)
-counts (and_alone r) = counts r
-counts (and a b) = let x = counts a in let y = counts b in omega (arith, x, y)
+counts (alone o r) = counts r
+counts (joined o a b) = let x = counts a in let y = counts b in omega (arith, x, y)
 counts (negation r) = let x = counts r in omega (arith, x)
 counts (modal {ts = ts} m a s is r) = let x = counts r in let y = count_modal m s a ts is in omega (arith, x, y)
 counts (modal_blank m r) = let x = counts r in omega (arith, x)
@@ -113,17 +107,11 @@ words_modal m _ a ts is = absurd (cc)
 words_both : (f g words later rest : List (List ℕ)) → words ≡ f ++ later → later ≡ g ++ rest → words ≡ (f ++ g) ++ rest
 words_both f g words later rest a b = a ∙ ap (λ w. f ++ w) b ∙ sym (append_assoc f g rest)
 
-pub words_are_variables : {l : grammar.Level} {ts rest : List Sign} {f : Formula}
+pub words_are_variables : {l : Level} {ts rest : List Sign} {f : Formula}
     → Reads l ts f rest
     → variable_words false ts ≡ variables f ++ variable_words false rest
-words_are_variables (iff_alone r) = words_are_variables r
-words_are_variables (iff a b) = words_both _ _ _ _ _ (words_are_variables a) (words_are_variables b)
-words_are_variables (imp_alone r) = words_are_variables r
-words_are_variables (imp a b) = words_both _ _ _ _ _ (words_are_variables a) (words_are_variables b)
-words_are_variables (or_alone r) = words_are_variables r
-words_are_variables (or a b) = words_both _ _ _ _ _ (words_are_variables a) (words_are_variables b)
-words_are_variables (and_alone r) = words_are_variables r
-words_are_variables (and a b) = words_both _ _ _ _ _ (words_are_variables a) (words_are_variables b)
+words_are_variables (alone o r) = words_are_variables r
+words_are_variables (joined o a b) = words_both _ _ _ _ _ (words_are_variables a) (words_are_variables b)
 words_are_variables (negation r) = words_are_variables r
 words_are_variables (modal {ts = ts} m a s is r) = words_modal m s a ts is ∙ words_are_variables r
 words_are_variables (modal_blank m r) = words_are_variables r

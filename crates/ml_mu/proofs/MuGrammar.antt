@@ -3,7 +3,7 @@
 --   mu_regular      == no form of mu opens into another
 --   mu_completable  == each form of mu can be ended
 --   stands_read     == what the tables stand for, the grammar reads, and the other way round
-use Rattle.std.proofs.Common.{◌≡◌, ℕ, true, List, [], ◌∷◌, ◌++◌, Some, refl, subst, codes}
+use Rattle.std.proofs.Common.{◌≡◌, ℕ, true, List, [], ◌∷◌, ◌++◌, Some, refl, subst, arith, codes}
 use Rattle.ml_text.specs.Grammar.{More, Inner, Opens, Behind, Operand, sign, read, inner, alone, form, whole, front, IsStop, IsRegular, Ending, IsCompletable, StandsFor}
 use Rattle.ml_mu.specs.Formula as plain
 use Rattle.ml_mu.specs.Formula.{Formula, Modality, Diamond, Square, Fixpoint}
@@ -100,4 +100,4 @@ pub stands_read : (ts : List Sign) (f : Formula) → StandsFor mu_grammar ts f �
 stands_read ts f is = untabled is
 
 pub read_stands : (ts : List Sign) (f : Formula) → IsReadAs ts f → StandsFor mu_grammar ts f
-read_stands ts f is = tabled is
+read_stands ts f is = tabled is 0 (omega arith)

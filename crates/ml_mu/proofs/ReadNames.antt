@@ -7,6 +7,7 @@ use Rattle.std.proofs.Common.{◌≡◌, ℕ, ◌-◌, true, false, List, ◌++�
 use Rattle.std.specs.List.{AllByRecursion}
 use Rattle.ml_text.specs.declared.token.WordStart.TheVariants.{AnyLetter}
 use Rattle.ml_text.specs.Tokens.{tokens}
+use Rattle.ml_text.specs.Levels.{Level}
 use Rattle.ml_text.specs.Refusals.{NameTooLong, IsAccepted}
 use Rattle.ml_text.specs.Items.{bytes_of}
 use Rattle.ml_text.specs.Names.{Action, KindedName, IsShortName}
@@ -17,8 +18,7 @@ use Rattle.ml_text.proofs.Names.{Bears, IsSpelledName, all_both, bears_short, be
 use Rattle.ml_text.proofs.TableItems.{signs_all, signs_short}
 use Rattle.ml_mu.specs.Formula.{Formula}
 use Rattle.ml_mu.specs.FormulaNames.{names}
-use Rattle.ml_mu.specs.Grammar as grammar
-use Rattle.ml_mu.specs.Grammar.{IsReadAs, Reads, iff_alone, iff, imp_alone, imp, or_alone, or, and_alone, and, negation, modal, modal_blank, binder, group, constant, proposition, variable}
+use Rattle.ml_mu.specs.Grammar.{IsReadAs, Reads, alone, joined, negation, modal, modal_blank, binder, group, constant, proposition, variable}
 use Rattle.ml_mu.specs.Signs.{Sign, action_of, own, sign_of}
 use Rattle.ml_mu.specs.declared.signs.Own.TheVariants.{Blank}
 use Rattle.ml_mu.specs.Spelling.{HasShortNames, is_spelled}
@@ -41,15 +41,9 @@ module _ (P : KindedName → Type 0) (any : P (Action, codes "_")) where
       → AllByRecursion P (names f ++ names g) × All rest
   both f g rest left right = (all_both P (names f) (names g) left right.0, right.1)
 
-  pub reads_names : {l : grammar.Level} {ts rest : List Sign} {f : Formula} → Reads l ts f rest → All ts → Keeps f rest
-  reads_names (iff_alone r) is = reads_names r is
-  reads_names (iff {f = f} {g = g} a b) is = let x = reads_names a is in both f g _ x.0 (reads_names b (x.1).1)
-  reads_names (imp_alone r) is = reads_names r is
-  reads_names (imp {f = f} {g = g} a b) is = let x = reads_names a is in both f g _ x.0 (reads_names b (x.1).1)
-  reads_names (or_alone r) is = reads_names r is
-  reads_names (or {f = f} {g = g} a b) is = let x = reads_names a is in both f g _ x.0 (reads_names b (x.1).1)
-  reads_names (and_alone r) is = reads_names r is
-  reads_names (and {f = f} {g = g} a b) is = let x = reads_names a is in both f g _ x.0 (reads_names b (x.1).1)
+  pub reads_names : {l : Level} {ts rest : List Sign} {f : Formula} → Reads l ts f rest → All ts → Keeps f rest
+  reads_names (alone o r) is = reads_names r is
+  reads_names (joined {f = f} {g = g} o a b) is = let x = reads_names a is in both f g _ x.0 (reads_names b (x.1).1)
   reads_names (negation r) is = reads_names r is.1
   reads_names (modal m a s e r) is =
       let x = reads_names r ((is.1).1).1 in ((read_action s a e (is.1).0, x.0), x.1)
