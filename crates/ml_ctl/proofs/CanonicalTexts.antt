@@ -17,7 +17,9 @@ use Rattle.ml_text.specs.declared.token.WordStart.TheVariants.{LowerCase}
 use Rattle.ml_text.specs.Tokens.{tokens}
 use Rattle.ml_text.specs.Words.{constant_of, is_word_from}
 use Rattle.ml_text.specs.Refusals.{signs_of}
+use Rattle.ml_text.specs.Levels.{Joined, Operand, Tight}
 use Rattle.ml_text.specs.Operators.{spelling_of}
+use Rattle.ml_text.proofs.LooserLevels.{raised, left_raised, right_raised, loosest}
 use Rattle.ml_text.proofs.NamedSigns.{proposition_sign}
 use Rattle.ml_text.proofs.Names.{spelled_parts}
 use Rattle.ml_text.proofs.Pieces.{lone, lone_piece, not_piece, operator_piece, between_same, ends_word, word_piece}
@@ -41,14 +43,12 @@ use Rattle.ml_text.specs.declared.named_signs.Sign.TheVariants.{Connective, Cons
 use Rattle.ml_ctl.specs.Signs.{Sign, own, sign_of}
 use Rattle.ml_ctl.specs.declared.signs.Own.TheVariants.{Tensed, Pairs, Quantifies}
 use Rattle.ml_ctl.specs.Spelling.{is_proposition, is_reserved, is_spelled}
-use Rattle.ml_ctl.specs.Grammar as grammar
-use Rattle.ml_ctl.specs.Grammar.{sort_of, Reads, iff_alone, iff, imp_alone, imp, or_alone, or, and_alone, and}
+use Rattle.ml_ctl.specs.Grammar.{sort_of, Reads, alone, joined}
 use Rattle.ml_ctl.specs.declared.language.Sort.{Sort}
 use Rattle.ml_ctl.specs.declared.language.Sort.TheVariants.{State, Path}
 use Rattle.ml_ctl.specs.Grammar.{pair_alone, pair, negation, temporal, quantified, group, constant, proposition}
 use Rattle.ml_ctl.specs.Text.{ctl_signs, items}
 use Rattle.ml_ctl.specs.TextLaws.{IsTextOf}
-use Rattle.ml_ctl.proofs.GrammarTables.{un_raised}
 use Rattle.ml_ctl.proofs.Sorts.{fits, is_of_fits}
 
 -- ---- the tokens of a canonical text
@@ -157,33 +157,38 @@ pub quantifier_sign : (q : Quantifier) → sign_spelt (lone (quantifier_letter q
 quantifier_sign quantifier.Exists = refl
 quantifier_sign quantifier.Forall = refl
 
+pub as_text : {w : Language} {s : Sort} {ts rest : List Sign} {f : Formula}
+    → Reads w s Operand ts f rest
+    → Reads w s (Joined operator.Iff) ts f rest
+as_text {w} {s} {ts} {rest} {f} r = raised (λ l. Reads w s l ts f rest) alone operator.Iff r
+
 binary_read : {w : Language} {s : Sort} (o : Operator) {ts us rest : List Sign} {f g : Formula}
-    → Reads w s grammar.Un ts f (Connective o ∷ us)
-    → Reads w s grammar.Un us g (Close ∷ rest)
-    → Reads w s grammar.Un (Open ∷ ts) (plain.Binary o f g) rest
-binary_read operator.Iff a b = group (iff (un_raised grammar.Imp a) (un_raised grammar.Iff b))
-binary_read operator.Implies a b = group (iff_alone (imp (un_raised grammar.Or a) (un_raised grammar.Imp b)))
-binary_read operator.Or a b = group (iff_alone (imp_alone (or (un_raised grammar.Or a) (un_raised grammar.And b))))
-binary_read operator.And a b = group (iff_alone (imp_alone (or_alone (and (un_raised grammar.And a) (un_raised grammar.Pair b)))))
+    → Reads w s Tight ts f (Connective o ∷ us)
+    → Reads w s Tight us g (Close ∷ rest)
+    → Reads w s Tight (Open ∷ ts) (plain.Binary o f g) rest
+binary_read {w} {s} o {ts} {us} {rest} {f} {g} a b =
+    let left = left_raised (λ l. Reads w s l ts f (Connective o ∷ us)) alone o (pair_alone a) in
+    let right = right_raised (λ l. Reads w s l us g (Close ∷ rest)) alone o (pair_alone b) in
+    group (loosest (λ l. Reads w s l ts (plain.Binary o f g) (Close ∷ rest)) alone o (joined o left right))
 
 -- a sign that begins an operand, by what it is
 begins_with : (w : Language) (s : Sort) (t u : Sign) (ts rest : List Sign) (f : Formula)
     → t ≡ u
-    → Reads w s grammar.Un (u ∷ ts) f rest
-    → Reads w s grammar.Un (t ∷ ts) f rest
-begins_with w s t u ts rest f same r = subst (λ x. Reads w s grammar.Un (x ∷ ts) f rest) (sym same) r
+    → Reads w s Tight (u ∷ ts) f rest
+    → Reads w s Tight (t ∷ ts) f rest
+begins_with w s t u ts rest f same r = subst (λ x. Reads w s Tight (x ∷ ts) f rest) (sym same) r
 
 pair_read : (w : Language) (p : Pairing) (t : Sign) (ts us rest : List Sign) (f g : Formula)
     → t ≡ Added (Pairs p)
-    → Reads w Path grammar.Un ts f (t ∷ us)
-    → Reads w Path grammar.Un us g (Close ∷ rest)
-    → Reads w Path grammar.Un (Open ∷ ts) (plain.Paired p f g) rest
+    → Reads w Path Tight ts f (t ∷ us)
+    → Reads w Path Tight us g (Close ∷ rest)
+    → Reads w Path Tight (Open ∷ ts) (plain.Paired p f g) rest
 pair_read w p t ts us rest f g same a b =
-    let left = subst (λ x. Reads w Path grammar.Un ts f (x ∷ us)) same a in
-    group (iff_alone (imp_alone (or_alone (and_alone (pair p left (pair_alone b))))))
+    let left = subst (λ x. Reads w Path Tight ts f (x ∷ us)) same a in
+    group (as_text (pair p left (pair_alone b)))
 
 abbrev ReadsBack : Language → Sort → Formula → Type 0
-ReadsBack w s f = (ss : List Spelt) → Reads w s grammar.Un (map sign_spelt (tokens_onto f ss)) f (map sign_spelt ss)
+ReadsBack w s f = (ss : List Spelt) → Reads w s Tight (map sign_spelt (tokens_onto f ss)) f (map sign_spelt ss)
 
 temporal_back : (w : Language) (s : Sort) (t : Tense) (f : Formula)
     → fits w s (plain.Temporal t f) ≡ true
@@ -257,5 +262,5 @@ canonical_stands w f is stand =
     let text = canonical_text f in
     let signs_are : signs_of (items text) ≡ map sign_spelt (tokens_onto f []) =
     signs_spelt ctl_signs sign_spelt text (λ p. refl) tt (tokens LowerCase text) ∙ ap (map sign_spelt) (canonical_tokens f is) in
-    subst (λ ts. Reads w (sort_of w) grammar.Iff ts f []) (sym signs_are)
-    (un_raised grammar.Iff (reads_formula w (sort_of w) f is (is_of_fits w f stand) []))
+    subst (λ ts. Reads w (sort_of w) (Joined operator.Iff) ts f []) (sym signs_are)
+    (as_text (pair_alone (reads_formula w (sort_of w) f is (is_of_fits w f stand) [])))

@@ -7,6 +7,7 @@
 use Rattle.std.proofs.Common.{◌≡◌, ℕ, ◌+◌, ◌≤◌, List, [], ◌∷◌, length, refl, arith, length-append}
 use Rattle.std.proofs.lemmas.List.Sums.{sum_by-cons}
 use Rattle.ml_text.specs.declared.token.Placed.{Placed}
+use Rattle.ml_text.specs.Levels.{Level}
 use Rattle.ml_text.specs.Refusals.{Item, signs_of, counted}
 use Rattle.ml_text.specs.Items as text_items
 use Rattle.ml_ctl.specs.Formula as plain
@@ -14,8 +15,7 @@ use Rattle.ml_ctl.specs.Formula.{Formula, occurrences}
 use Rattle.ml_ctl.specs.FormulaNames.{names}
 use Rattle.ml_ctl.specs.declared.language.Language.{Language}
 use Rattle.ml_ctl.specs.Signs.{Sign}
-use Rattle.ml_ctl.specs.Grammar as grammar
-use Rattle.ml_ctl.specs.Grammar.{Reads, iff_alone, iff, imp_alone, imp, or_alone, or, and_alone, and, pair_alone, pair, negation, temporal, quantified, group, constant, proposition}
+use Rattle.ml_ctl.specs.Grammar.{Reads, alone, joined, pair_alone, pair, negation, temporal, quantified, group, constant, proposition}
 use Rattle.ml_ctl.specs.declared.language.Sort.{Sort}
 use Rattle.ml_ctl.specs.Text.{weight_of, ctl_signs}
 use Rattle.ml_ctl.specs.TextLaws.{items_from}
@@ -33,17 +33,11 @@ counted_items text (p ∷ ps) =
     omega (arith, here, later)
 
 module _ {w : Language} where
-  pub counts : {s : Sort} {l : grammar.Level} {ts rest : List Sign} {f : Formula}
+  pub counts : {s : Sort} {l : Level} {ts rest : List Sign} {f : Formula}
       → Reads w s l ts f rest
       → count_signs ts ≡ occurrences f + count_signs rest
-  counts (iff_alone r) = counts r
-  counts (iff a b) = let x = counts a in let y = counts b in omega (arith, x, y)
-  counts (imp_alone r) = counts r
-  counts (imp a b) = let x = counts a in let y = counts b in omega (arith, x, y)
-  counts (or_alone r) = counts r
-  counts (or a b) = let x = counts a in let y = counts b in omega (arith, x, y)
-  counts (and_alone r) = counts r
-  counts (and a b) = let x = counts a in let y = counts b in omega (arith, x, y)
+  counts (alone o r) = counts r
+  counts (joined o a b) = let x = counts a in let y = counts b in omega (arith, x, y)
   counts (pair_alone r) = counts r
   counts (pair p a b) = let x = counts a in let y = counts b in omega (arith, x, y)
   counts (negation r) = let x = counts r in omega (arith, x)

@@ -2,7 +2,7 @@
 --
 --   ctl_fits      == the tables are those of the grammar, and what the machine asks for
 --   one_formula   == signs stand for one formula at most
-use Rattle.std.proofs.Common.{◌≡◌, true, List, [], ◌∷◌, ◌++◌, Some, refl, subst}
+use Rattle.std.proofs.Common.{◌≡◌, true, List, [], ◌∷◌, ◌++◌, Some, refl, subst, arith}
 use Rattle.ml_text.specs.Grammar.{More, Opens, sign, read, whole, front, IsStop, IsRegular, Ending, IsCompletable, StandsFor}
 use Rattle.ml_text.proofs.Complete.{one_tree}
 use Rattle.ml_text.proofs.Fits.{Fits}
@@ -56,7 +56,7 @@ pub stands_read : (w : Language) (ts : List Sign) (f : Formula) → StandsFor (c
 stands_read w ts f is = untabled w is
 
 pub read_stands : (w : Language) (ts : List Sign) (f : Formula) → IsReadAs w ts f → StandsFor (ctl_grammar w) ts f
-read_stands w ts f is = tabled is
+read_stands w ts f is = tabled is 0 (omega arith)
 
 pub ctl_fits : (w : Language) → Fits (ctl_grammar w) (IsReadAs w)
 ctl_fits w = record {

@@ -7,6 +7,7 @@ use Rattle.std.proofs.Common.{◌≡◌, ℕ, ◌-◌, true, List, ◌++◌, ref
 use Rattle.std.specs.List.{AllByRecursion}
 use Rattle.ml_text.specs.declared.token.WordStart.TheVariants.{LowerCase}
 use Rattle.ml_text.specs.Tokens.{tokens}
+use Rattle.ml_text.specs.Levels.{Level}
 use Rattle.ml_text.specs.Refusals.{NameTooLong, IsAccepted}
 use Rattle.ml_text.specs.Items.{bytes_of}
 use Rattle.ml_text.specs.Names.{KindedName, IsShortName}
@@ -18,8 +19,7 @@ use Rattle.ml_ctl.specs.Formula.{Formula}
 use Rattle.ml_ctl.specs.FormulaNames.{names}
 use Rattle.ml_ctl.specs.declared.language.Language.{Language}
 use Rattle.ml_ctl.specs.declared.language.Sort.{Sort}
-use Rattle.ml_ctl.specs.Grammar as grammar
-use Rattle.ml_ctl.specs.Grammar.{IsReadAs, Reads, iff_alone, iff, imp_alone, imp, or_alone, or, and_alone, and, pair_alone, pair, negation, temporal, quantified, group, constant, proposition}
+use Rattle.ml_ctl.specs.Grammar.{IsReadAs, Reads, alone, joined, pair_alone, pair, negation, temporal, quantified, group, constant, proposition}
 use Rattle.ml_ctl.specs.Signs.{Sign, own, sign_of}
 use Rattle.ml_ctl.specs.Spelling.{HasShortNames, is_spelled}
 use Rattle.ml_ctl.specs.Text.{ctl_signs, items}
@@ -37,18 +37,12 @@ module _ (P : KindedName → Type 0) where
       → AllByRecursion P (names f ++ names g) × All rest
   both f g rest left right = (all_both P (names f) (names g) left right.0, right.1)
 
-  pub reads_names : {w : Language} {s : Sort} {l : grammar.Level} {ts rest : List Sign} {f : Formula}
+  pub reads_names : {w : Language} {s : Sort} {l : Level} {ts rest : List Sign} {f : Formula}
       → Reads w s l ts f rest
       → All ts
       → Keeps f rest
-  reads_names (iff_alone r) is = reads_names r is
-  reads_names (iff {f = f} {g = g} a b) is = let x = reads_names a is in both f g _ x.0 (reads_names b (x.1).1)
-  reads_names (imp_alone r) is = reads_names r is
-  reads_names (imp {f = f} {g = g} a b) is = let x = reads_names a is in both f g _ x.0 (reads_names b (x.1).1)
-  reads_names (or_alone r) is = reads_names r is
-  reads_names (or {f = f} {g = g} a b) is = let x = reads_names a is in both f g _ x.0 (reads_names b (x.1).1)
-  reads_names (and_alone r) is = reads_names r is
-  reads_names (and {f = f} {g = g} a b) is = let x = reads_names a is in both f g _ x.0 (reads_names b (x.1).1)
+  reads_names (alone o r) is = reads_names r is
+  reads_names (joined {f = f} {g = g} o a b) is = let x = reads_names a is in both f g _ x.0 (reads_names b (x.1).1)
   reads_names (pair_alone r) is = reads_names r is
   reads_names (pair {f = f} {g = g} p a b) is = let x = reads_names a is in both f g _ x.0 (reads_names b (x.1).1)
   reads_names (negation r) is = reads_names r is.1

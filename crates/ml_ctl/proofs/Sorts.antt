@@ -5,13 +5,13 @@
 --   fits_is_of, is_of_fits == the formulas of a logic are those that may stand as its texts
 use Rattle.std.proofs.Common.{◌≡◌, Bool, true, false, ◌&&◌, List, refl, sym, ◌∙◌}
 use Rattle.std.proofs.lemmas.Bool.{and_from, and_parts, false≢true}
+use Rattle.ml_text.specs.Levels.{Level}
 use Rattle.ml_ctl.specs.Formula as plain
 use Rattle.ml_ctl.specs.Formula.{Formula}
 use Rattle.ml_ctl.specs.Sorts.{is_state, is_linear, is_of}
 use Rattle.ml_ctl.specs.declared.language.Language.{Language}
 use Rattle.ml_ctl.specs.declared.language.Language.TheVariants.{Ctl, Ltl}
-use Rattle.ml_ctl.specs.Grammar as grammar
-use Rattle.ml_ctl.specs.Grammar.{sort_of, Reads, iff_alone, iff, imp_alone, imp, or_alone, or, and_alone, and}
+use Rattle.ml_ctl.specs.Grammar.{sort_of, Reads, alone, joined}
 use Rattle.ml_ctl.specs.declared.language.Sort.{Sort}
 use Rattle.ml_ctl.specs.declared.language.Sort.TheVariants.{State, Path}
 use Rattle.ml_ctl.specs.Grammar.{pair_alone, pair, negation, temporal, quantified, group, constant, proposition}
@@ -39,17 +39,11 @@ quantifiers_stand Ctl is = refl
 quantifiers_stand Ltl is = absurd (cc)
 
 module _ {w : Language} where
-  pub reads_fits : {s : Sort} {l : grammar.Level} {ts rest : List Sign} {f : Formula}
+  pub reads_fits : {s : Sort} {l : Level} {ts rest : List Sign} {f : Formula}
       → Reads w s l ts f rest
       → fits w s f ≡ true
-  reads_fits (iff_alone r) = reads_fits r
-  reads_fits (iff {s = s} {f = f} {g = g} a b) = and_from (fits w s f) (fits w s g) (reads_fits a) (reads_fits b)
-  reads_fits (imp_alone r) = reads_fits r
-  reads_fits (imp {s = s} {f = f} {g = g} a b) = and_from (fits w s f) (fits w s g) (reads_fits a) (reads_fits b)
-  reads_fits (or_alone r) = reads_fits r
-  reads_fits (or {s = s} {f = f} {g = g} a b) = and_from (fits w s f) (fits w s g) (reads_fits a) (reads_fits b)
-  reads_fits (and_alone r) = reads_fits r
-  reads_fits (and {s = s} {f = f} {g = g} a b) = and_from (fits w s f) (fits w s g) (reads_fits a) (reads_fits b)
+  reads_fits (alone o r) = reads_fits r
+  reads_fits (joined {s = s} {f = f} {g = g} o a b) = and_from (fits w s f) (fits w s g) (reads_fits a) (reads_fits b)
   reads_fits (pair_alone r) = reads_fits r
   reads_fits (pair {f = f} {g = g} p a b) = and_from (fits w Path f) (fits w Path g) (reads_fits a) (reads_fits b)
   reads_fits (negation r) = reads_fits r

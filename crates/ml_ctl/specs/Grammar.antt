@@ -18,14 +18,18 @@
 -- formulas the level between pand and pun is un itself.
 --
 -- The grammar is a relation with what is left over: Reads w s l ts f rest says that the signs ts begin with the formula f
--- as the level l of the sort s, and that rest follows. So each rule reads as its line above.
+-- as the level l of the sort s, and that rest follows. So each rule reads as its line above. The lines of the connectives
+-- are two rules for all of them, `alone` and `joined`, by the table of levels of ml_text; ptm is the level Operand, and
+-- pun and un are the level Tight.
 --
 --   Sort                  == state formulas or path formulas
 --   Reads w s l ts f rest == in the logic w, ts begins with f at the level l of the sort s, and rest follows it
 --   sort_of w             == the sort of the formulas that texts of the logic w stand for
 --   IsReadAs w ts f       == the signs ts, all of them, are a text of f in the logic w
 use Rattle.std.specs.Prelude.{◌≡◌, ℕ, Bool, List, [], ◌∷◌}
+use Rattle.ml_text.specs.declared.token.Operator.{Operator}
 use Rattle.ml_text.specs.declared.token.Operator.TheVariants as operator
+use Rattle.ml_text.specs.Levels.{Level, Joined, Operand, Tight, tighter, left_level, right_level}
 use Rattle.ml_ctl.specs.Formula as plain
 use Rattle.ml_ctl.specs.Formula.{Formula}
 use Rattle.ml_ctl.specs.declared.term.Tense.{Tense}
@@ -39,64 +43,45 @@ use Rattle.ml_text.specs.declared.named_signs.Sign.TheVariants.{Not, Connective,
 use Rattle.ml_ctl.specs.Signs.{Sign}
 use Rattle.ml_ctl.specs.declared.signs.Own.TheVariants.{Tensed, Pairs, Quantifies}
 
-pub data Level : Type 0 where
-  Iff Imp Or And Pair Un : Level
-
 pub data Reads (w : Language) : Sort → Level → List Sign → Formula → List Sign → Type 0 where
-  -- iff = imp [ IFF iff ]
-  iff_alone : {s : Sort} {ts rest : List Sign} {f : Formula} → Reads w s Imp ts f rest → Reads w s Iff ts f rest
-  iff : {s : Sort} {ts us rest : List Sign} {f g : Formula}
-      → Reads w s Imp ts f (Connective operator.Iff ∷ us)
-      → Reads w s Iff us g rest
-      → Reads w s Iff ts (plain.Binary operator.Iff f g) rest
-  -- imp = or [ IMP imp ]
-  imp_alone : {s : Sort} {ts rest : List Sign} {f : Formula} → Reads w s Or ts f rest → Reads w s Imp ts f rest
-  imp : {s : Sort} {ts us rest : List Sign} {f g : Formula}
-      → Reads w s Or ts f (Connective operator.Implies ∷ us)
-      → Reads w s Imp us g rest
-      → Reads w s Imp ts (plain.Binary operator.Implies f g) rest
-  -- or = and { OR and }
-  or_alone : {s : Sort} {ts rest : List Sign} {f : Formula} → Reads w s And ts f rest → Reads w s Or ts f rest
-  or : {s : Sort} {ts us rest : List Sign} {f g : Formula}
-      → Reads w s Or ts f (Connective operator.Or ∷ us)
-      → Reads w s And us g rest
-      → Reads w s Or ts (plain.Binary operator.Or f g) rest
-  -- and = un { AND un }, and pand = ptm { AND ptm }
-  and_alone : {s : Sort} {ts rest : List Sign} {f : Formula} → Reads w s Pair ts f rest → Reads w s And ts f rest
-  and : {s : Sort} {ts us rest : List Sign} {f g : Formula}
-      → Reads w s And ts f (Connective operator.And ∷ us)
-      → Reads w s Pair us g rest
-      → Reads w s And ts (plain.Binary operator.And f g) rest
+  -- iff, imp, or, and, and the same of path formulas: what is tighter alone, or joined by the connective
+  alone : {s : Sort} {ts rest : List Sign} {f : Formula} (o : Operator)
+      → Reads w s (tighter o) ts f rest
+      → Reads w s (Joined o) ts f rest
+  joined : {s : Sort} {ts us rest : List Sign} {f g : Formula} (o : Operator)
+      → Reads w s (left_level o) ts f (Connective o ∷ us)
+      → Reads w s (right_level o) us g rest
+      → Reads w s (Joined o) ts (plain.Binary o f g) rest
   -- ptm = pun [ ( "U" | "R" | "W" ) ptm ]
-  pair_alone : {s : Sort} {ts rest : List Sign} {f : Formula} → Reads w s Un ts f rest → Reads w s Pair ts f rest
+  pair_alone : {s : Sort} {ts rest : List Sign} {f : Formula} → Reads w s Tight ts f rest → Reads w s Operand ts f rest
   pair : {ts us rest : List Sign} {f g : Formula} (p : Pairing)
-      → Reads w Path Un ts f (Added (Pairs p) ∷ us)
-      → Reads w Path Pair us g rest
-      → Reads w Path Pair ts (plain.Paired p f g) rest
+      → Reads w Path Tight ts f (Added (Pairs p) ∷ us)
+      → Reads w Path Operand us g rest
+      → Reads w Path Operand ts (plain.Paired p f g) rest
   -- NOT un
   negation : {s : Sort} {ts rest : List Sign} {f : Formula}
-      → Reads w s Un ts f rest
-      → Reads w s Un (Not ∷ ts) (plain.Not f) rest
+      → Reads w s Tight ts f rest
+      → Reads w s Tight (Not ∷ ts) (plain.Not f) rest
   -- ( "X" | "F" | "G" ) pun
   temporal : {ts rest : List Sign} {f : Formula} (t : Tense)
-      → Reads w Path Un ts f rest
-      → Reads w Path Un (Added (Tensed t) ∷ ts) (plain.Temporal t f) rest
+      → Reads w Path Tight ts f rest
+      → Reads w Path Tight (Added (Tensed t) ∷ ts) (plain.Temporal t f) rest
   -- ( "E" | "A" ) pun
   quantified : {s : Sort} {ts rest : List Sign} {f : Formula} (q : Quantifier)
       → w ≡ Ctl
-      → Reads w Path Un ts f rest
-      → Reads w s Un (Added (Quantifies q) ∷ ts) (plain.Quantified q f) rest
+      → Reads w Path Tight ts f rest
+      → Reads w s Tight (Added (Quantifies q) ∷ ts) (plain.Quantified q f) rest
   -- "(" iff ")"
   group : {s : Sort} {ts rest : List Sign} {f : Formula}
-      → Reads w s Iff ts f (Close ∷ rest)
-      → Reads w s Un (Open ∷ ts) f rest
+      → Reads w s (Joined operator.Iff) ts f (Close ∷ rest)
+      → Reads w s Tight (Open ∷ ts) f rest
   -- TT, FF, PROP
-  constant : {s : Sort} {rest : List Sign} (b : Bool) → Reads w s Un (Const b ∷ rest) (plain.Const b) rest
-  proposition : {s : Sort} {rest : List Sign} (p : List ℕ) → Reads w s Un (Lower p ∷ rest) (plain.Prop p) rest
+  constant : {s : Sort} {rest : List Sign} (b : Bool) → Reads w s Tight (Const b ∷ rest) (plain.Const b) rest
+  proposition : {s : Sort} {rest : List Sign} (p : List ℕ) → Reads w s Tight (Lower p ∷ rest) (plain.Prop p) rest
 
 abbrev pub sort_of : Language → Sort
 sort_of Ctl = State
 sort_of Ltl = Path
 
 abbrev pub IsReadAs : Language → List Sign → Formula → Type 0
-IsReadAs w ts f = Reads w (sort_of w) Iff ts f []
+IsReadAs w ts f = Reads w (sort_of w) (Joined operator.Iff) ts f []

@@ -8,27 +8,27 @@ use Rattle.std.proofs.Common.{◌≡◌, ℕ, ◌+◌, ◌<◌, ◌≤◌, true,
 use Rattle.std.specs.List.{AllByRecursion}
 use Rattle.ml_text.specs.declared.token.Operator.TheVariants as operator
 use Rattle.ml_text.specs.declared.token.WordStart.TheVariants.{LowerCase}
+use Rattle.ml_text.specs.Levels.{Joined, Tight}
 use Rattle.ml_text.specs.Tokens.{tokens}
 use Rattle.ml_text.specs.Refusals.{signs_of}
 use Rattle.ml_text.specs.Limits.{most_occurrences}
 use Rattle.ml_text.specs.Signs.{bracket_of}
 use Rattle.ml_text.proofs.AcceptedTexts.{accepted}
+use Rattle.ml_text.proofs.LooserLevels.{raised, loosest}
 use Rattle.ml_text.proofs.Pieces.{lone, lone_piece, and_piece}
 use Rattle.ml_text.proofs.Scans.{Spelt, spelt_at, Scans, ends, scans_tokens}
 use Rattle.ml_text.proofs.TableItems.{IsShort, signs_spelt}
 use Rattle.ml_ctl.specs.Canonical.{canonical_text}
 use Rattle.ml_ctl.specs.Formula.{Formula, Binary, occurrences}
 use Rattle.ml_ctl.specs.declared.language.Language.TheVariants.{Ltl}
-use Rattle.ml_ctl.specs.Grammar as grammar
-use Rattle.ml_ctl.specs.Grammar.{IsReadAs, Reads, iff_alone, imp_alone, or_alone, and, pair_alone, group}
+use Rattle.ml_ctl.specs.Grammar.{IsReadAs, Reads, alone, joined, pair_alone, group}
 use Rattle.ml_ctl.specs.declared.language.Sort.TheVariants.{Path}
 use Rattle.ml_ctl.specs.Signs.{Sign, own}
 use Rattle.ml_ctl.specs.Spelling.{HasShortNames, is_spelled}
 use Rattle.ml_ctl.specs.Text.{ctl_signs, items}
 use Rattle.ml_ctl.proofs.CanonicalLimits.{few_open, opens_of, tokens_short}
-use Rattle.ml_ctl.proofs.CanonicalTexts.{reads_formula, scans_formula, sign_spelt, tokens_onto}
+use Rattle.ml_ctl.proofs.CanonicalTexts.{as_text, reads_formula, scans_formula, sign_spelt, tokens_onto}
 use Rattle.ml_ctl.proofs.Counting.{counts, counted_items}
-use Rattle.ml_ctl.proofs.GrammarTables.{un_raised}
 use Rattle.ml_ctl.proofs.Sorts.{fits}
 use Rattle.ml_ctl.specs.Parsing.{IsParsedAs}
 use Rattle.ml_gen.proofs.Chains as chains
@@ -72,18 +72,18 @@ scans_more (g ∷ gs) all =
     and_piece LowerCase (codes "(" ++ (canonical_text g ++ (codes ")" ++ more_text gs))) (grouped g (more_tokens gs)) rest
 
 reads_grouped : (f : Formula) → IsPart f → (ss : List Spelt)
-    → Reads Ltl Path grammar.Un (map sign_spelt (grouped f ss)) f (map sign_spelt ss)
+    → Reads Ltl Path Tight (map sign_spelt (grouped f ss)) f (map sign_spelt ss)
 reads_grouped f part ss =
-    group (un_raised grammar.Iff (reads_formula Ltl Path f part.spelled part.stands (lone 41 ∷ ss)))
+    group (as_text (pair_alone (reads_formula Ltl Path f part.spelled part.stands (lone 41 ∷ ss))))
 
 reads_more : (gs : List Formula)
     → AllByRecursion IsPart gs
     → (f : Formula) (ts : List Sign)
-    → Reads Ltl Path grammar.And ts f (map sign_spelt (more_tokens gs))
-    → Reads Ltl Path grammar.And ts (chain f gs) []
+    → Reads Ltl Path (Joined operator.And) ts f (map sign_spelt (more_tokens gs))
+    → Reads Ltl Path (Joined operator.And) ts (chain f gs) []
 reads_more [] all f ts r = r
 reads_more (g ∷ gs) all f ts r =
-    reads_more gs all.1 (Binary operator.And f g) ts (and r (pair_alone (reads_grouped g all.0 (more_tokens gs))))
+    reads_more gs all.1 (Binary operator.And f g) ts (joined operator.And r (pair_alone (reads_grouped g all.0 (more_tokens gs))))
 
 short_part : (g : Formula) (ss : List Spelt) → IsPart g → AllByRecursion IsShort ss
     → AllByRecursion IsShort (grouped g ss)
@@ -116,10 +116,15 @@ module _ (f : Formula) (gs : List Formula) (part : IsPart f) (parts : AllByRecur
 
   stands : IsReadAs Ltl (signs_of (items text)) (chain f gs)
   stands =
-      let first = un_raised grammar.And (reads_grouped f part (more_tokens gs)) in
+      let here = map sign_spelt spelt in
+      let first =
+      raised (λ l. Reads Ltl Path l here f (map sign_spelt (more_tokens gs))) alone operator.And
+      (pair_alone (reads_grouped f part (more_tokens gs)))
+      in
+      let all = reads_more gs parts f here first in
       subst (λ ts. IsReadAs Ltl ts (chain f gs)) (sym (signs_spelt ctl_signs sign_spelt text (λ p. refl) tt (tokens LowerCase text)
       ∙ ap (map sign_spelt) tokens_are))
-      (iff_alone (imp_alone (or_alone (reads_more gs parts f (map sign_spelt spelt) first))))
+      (loosest (λ l. Reads Ltl Path l here (chain f gs) []) alone operator.And all)
 
   pub chain_parsed : IsParsedAs Ltl (chain_text f gs) (chain f gs)
   chain_parsed =
