@@ -6,7 +6,7 @@
 use Rattle.ml_nodes.proofs.OneNumbering as numbering
 use Rattle.ml_nodes.proofs.OneSize as sizes
 use Rattle.ml_nodes.proofs.SomeGraph as graphs
-use Rattle.ml_blocks.specs.Closures.{OneSize, SomeGraph}
+use Rattle.ml_blocks.specs.ClosureLaws.{OneSize, SomeGraph}
 use Rattle.ml_blocks.specs.OneGraph.{OneGraph}
 use Rattle.ml_blocks.specs.Places.{Root, forms}
 use Rattle.ml_blocks.proofs.PlaceEquality.{same_place}

@@ -14,7 +14,8 @@ use Rattle.ml_ctl.specs.declared.term.Tense.TheVariants as tense
 use Rattle.ml_ctl.specs.declared.term.Pairing.TheVariants as pairing
 use Rattle.ml_ctl.specs.Laws.{IsDecided, IsDecidedAlong}
 use Rattle.ml_ctl.specs.Meaning.{Nowhere, Everywhere, TruthAt}
-use Rattle.ml_ctl.specs.Paths.{IsPlace, places}
+use Rattle.ml_ctl.specs.Paths.{places}
+use Rattle.ml_ctl.specs.Unrolled.{IsPlace}
 use Rattle.ml_ctl.proofs.Iterated.{untils, releases}
 use Rattle.ml_ctl.proofs.StepByStep.{closed, next_is_place}
 use Rattle.ml_blocks.specs.Laws.{TruthIsDecided}

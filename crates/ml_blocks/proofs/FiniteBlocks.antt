@@ -16,7 +16,8 @@ use Rattle.ml_lists.specs.Member.{IsMember}
 use Rattle.ml_lists.proofs.Member.{member-append_left, member-append_right, member-flat_map, member-map}
 use Rattle.ml_lists.proofs.Ranges.{member-range}
 use Rattle.ml_ctl.specs.Formula.{occurrences}
-use Rattle.ml_blocks.specs.BlockGraph.{IsReached, at_root, behind, children}
+use Rattle.ml_blocks.specs.BlockClosures.{at_root, behind, children}
+use Rattle.ml_blocks.specs.BlockClosures.{IsReached}
 use Rattle.ml_blocks.specs.Items.{Item, Row, OfState, Waits, Becomes, Either, put_off, row}
 use Rattle.ml_blocks.specs.ItemSets.{due, key, put_all, without, items_within, next_items, eventualities}
 use Rattle.ml_blocks.specs.Places.{Place, Holding, form_of, form_of_item, focus_behind, is_put_off, path_of, first_open, block_of, all_of, one_of}

@@ -15,7 +15,9 @@ use Rattle.ml_ctl.specs.declared.term.Pairing.{Pairing}
 use Rattle.ml_ctl.specs.declared.term.Quantifier.{Quantifier}
 use Rattle.ml_ctl.specs.declared.term.Tense.{Tense}
 use Rattle.ml_ctl.specs.declared.term.Quantifier.TheVariants.{Exists, Forall}
-use Rattle.ml_blocks.specs.BlockGraph.{IsReached, at_root, behind as behind_place, children, linear_start_of, start_of}
+use Rattle.ml_blocks.specs.BlockGraph.{linear_start_of, start_of}
+use Rattle.ml_blocks.specs.BlockClosures.{at_root, behind as behind_place, children}
+use Rattle.ml_blocks.specs.BlockClosures.{IsReached}
 use Rattle.ml_blocks.specs.Closures.{HasMoreThan}
 use Rattle.ml_blocks.specs.FiniteClosures.{ClosuresAreFinite, IsFinite}
 use Rattle.ml_blocks.specs.Items.{now}

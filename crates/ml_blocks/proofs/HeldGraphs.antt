@@ -25,7 +25,9 @@ use Rattle.ml_ctl.specs.declared.term.Quantifier.{Quantifier}
 use Rattle.ml_ctl.specs.declared.term.Quantifier.TheVariants as quantifier
 use Rattle.ml_ctl.specs.Signs.{own}
 use Rattle.ml_ctl.specs.Spelling.{HasShortNames, is_spelled}
-use Rattle.ml_blocks.specs.BlockGraph.{IsGraphAt, IsReached, at_root, behind, children}
+use Rattle.ml_blocks.specs.BlockGraph.{IsGraphAt}
+use Rattle.ml_blocks.specs.BlockClosures.{at_root, behind, children}
+use Rattle.ml_blocks.specs.BlockClosures.{IsReached}
 use Rattle.ml_blocks.specs.Items.{Item, Row, OfState, Waits, Becomes, Either, now, put_off, row, row_at, row_of_connective, row_of_pairing}
 use Rattle.ml_blocks.specs.Items.{row_of_tense, unless_put_off, until_released, left_number, behind_next, operand_of}
 use Rattle.ml_blocks.specs.ItemSets.{due, eventualities, next_items, next_of, put_all, without}

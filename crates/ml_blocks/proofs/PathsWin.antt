@@ -25,7 +25,8 @@ use Rattle.ml_graph.specs.CheckingGame.{Pair}
 use Rattle.ml_graph.proofs.OneStep.{vertex_low}
 use Rattle.ml_ctl.specs.Laws.{IsDecided}
 use Rattle.ml_ctl.specs.Meaning.{HoldsAt}
-use Rattle.ml_ctl.specs.Paths.{IsPath, IsPlace, has_step, after}
+use Rattle.ml_ctl.specs.Paths.{IsPath, has_step}
+use Rattle.ml_ctl.specs.Unrolled.{IsPlace, after}
 use Rattle.ml_ctl.proofs.PlaceWalks.{walk-shift}
 use Rattle.ml_ctl.proofs.StepByStep.{next_is_place}
 use Rattle.ml_blocks.specs.Items.{Item, Row, OfState, Waits, Becomes, Either, row, is_least}

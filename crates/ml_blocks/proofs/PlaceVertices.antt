@@ -31,7 +31,8 @@ use Rattle.ml_graph.specs.CheckingGame.{Vertex, Pair, owner_at, mover, vertex_nu
 use Rattle.ml_graph.proofs.CheckingGame.{IsVertex, owner_is, priority_is, moves_are}
 use Rattle.ml_graph.proofs.OneStep.{vertex_low, pair_member}
 use Rattle.ml_ctl.specs.Paths.{IsTotal, has_step}
-use Rattle.ml_blocks.specs.BlockGraph.{IsNumberedBy, HasForm}
+use Rattle.ml_blocks.specs.BlockClosures.{HasForm}
+use Rattle.ml_blocks.specs.BlockClosures.{IsNumberedBy}
 use Rattle.ml_blocks.specs.Places.{Place, Form, And, Or, Diamond, Square, form_of, priority_of, all_of, one_of}
 
 pub record Board : Type 0 where

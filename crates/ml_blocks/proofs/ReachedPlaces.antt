@@ -9,7 +9,8 @@
 use Rattle.std.proofs.Common.{◌≡◌, ◌⊎◌, inl, inr, List, [], ◌∷◌, ◌++◌, refl, subst}
 use Rattle.ml_lists.specs.Member.{IsMember}
 use Rattle.ml_lists.proofs.Member.{member-append_left, member-append_right}
-use Rattle.ml_blocks.specs.BlockGraph.{IsReached, at_root, behind, children}
+use Rattle.ml_blocks.specs.BlockClosures.{at_root, behind, children}
+use Rattle.ml_blocks.specs.BlockClosures.{IsReached}
 use Rattle.ml_blocks.specs.Places.{Place, form_of}
 
 pub record Below (cs : List Place) (p : Place) : Type 0 where

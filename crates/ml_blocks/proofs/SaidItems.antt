@@ -23,7 +23,8 @@ use Rattle.ml_ctl.specs.Formula as plain
 use Rattle.ml_ctl.specs.Formula.{Formula}
 use Rattle.ml_ctl.specs.Laws.{IsDecided}
 use Rattle.ml_ctl.specs.Meaning.{Property, TruthAt}
-use Rattle.ml_ctl.specs.Paths.{IsPath, IsPlace, has_step}
+use Rattle.ml_ctl.specs.Paths.{IsPath, has_step}
+use Rattle.ml_ctl.specs.Unrolled.{IsPlace}
 use Rattle.ml_ctl.proofs.StepByStep.{next_is_place}
 use Rattle.ml_blocks.specs.Items.{Item, row}
 use Rattle.ml_blocks.specs.ItemSets.{put_all, without}

@@ -25,7 +25,9 @@ use Rattle.ml_ctl.specs.declared.term.Quantifier.TheVariants.{Exists}
 use Rattle.ml_ctl.specs.Meaning.{HoldsAt}
 use Rattle.ml_ctl.specs.Problem.{IsAdmitted}
 use Rattle.ml_ctl.specs.Paths.{IsPathFrom, has_step}
-use Rattle.ml_blocks.specs.BlockGraph.{IsGraphAt, IsReached, at_root, behind, linear_start_of}
+use Rattle.ml_blocks.specs.BlockGraph.{IsGraphAt, linear_start_of}
+use Rattle.ml_blocks.specs.BlockClosures.{at_root, behind}
+use Rattle.ml_blocks.specs.BlockClosures.{IsReached}
 use Rattle.ml_blocks.specs.Items.{Item, now, put_off}
 use Rattle.ml_blocks.specs.Places.{Place, Path, Root, Total, HasEdge, LeadsOn, True, Holding, forms}
 use Rattle.ml_blocks.proofs.Agreement.{linear_graphs_agree}

@@ -1,19 +1,9 @@
 -- How large the closure of a problem is.
 --
 --   HasMoreThan root n == more than n nodes are reached from the root
---   OneSize            == more than n nodes are reached exactly where the graph of the closure has more than n nodes
---   SomeGraph          == each problem has a graph of at most n nodes, or more than n nodes are reached
-use Rattle.std.specs.Prelude.{ℕ, ◌<◌, ◌≤◌, ◌⊎◌, ◌↔◌}
-use Rattle.ml_graph.specs.Graph.{Graph, size}
+use Rattle.std.specs.Prelude.{ℕ}
 use Rattle.ml_nodes.specs.ClosureGraph as closure
-use Rattle.ml_blocks.specs.BlockGraph.{IsGraphAt}
-use Rattle.ml_blocks.specs.Places.{Place, Root, forms}
+use Rattle.ml_blocks.specs.Places.{Place, forms}
 
 abbrev pub HasMoreThan : Place → ℕ → Type 0
 HasMoreThan root n = closure.HasMoreThan forms root n
-
-abbrev pub OneSize : Type 0
-OneSize = (start : Place) (g : Graph) (n : ℕ) → IsGraphAt g start → HasMoreThan (Root start) n ↔ (n < size g)
-
-abbrev pub SomeGraph : Type 0
-SomeGraph = (start : Place) (n : ℕ) → ((g : Graph) × IsGraphAt g start × (size g ≤ n)) ⊎ HasMoreThan (Root start) n

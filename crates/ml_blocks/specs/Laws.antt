@@ -21,7 +21,8 @@ use Rattle.ml_base.specs.Structure.{Structure}
 use Rattle.ml_ctl.specs.Formula.{Formula, Const, Prop, Not, Binary, Temporal, Paired, Quantified}
 use Rattle.ml_ctl.specs.Laws.{IsDecidedAlong}
 use Rattle.ml_ctl.specs.Meaning.{Property, Nowhere, Everywhere, iterate_of, TruthAt, HoldsAt}
-use Rattle.ml_ctl.specs.Paths.{IsPlace, places, after}
+use Rattle.ml_ctl.specs.Paths.{places}
+use Rattle.ml_ctl.specs.Unrolled.{IsPlace, after}
 use Rattle.ml_blocks.specs.Items.{Item, Row, OfState, Waits, Becomes, Either, row, behind_next, is_least}
 
 -- ---- what items say

@@ -1,3 +1,7 @@
+-- closures of blocks, of which a graph is made
+pub mod BlockClosures
+-- how large the closure of a problem is, and its graph
+pub mod ClosureLaws
 -- items of a path, and how they are decomposed
 pub mod Items
 -- what items say, and that rows say the same

@@ -1,6 +1,6 @@
 // What holds of items and their rows: the functions do nothing, their contracts are the theorems.
 ghost use Rattle.ml_blocks.specs.Agreement.{GraphsAgree, GraphsHold, LinearGraphsAgree, LinearGraphsHold};
-ghost use Rattle.ml_blocks.specs.Closures.{OneSize, SomeGraph};
+ghost use Rattle.ml_blocks.specs.ClosureLaws.{OneSize, SomeGraph};
 ghost use Rattle.ml_blocks.specs.EdgesGoOn.{EdgesGoOn};
 ghost use Rattle.ml_blocks.specs.FiniteClosures.{ClosuresAreFinite};
 ghost use Rattle.ml_blocks.specs.OneGraph.{OneGraph};

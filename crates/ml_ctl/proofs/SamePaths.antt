@@ -12,7 +12,8 @@ use Rattle.ml_ctl.specs.declared.term.Pairing.TheVariants as pairing
 use Rattle.ml_ctl.specs.Laws.{FollowsThePath, PassSame}
 use Rattle.ml_ctl.specs.Meaning as meaning
 use Rattle.ml_ctl.specs.Meaning.{Nowhere, Everywhere, TruthAt, quantified}
-use Rattle.ml_ctl.specs.Paths.{IsPlace, places, after}
+use Rattle.ml_ctl.specs.Paths.{places}
+use Rattle.ml_ctl.specs.Unrolled.{IsPlace, after}
 use Rattle.ml_ctl.proofs.Iterated.{Meets, Met, until_exactly, release_exactly}
 use Rattle.ml_ctl.proofs.PlaceWalks.{walk-sum}
 use Rattle.ml_ctl.proofs.StepByStep.{closed}

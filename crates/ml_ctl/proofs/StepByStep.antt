@@ -10,7 +10,8 @@ use Rattle.ml_base.specs.Structure.{Structure}
 use Rattle.ml_ctl.specs.Formula.{Formula}
 use Rattle.ml_ctl.specs.Laws.{ReadsStepByStep, ReadStepByStep, ReadsAhead, ReadAhead}
 use Rattle.ml_ctl.specs.Meaning.{Nowhere, Everywhere, TruthAt}
-use Rattle.ml_ctl.specs.Paths.{IsPlace, places, after}
+use Rattle.ml_ctl.specs.Paths.{places}
+use Rattle.ml_ctl.specs.Unrolled.{IsPlace, after}
 use Rattle.ml_ctl.proofs.Iterated.{Meets, Met, until_exactly, until_steps, release_exactly, release_steps}
 
 pub closed : (l : Lasso) → l.start < places l → (i : ℕ) → i < places l → next_place l i < places l

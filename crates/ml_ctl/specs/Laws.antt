@@ -22,7 +22,8 @@ use Rattle.ml_ctl.specs.declared.term.Tense.TheVariants.{Next, Finally, Globally
 use Rattle.ml_ctl.specs.declared.term.Pairing.TheVariants.{Until, Release, Weak}
 use Rattle.ml_ctl.specs.declared.term.Quantifier.TheVariants.{Exists, Forall}
 use Rattle.ml_ctl.specs.Meaning.{TruthAt, Satisfies, HoldsAt}
-use Rattle.ml_ctl.specs.Paths.{IsPathFrom, IsPlace, after}
+use Rattle.ml_ctl.specs.Paths.{IsPathFrom}
+use Rattle.ml_ctl.specs.Unrolled.{IsPlace, after}
 use Rattle.ml_ctl.specs.Problem.{IsAdmitted}
 
 -- ---- one step

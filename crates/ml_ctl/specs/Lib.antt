@@ -20,6 +20,8 @@ pub mod Term
 pub mod Spelling
 -- texts by their items
 pub mod TextLaws
+-- places of a lasso, and the places behind one
+pub mod Unrolled
 -- the formulas that the program holds
 pub mod WellFormed
 -- the signs of texts

@@ -8,14 +8,11 @@
 --   IsPath m l          == each step of l is such an edge, the one from the last place to the loop start too
 --   IsPathFrom m s l    == l is a path of m whose first state is s
 --   places l            == how many places a lasso has
---   IsPlace l i         == i is a place of l
---   after l i k         == the place that is reached from the place i in k steps
 --   IsTotal m           == each state of m has an edge by the action `_`
 use Rattle.std.specs.Prelude.{ℕ, ◌==◌, ◌≡◌, ◌<◌, Bool, true, ◌&&◌, length, codes}
 use Rattle.std.specs.List.{list_any}
 use Rattle.std.specs.Str.{bytes_eq}
-use Rattle.ml_lists.specs.Lasso.{Lasso, IsLassoOf, entry, next_place}
-use Rattle.ml_lists.specs.Walk.{walk}
+use Rattle.ml_lists.specs.Lasso.{Lasso, IsLassoOf, entry}
 use Rattle.ml_base.specs.Structure.{Structure}
 
 abbrev pub has_step : Structure → ℕ → ℕ → Bool
@@ -30,12 +27,6 @@ pub record IsPathFrom (m : Structure) (s : ℕ) (l : Lasso) : Type 0 where
 
 abbrev pub places : Lasso → ℕ
 places l = length l.entries
-
-abbrev pub IsPlace : Lasso → ℕ → Type 0
-IsPlace l i = (l.start < places l) × (i < places l)
-
-abbrev pub after : Lasso → ℕ → ℕ → ℕ
-after l i k = walk (next_place l) i k
 
 abbrev pub IsTotal : Structure → Type 0
 IsTotal m = (s : ℕ) → s < m.states → (t : ℕ) × (has_step m s t ≡ true)

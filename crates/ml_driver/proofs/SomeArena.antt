@@ -20,7 +20,8 @@ use Rattle.ml_sequent.specs.declared.choice.Side.{Side}
 use Rattle.ml_sequent.specs.ChoiceEquality.{choice_eq, choice_eq-decides}
 use Rattle.ml_trace.specs.Stack.{Item}
 use Rattle.ml_product.specs.Position.{Position, start_of}
-use Rattle.ml_product.specs.DecisionGame.{Target, To, Lost, Won, Turn, mover, IsReached, at_start, by_move, AreDifferent, HasMoreThan}
+use Rattle.ml_product.specs.DecisionGame.{Target, To, Lost, Won, Turn, IsReached, at_start, by_move, AreDifferent, HasMoreThan}
+use Rattle.ml_product.specs.Movers.{mover}
 use Rattle.ml_product.specs.Arena.{Arena, AreVertices, IsVertexOf, IsPlayed, IsArenaOf}
 use Rattle.ml_product.proofs.Ended.{start_alone_reached}
 use Rattle.ml_product.proofs.OnePlace.{place_of}

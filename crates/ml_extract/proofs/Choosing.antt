@@ -23,7 +23,8 @@ use Rattle.ml_sequent.specs.declared.choice.Side.{Side}
 use Rattle.ml_sequent.specs.declared.choice.Side.TheVariants.{Left, Right}
 use Rattle.ml_sequent.specs.Spread.{SpreadList, IsSpreadOf, IsOpenOr, is_diamond}
 use Rattle.ml_product.specs.Position.{Position, with_chosen, neutral, Follows}
-use Rattle.ml_product.specs.DecisionGame.{Verdict, Clashing, Open, Leading, Settled, Target, To, Lost, Won, IsResolved, IsVerdictOf, AreSteps, AreMoves, mover, diamonds_of}
+use Rattle.ml_product.specs.DecisionGame.{Verdict, Clashing, Open, Leading, Settled, Target, To, Lost, Won, IsResolved, IsVerdictOf, AreSteps, AreMoves, diamonds_of}
+use Rattle.ml_product.specs.Movers.{mover}
 use Rattle.ml_product.specs.Arena.{IsVertexOf, AreVertices, IsPlayed, game_of}
 use Rattle.ml_product.proofs.OnePlace.{same_spread}
 use Rattle.ml_product.proofs.ArenaGame.{same_entry, here, size_is, owner_at, moves_at, priority_at, lost_moves, lost_priority, target_of, TargetOf}

@@ -26,7 +26,8 @@ use Rattle.ml_parity.specs.Game as games
 use Rattle.ml_parity.proofs.FollowedWalks.{won_behind}
 use Rattle.ml_sequent.specs.Spread.{SpreadList, IsOpenOr}
 use Rattle.ml_product.specs.Position.{Position, start_of, with_chosen}
-use Rattle.ml_product.specs.DecisionGame.{Verdict, Clashing, Open, Leading, Settled, Target, Won, IsVerdictOf, AreSteps, Turn, mover, diamonds_of}
+use Rattle.ml_product.specs.DecisionGame.{Verdict, Clashing, Open, Leading, Settled, Target, Won, IsVerdictOf, AreSteps, Turn, diamonds_of}
+use Rattle.ml_product.specs.Movers.{mover}
 use Rattle.ml_product.specs.Arena.{AreVertices, game_of}
 use Rattle.ml_product.proofs.ArenaGame.{here, owner_at, moves_at, size_is}
 use Rattle.ml_product.proofs.ReachedChoices.{with_side_length, chosen_few}

@@ -16,7 +16,8 @@ use Rattle.ml_trace.specs.Marks.{priority}
 use Rattle.ml_history.proofs.definition.LetterSets.{letters_are_sets}
 use Rattle.ml_sequent.specs.Spread.{SpreadList, IsLeastOpenOr}
 use Rattle.ml_product.specs.Position.{Position, neutral, Follows}
-use Rattle.ml_product.specs.DecisionGame.{Verdict, Clashing, Open, Leading, Settled, Target, To, AreSteps, AreMoves, IsVerdictOf, Turn, mover}
+use Rattle.ml_product.specs.DecisionGame.{Verdict, Clashing, Open, Leading, Settled, Target, To, AreSteps, AreMoves, IsVerdictOf, Turn}
+use Rattle.ml_product.specs.Movers.{mover}
 use Rattle.ml_product.proofs.OnePlace.{same_spread}
 
 -- letters of traces that are the same set have the same transitions

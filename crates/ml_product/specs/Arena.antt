@@ -16,7 +16,8 @@ use Rattle.ml_parity.specs.declared.players.Player.{Player}
 use Rattle.ml_parity.specs.declared.players.Player.TheVariants.{Even}
 use Rattle.ml_parity.specs.Game.{ParityGame}
 use Rattle.ml_product.specs.Position.{Position, start_of}
-use Rattle.ml_product.specs.DecisionGame.{Target, To, Lost, Won, Turn, mover, IsReached, AreDifferent}
+use Rattle.ml_product.specs.DecisionGame.{Target, To, Lost, Won, Turn, IsReached, AreDifferent}
+use Rattle.ml_product.specs.Movers.{mover}
 
 pub record Arena : Type 0 where
   pub positions : List Position

@@ -9,7 +9,6 @@
 --   diamonds_of g sp    == the diamonds of the spread, ascending
 --   IsVerdictOf g sp v  == what is done where the spread is sp; exactly one of the four
 --   Target              == where a move leads: to a position, to Lost or to Won
---   mover v             == who moves: Odd at diamonds, Even elsewhere
 --   AreMoves g p sp v ts == the moves from p, in their order, of which one may stand there twice
 --   Turn g p            == the spread of p, its verdict and its moves
 --   IsReached g p       == p is the start, or a move leads to it from a position that is reached
@@ -17,8 +16,6 @@
 use Rattle.std.specs.Prelude.{ℕ, ◌≡◌, ◌<◌, List, [], ◌∷◌, filter, length}
 use Rattle.ml_lists.specs.Member.{IsMember}
 use Rattle.ml_graph.specs.Graph.{Graph, node_at}
-use Rattle.ml_parity.specs.declared.players.Player.{Player}
-use Rattle.ml_parity.specs.declared.players.Player.TheVariants.{Even, Odd}
 use Rattle.ml_sequent.specs.declared.choice.Side.TheVariants.{Left, Right}
 use Rattle.ml_sequent.specs.declared.clashes.ClashCause.{ClashCause}
 use Rattle.ml_sequent.specs.Spread.{SpreadList, IsSpreadOf, IsCause, IsOpenOr, IsLeastOpenOr, is_diamond}
@@ -50,12 +47,6 @@ pub data Target : Type 0 where
   To : Position → Target
   Lost : Target
   Won : Target
-
-abbrev pub mover : Verdict → Player
-mover Clashing = Even
-mover (Open o) = Even
-mover (Leading ds) = Odd
-mover Settled = Even
 
 -- the steps along these diamonds, one for each
 abbrev pub AreSteps : Graph → Position → SpreadList → List ℕ → List Target → Type 0

@@ -1,3 +1,5 @@
+-- who moves at a position
+pub mod Movers
 -- positions of the decision game
 pub mod Position
 -- its moves, and what is reached

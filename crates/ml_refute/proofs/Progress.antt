@@ -31,7 +31,8 @@ use Rattle.ml_parity.specs.Solution.{GameSolution, IsSolution, choice_at}
 use Rattle.ml_parity.specs.Winner.{WinsFrom}
 use Rattle.ml_parity.proofs.FollowedWalks.{FollowedMove, last, won_behind, closed_walk_good}
 use Rattle.ml_product.specs.Arena.{Arena, AreVertices, IsPlayed, IsArenaOf, game_of}
-use Rattle.ml_product.specs.DecisionGame.{Verdict, Clashing, Open, Leading, Settled, Target, To, Won, mover, IsResolved, IsVerdictOf, diamonds_of, AreSteps, AreMoves}
+use Rattle.ml_product.specs.DecisionGame.{Verdict, Clashing, Open, Leading, Settled, Target, To, Won, IsResolved, IsVerdictOf, diamonds_of, AreSteps, AreMoves}
+use Rattle.ml_product.specs.Movers.{mover}
 use Rattle.ml_product.specs.Position.{Position, neutral, Follows}
 use Rattle.ml_product.proofs.ArenaGame.{owner_at, moves_at, won_moves, size_is}
 use Rattle.ml_product.proofs.NeutralPriority.{mark_fits}

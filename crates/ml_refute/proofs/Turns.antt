@@ -11,7 +11,8 @@ use Rattle.ml_graph.specs.Graph.{Graph}
 use Rattle.ml_parity.specs.declared.players.Player.TheVariants.{Even, Odd}
 use Rattle.ml_parity.specs.Game.{HasMove, owner_of, moves_of}
 use Rattle.ml_product.specs.Arena.{Arena, AreVertices, IsPlayed, IsArenaOf, game_of}
-use Rattle.ml_product.specs.DecisionGame.{Verdict, Clashing, Open, Leading, Settled, Target, To, Lost, mover, IsResolved, IsVerdictOf, diamonds_of, AreMoves}
+use Rattle.ml_product.specs.DecisionGame.{Verdict, Clashing, Open, Leading, Settled, Target, To, Lost, IsResolved, IsVerdictOf, diamonds_of, AreMoves}
+use Rattle.ml_product.specs.Movers.{mover}
 use Rattle.ml_product.specs.Position.{Position, with_chosen}
 use Rattle.ml_sequent.specs.declared.choice.Side.TheVariants.{Left, Right}
 use Rattle.ml_sequent.specs.declared.clashes.ClashCause.{ClashCause}

@@ -29,7 +29,7 @@ use Rattle.ml_graph.proofs.References.{and_left, and_right, or_left, or_right, d
 use Rattle.ml_trace.specs.Run.{Run, AcceptingRun}
 use Rattle.ml_trace.specs.WordAutomata.{WordLasso, IsWordLasso, IsAcceptedFrom, stem, turn}
 use Rattle.ml_ctl.specs.Formula.{Formula}
-use Rattle.ml_blocks.specs.BlockGraph.{HasForm}
+use Rattle.ml_blocks.specs.BlockClosures.{HasForm}
 use Rattle.ml_blocks.specs.Places.{Place, Form, Constant, Literal, And, Or, Diamond, Square, form_of}
 use Rattle.ml_blocks.proofs.BlocksTold.{never_both}
 use Rattle.ml_blocks.proofs.PlaceVertices as vertices

@@ -21,7 +21,8 @@ use Rattle.ml_base.specs.Structure.{Structure, IsStructure}
 use Rattle.ml_trace.specs.WordAutomata.{WordLasso, IsWordLasso}
 use Rattle.ml_ctl.specs.Formula.{Formula}
 use Rattle.ml_ctl.specs.Meaning.{TruthAt}
-use Rattle.ml_ctl.specs.Paths.{IsPathFrom, IsPlace, IsTotal, after, has_step}
+use Rattle.ml_ctl.specs.Paths.{IsPathFrom, IsTotal, has_step}
+use Rattle.ml_ctl.specs.Unrolled.{IsPlace, after}
 use Rattle.ml_ctl.proofs.SamePaths.{follows_the_path}
 use Rattle.ml_ltl.specs.Problem.{in_sense}
 use Rattle.ml_blocks.specs.Laws.{signed}

@@ -22,7 +22,7 @@ use Rattle.ml_graph.specs.declared.node.Node.{Node}
 use Rattle.ml_graph.specs.declared.node.Node.TheVariants as node
 use Rattle.ml_ctl.specs.Formula.{Formula}
 use Rattle.ml_blocks.specs.BlockGraph.{linear_start_of}
-pub use Rattle.ml_blocks.specs.BlockGraph.{IsBlockGraph}
+pub use Rattle.ml_blocks.specs.BlockClosures.{IsBlockGraph}
 use Rattle.ml_blocks.specs.Places.{Place}
 use Rattle.ml_word_automaton.specs.Words.{Letter, has}
 

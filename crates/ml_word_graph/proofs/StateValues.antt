@@ -18,7 +18,8 @@ use Rattle.ml_ctl.specs.declared.term.Tense.TheVariants as tense
 use Rattle.ml_ctl.specs.declared.term.Pairing.TheVariants as pairing
 use Rattle.ml_ctl.specs.Laws.{IsDecidedAlong, PassSame, ReadsAhead, ReadsStepByStep}
 use Rattle.ml_ctl.specs.Meaning.{TruthAt}
-use Rattle.ml_ctl.specs.Paths.{IsPath, IsPathFrom, IsPlace, after}
+use Rattle.ml_ctl.specs.Paths.{IsPath, IsPathFrom}
+use Rattle.ml_ctl.specs.Unrolled.{IsPlace, after}
 use Rattle.ml_ctl.proofs.SamePaths.{follows_the_path}
 use Rattle.ml_ctl.proofs.StepByStep.{read_ahead, read_step_by_step}
 use Rattle.ml_ctl.proofs.Negations.{negations_of_globally, negations_of_release, negations_of_weak}

@@ -18,7 +18,8 @@ use Rattle.ml_lists.proofs.Unrolling.{next_step, next_place_low}
 use Rattle.ml_lists.proofs.Member.{list_any-member, All-member}
 use Rattle.ml_base.specs.declared.structure.Edge.{Edge}
 use Rattle.ml_base.specs.Structure.{Structure}
-use Rattle.ml_ctl.specs.Paths.{IsPath, IsPlace, IsTotal, after, has_step}
+use Rattle.ml_ctl.specs.Paths.{IsPath, IsTotal, has_step}
+use Rattle.ml_ctl.specs.Unrolled.{IsPlace, after}
 use Rattle.ml_ctl.proofs.TotalPaths.{next, next_steps}
 use Rattle.ml_word_graph.specs.Problem.{IsAdmitted, IsWordFrom}
 

@@ -16,7 +16,8 @@ use Rattle.ml_parity.specs.declared.players.Player.TheVariants.{Even, Odd}
 use Rattle.ml_product.specs.declared.recorded.Recorded.{Recorded}
 use Rattle.ml_product.specs.declared.recorded.Recorded.TheVariants as recorded
 use Rattle.ml_product.specs.Position.{Position}
-use Rattle.ml_product.specs.DecisionGame.{Target, To, Lost, Won, Turn, mover}
+use Rattle.ml_product.specs.DecisionGame.{Target, To, Lost, Won, Turn}
+use Rattle.ml_product.specs.Movers.{mover}
 
 -- who moves
 abbrev pub owner_of : Recorded → Player

@@ -1,6 +1,6 @@
 use Rattle.std.proofs.Common.{not, true, Some, subst}
 use Rattle.ml_ctl.specs.Term.{formula_of}
-use Rattle.ml_blocks.specs.BlockGraph.{IsBlockGraph}
+use Rattle.ml_blocks.specs.BlockClosures.{IsBlockGraph}
 use Rattle.ml_blocks.specs.Closures.{HasMoreThan}
 use Rattle.ml_blocks.specs.Places.{forms}
 use Rattle.ml_blocks.specs.private.Views.{start_place}
