@@ -2,7 +2,6 @@
 --
 --   ShowsRefutation        == the text shows a refutation for a problem, in some version
 --   refutation_or_fault    == a text shows a refutation, or has a first bad line
---   refutation_read_back   == a document that is written is read back
 use Rattle.std.proofs.Common.{◌⊎◌, List, ℕ, inl, inr, ⊎_elim}
 use Rattle.ml_base.specs.declared.doc_fault.DocFault.{DocFault}
 use Rattle.ml_base.specs.declared.version.Version.{Version}
@@ -10,16 +9,11 @@ use Rattle.ml_front.specs.declared.answer.Answer.TheVariants.{Unsatisfiable}
 use Rattle.ml_front.specs.declared.problem.Problem.{Problem}
 use Rattle.ml_front.specs.HeadRules.{IsHead, IsHeadFault}
 use Rattle.ml_front.proofs.OneFault.{some_head}
-use Rattle.ml_base.specs.declared.version.Version.TheVariants.{Two}
-use Rattle.ml_front.proofs.ReadBack.{heads_read_back}
-use Rattle.ml_front.specs.Logics.{IsWellFormed}
-use Rattle.ml_refutation_text.proofs.WrittenTexts.{written_is_text}
-use Rattle.ml_refutation_text.specs.WrittenText.{written_text}
-use Rattle.ml_refutation.specs.Refutation.{Refutation, IsRefutation}
+use Rattle.ml_refutation.specs.Refutation.{Refutation}
 use Rattle.ml_refutation_text.specs.BodyRules.{IsFaultOf}
 use Rattle.ml_refutation_text.specs.Laws.{IsReadableBody}
 use Rattle.ml_refutation_text.proofs.RefutationTexts.{readable_is_refutation, readable_or_fault}
-use Rattle.ml_refute_check.specs.Documents.{IsDocument, IsDocumentFault, document_of, first_body_line}
+use Rattle.ml_refute_check.specs.Documents.{IsDocument, IsDocumentFault, first_body_line}
 
 abbrev pub ShowsRefutation : List ℕ → Type 0
 ShowsRefutation text = (v : Version) × ((p : Problem) × ((r : Refutation) × IsDocument text v p r))
@@ -37,13 +31,3 @@ refutation_or_fault text =
     (readable_or_fault h.0 h.2 first_body_line))
     (λ (bad : (fault : DocFault) × IsHeadFault Unsatisfiable text fault). inr (bad.0, inl bad.1))
     (some_head Unsatisfiable text)
-
--- what is written for a problem of a well-formed formula, and a refutation, is read back
-pub refutation_read_back : (p : Problem) (r : Refutation) → IsWellFormed p.formula → IsRefutation r
-    → IsDocument (document_of p r) Two p r
-refutation_read_back p r well is_refutation = record {
-  body = written_text Two r;
-  has_head = heads_read_back Unsatisfiable Two p (written_text Two r) well;
-  is_refutation = is_refutation;
-  has_body = written_is_text Two r is_refutation;
-}

@@ -9,8 +9,9 @@ use Rattle.ml_lines.specs.Lines.{line_text}
 use Rattle.ml_base.specs.declared.doc_fault.DocFault.{DocFault}
 use Rattle.ml_model_check.proofs.OneCheck.{some_check}
 use Rattle.ml_refute_check.specs.Documents as refuted
-use Rattle.ml_refute_check.specs.Documents.{IsVerdict, document_of}
-use Rattle.ml_refute_check.proofs.Accepted.{accepted_is_true}
+use Rattle.ml_refute_check.specs.Documents.{IsVerdict}
+use Rattle.ml_refute_check.specs.WrittenDocument.{document_of}
+use Rattle.ml_refute_check.proofs.Accepted.{accepted_is_true, documents_read_back, some_document}
 use Rattle.ml_refute_check.proofs.SomeVerdict.{some_verdict}
 use Rattle.ml_gen.specs.Families.{formula_text, is_in_range}
 use Rattle.ml_gen.specs.declared.family.Family.{Family}
@@ -29,7 +30,7 @@ use Rattle.ml_driver.specs.declared.status.Status.TheVariants.{Yes, Text}
 use Rattle.ml_driver.specs.Statuses.{model_said, refused_document, refutation_said, words_refused}
 use Rattle.ml_driver.specs.Run.{asked}
 use Rattle.ml_driver.proofs.InputLimits.{SomeAnswer, some_due_for}
-use Rattle.ml_driver.proofs.RefutationDocuments.{ShowsRefutation, refutation_or_fault, refutation_read_back}
+use Rattle.ml_driver.proofs.RefutationDocuments.{ShowsRefutation, refutation_or_fault}
 use Rattle.ml_driver.proofs.SomeAnswer.{some_answer}
 use Rattle.ml_driver.specs.Laws.{HasFitNumbers, SomeDue}
 use Rattle.ml_front.proofs.Logics.{parsed_well}
@@ -62,7 +63,8 @@ to_migrate text =
     (λ (d : ShowsRefutation text).
     let p = d.1.0 in
     let r = d.1.1.0 in
-    let shown = d.1.1.1 in (
+    let shown = d.1.1.1 in
+    let of = some_document p r shown.is_refutation in (
       Yes,
       (
         document_of p r,
@@ -72,9 +74,9 @@ to_migrate text =
           refutation = r;
           is_document = shown;
           holds = (
-            refl,
-            refutation_read_back p r (parsed_well shown.has_head.formula_text p.formula shown.has_head.is_parsed)
-                shown.is_refutation,
+            of,
+            documents_read_back p r (document_of p r)
+                (parsed_well shown.has_head.formula_text p.formula shown.has_head.is_parsed) shown.is_refutation of,
           );
         },
       ),

@@ -3,7 +3,8 @@ ghost use Rattle.std.specs.Prelude.{◌≡◌, ◌+◌, ◌<◌, Ok, Some, IfOk,
 ghost use Rattle.ml_base.specs.declared.doc_fault.DocFault.{DocFault};
 ghost use Rattle.ml_refutation.specs.Acceptance.{entry_at};
 ghost use Rattle.ml_refutation_text.specs.declared.lines.EntryLines.{EntryLines};
-ghost use Rattle.ml_refute_check.specs.Documents.{IsDocumentFault, IsMigrated, IsVerdict, HoldsNowhere, document_of, line_of};
+ghost use Rattle.ml_refute_check.specs.Documents.{IsDocumentFault, IsMigrated, IsVerdict, HoldsNowhere, line_of};
+ghost use Rattle.ml_refute_check.specs.WrittenDocument.{document_of};
 ghost use Rattle.ml_refute_check.specs.private.Parts.{plain};
 ghost use Rattle.ml_refute_check.specs.private.Shown.{IsShown};
 
