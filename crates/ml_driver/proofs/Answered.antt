@@ -4,7 +4,7 @@
 --   closure_fits       == of a problem that is closed the closure is small
 --   satisfied, refuted, left_open == a problem with what was found for it
 --   answered           == a decision with its document answers the question
-use Rattle.std.proofs.Common.{◌≡◌, ◌<◌, ◌^◌, ℕ, List, refl}
+use Rattle.std.proofs.Common.{◌≡◌, ◌<◌, ◌^◌, ℕ, List, refl, sym, subst}
 use Rattle.ml_base.specs.Structure.{Structure}
 use Rattle.ml_extract.specs.Extraction.{Extracted}
 use Rattle.ml_graph.specs.Graph.{Graph}
@@ -19,8 +19,10 @@ use Rattle.ml_refutation.specs.Refutation as plain
 use Rattle.ml_refutation.specs.Refutation.{IsRefutation}
 use Rattle.ml_refutation.specs.Views.{of_parts}
 use Rattle.ml_refutation.specs.declared.refutation.Refutation.{Refutation}
+use Rattle.ml_refute_check.proofs.Accepted.{some_document}
 use Rattle.ml_refute_check.proofs.Refuted.{refuted_is_unsatisfiable}
-use Rattle.ml_refute_check.specs.Documents.{document_of}
+use Rattle.ml_refute_check.specs.Documents.{IsDocumentOf}
+use Rattle.ml_refute_check.specs.WrittenDocument.{document_of}
 use Rattle.ml_driver.specs.Decision.{IsAnswered, IsProblem, IsClosed, LeftOpen, PassesLimit, Refuted, Satisfied, StaysOpen, if_open, if_refuted, if_satisfied}
 use Rattle.ml_driver.specs.Documents.{satisfiable_document, undecided_document}
 use Rattle.ml_driver.specs.declared.cause.Cause.{Cause}
@@ -112,7 +114,7 @@ module _ (q : Question) (text : List ℕ) (p : Problem) (is_problem : IsProblem 
         is_graph = is_graph;
         is_refutation = is_refutation;
         is_accepted = accepted;
-        is_written = written;
+        is_written = subst (IsDocumentOf p r) (sym written) (some_document p r is_refutation);
       }
 
   pub left_open : (c : Cause) → StaysOpen q.limit p c → out ≡ undecided_document p c → LeftOpen q text out

@@ -10,8 +10,6 @@ pub mod ProblemGraphs
 pub mod Answered
 -- the words as they are taken apart
 pub mod FoundWords
--- documents with a refutation
-pub mod RefutationDocuments
 -- what is due for `solve-game`
 pub mod GameAnswers
 -- what is due for `determinise`

@@ -22,7 +22,8 @@ use Rattle.ml_driver.specs.declared.status.Status.TheVariants.{Yes, Undecided, T
 use Rattle.ml_driver.specs.Statuses.{IsUnreadable, longest_input, model_said, refusal_line, refutation_said}
 use Rattle.ml_driver.specs.Run.{IsAnswer, IsChecked, IsDue, IsJudged, asked}
 use Rattle.ml_driver.specs.declared.command.Command.{Command}
-use Rattle.ml_refute_check.specs.Documents.{IsDocument, IsMigrated, IsVerdict, document_of}
+use Rattle.ml_refute_check.specs.Documents.{IsDocument, IsMigrated, IsVerdict}
+use Rattle.ml_refute_check.specs.WrittenDocument.{document_of}
 use Rattle.ml_refute_check.specs.declared.verdict.Verdict.TheVariants.{Unreadable}
 use Rattle.ml_refute_check.proofs.OneVerdict.{one_verdict, shown_fault}
 use Rattle.ml_gen.specs.declared.family.Family.{Family}

@@ -21,9 +21,9 @@ use Rattle.ml_driver.specs.declared.question.Way.TheVariants.{WholeGame, Search}
 use Rattle.ml_driver.specs.Laws.{DecidedAreChecked, DecideIsChecked, FindIsChecked, IsFoundAccepted, IsFoundToHold, ProveIsChecked, RefutedAreAccepted, ValidIsChecked}
 use Rattle.ml_driver.specs.Run.{asked, IsWhole}
 use Rattle.ml_refute_check.specs.Documents.{Finds, HoldsNowhere, IsDocument as IsDocumentWith}
+use Rattle.ml_refute_check.proofs.Accepted as refuted
 use Rattle.ml_refute_check.specs.declared.verdict.Verdict.TheVariants.{Accepted}
 use Rattle.ml_driver.proofs.Answered.{closure_fits}
-use Rattle.ml_driver.proofs.RefutationDocuments.{refutation_read_back}
 use Rattle.ml_front.proofs.Logics.{parsed_well}
 
 satisfied_read : (q : Question) (text out : List ℕ) → Satisfied q text out → IsCheckedAs out Holds
@@ -43,9 +43,8 @@ decided_are_checked q text out x = satisfied_read q text out x
 refutation_shown : (q : Question) (text out : List ℕ) (x : Refuted q text out)
     → IsDocumentWith out Two x.problem x.refutation
 refutation_shown q text out x =
-    let well = parsed_well text x.problem.formula x.is_problem.is_parsed in
-    let shown = refutation_read_back x.problem x.refutation well x.is_refutation in
-    subst (λ t. IsDocumentWith t Two x.problem x.refutation) (sym x.is_written) shown
+    refuted.documents_read_back x.problem x.refutation out
+    (parsed_well text x.problem.formula x.is_problem.is_parsed) x.is_refutation x.is_written
 
 pub refuted_are_accepted : RefutedAreAccepted
 refuted_are_accepted q text out x =

@@ -31,7 +31,7 @@ use Rattle.ml_refute.proofs.Accepted.{extracted_accepted}
 use Rattle.ml_refute.proofs.Entries.{Extraction}
 use Rattle.ml_refute.proofs.SomeRefutation.{some_refutation}
 use Rattle.ml_refute.proofs.WellFormed.{extracted_refutation}
-use Rattle.ml_refute_check.specs.Documents.{document_of}
+use Rattle.ml_refute_check.specs.WrittenDocument.{document_of}
 use Rattle.ml_front.proofs.Graphs.{graph_is, graph_small, graphs_agree, meaningful}
 use Rattle.ml_front.proofs.Logics as texts
 use Rattle.ml_front.specs.Graphs.{HasLargeClosure, IsGraphOf}

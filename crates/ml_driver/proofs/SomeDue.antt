@@ -10,8 +10,9 @@ use Rattle.ml_base.specs.declared.doc_fault.DocFault.{DocFault}
 use Rattle.ml_model_check.proofs.OneCheck.{some_check}
 use Rattle.ml_refutation_text.specs.BodyRules.{IsFaultOf}
 use Rattle.ml_refutation_text.specs.Laws.{IsRefutationText}
-use Rattle.ml_refute_check.specs.Documents.{IsVerdict, document_of}
-use Rattle.ml_refute_check.proofs.Accepted.{accepted_is_true}
+use Rattle.ml_refute_check.specs.Documents.{IsVerdict}
+use Rattle.ml_refute_check.specs.WrittenDocument.{document_of}
+use Rattle.ml_refute_check.proofs.Accepted.{accepted_is_true, documents_read_back, some_document}
 use Rattle.ml_refute_check.proofs.SomeVerdict.{refutation_or_fault, some_verdict}
 use Rattle.ml_gen.specs.Families.{formula_text}
 use Rattle.ml_gen.specs.FamilyRanges.{is_in_range}
@@ -31,7 +32,6 @@ use Rattle.ml_driver.specs.declared.status.Status.TheVariants.{Yes, Text}
 use Rattle.ml_driver.specs.Statuses.{model_said, refused_document, refutation_said, words_refused}
 use Rattle.ml_driver.specs.Run.{asked}
 use Rattle.ml_driver.proofs.InputLimits.{SomeAnswer, some_due_for}
-use Rattle.ml_driver.proofs.RefutationDocuments.{refutation_read_back}
 use Rattle.ml_driver.proofs.SomeAnswer.{some_answer}
 use Rattle.ml_driver.specs.Laws.{HasFitNumbers, SomeDue}
 use Rattle.ml_front.specs.Documents.{IsDocumentFault, Shows}
@@ -70,7 +70,8 @@ to_migrate text = go (refutation_or_fault text)
     go (inl x) =
         let p = x.problem in
         let r = x.holds.0 in
-        let well = shown_well Unsatisfiable text (λ v p body. IsRefutationText v body) x in (
+        let well = shown_well Unsatisfiable text (λ v p body. IsRefutationText v body) x in
+        let of = some_document p r x.holds.1 in (
           Yes,
           (
             document_of p r,
@@ -79,7 +80,7 @@ to_migrate text = go (refutation_or_fault text)
               problem = p;
               body = x.body;
               has_head = x.has_head;
-              holds = (r, x.holds.1, x.holds.2, (refl, refutation_read_back p r well x.holds.1));
+              holds = (r, x.holds.1, x.holds.2, (of, documents_read_back p r (document_of p r) well x.holds.1 of));
             },
           ),
         )

@@ -34,7 +34,7 @@ use Rattle.ml_graph.specs.Graph.{Graph}
 use Rattle.ml_product.specs.DecisionGame.{HasMoreThan}
 use Rattle.ml_refutation.specs.Acceptance.{IsAccepted}
 use Rattle.ml_refutation.specs.Refutation.{Refutation, IsRefutation}
-use Rattle.ml_refute_check.specs.Documents.{document_of}
+use Rattle.ml_refute_check.specs.Documents.{IsDocumentOf}
 use Rattle.ml_driver.specs.declared.cause.Cause.{Cause}
 use Rattle.ml_driver.specs.declared.cause.Cause.TheVariants.{Positions, Closure}
 use Rattle.ml_driver.specs.declared.question.Question.{Question}
@@ -89,7 +89,7 @@ pub record Refuted (q : Question) (text out : List ℕ) : Type 0 where
   pub is_graph : IsGraphOf graph problem
   pub is_refutation : IsRefutation refutation
   pub is_accepted : IsAccepted graph refutation
-  pub is_written : out ≡ document_of problem refutation
+  pub is_written : IsDocumentOf problem refutation out
 
 pub record LeftOpen (q : Question) (text out : List ℕ) : Type 0 where
   pub problem : Problem

@@ -1,4 +1,4 @@
--- Documents that the program writes, all in version 2. The one with a refutation is `document_of` of `ml_refute_check`.
+-- Documents that the program writes, all in version 2. The one with a refutation is that of `IsDocumentOf` of `ml_refute_check`.
 --
 --   satisfiable_document p m s == the document that says that the problem p holds at the state s of the structure m
 --   cause_line c               == the line for a cause: `cause positions N` or `cause closure 4096`

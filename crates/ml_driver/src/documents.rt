@@ -3,7 +3,7 @@ ghost use Rattle.std.specs.Prelude.{◌≡◌, ◌++◌, IfOk, OnOk};
 ghost use Rattle.ml_kripke.specs.Ordered.{HasNames};
 ghost use Rattle.ml_lines.specs.Lines.{line_text};
 ghost use Rattle.ml_refutation.specs.Views.{of_parts};
-ghost use Rattle.ml_refute_check.specs.Documents.{document_of};
+ghost use Rattle.ml_refute_check.specs.WrittenDocument.{document_of};
 ghost use Rattle.ml_driver.specs.Documents as documents;
 ghost use Rattle.ml_driver.specs.private.Decisions.{IsDocumentFor};
 

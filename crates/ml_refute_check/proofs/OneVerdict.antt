@@ -17,8 +17,8 @@ use Rattle.ml_refutation.specs.Acceptance.{entry_at, IsAccepted}
 use Rattle.ml_refutation_text.specs.BodyRules.{IsFaultOf, IsTextOf}
 use Rattle.ml_refutation_text.proofs.RefutationTexts as body
 use Rattle.ml_refutation_text.proofs.BodyRead.{one_parts}
-use Rattle.ml_refute_check.specs.Documents.{IsDocument, IsAcceptedDocument, ShowsRefutation, InGraph, IsRejectedBy, Finds, line_of}
-use Rattle.ml_refute_check.specs.Laws.{AlikeChecked, OneVerdict}
+use Rattle.ml_refute_check.specs.Documents.{IsDocument, ShowsRefutation, InGraph, IsRejectedBy, Finds, line_of}
+use Rattle.ml_refute_check.specs.Laws.{IsAcceptedDocument, AlikeChecked, OneVerdict}
 use Rattle.ml_refute_check.specs.declared.verdict.Verdict.{Verdict}
 use Rattle.ml_refute_check.specs.declared.verdict.Verdict.TheVariants.{Accepted, Unreadable, Rejected}
 use Rattle.ml_refute_check.proofs.AlikeGraphs.{accepted_same, first_bad_same}

@@ -21,12 +21,14 @@ use Rattle.ml_refutation.specs.declared.refutation.Refutation as held
 use Rattle.ml_refutation_text.specs.PartLines.{parts_from, entry_size}
 use Rattle.ml_refutation_text.specs.declared.lines.EntryLines.{EntryLines}
 use Rattle.ml_refutation_text.specs.declared.lines.Lines.{Lines}
-use Rattle.ml_refute_check.specs.Documents.{Finds, IsAcceptedDocument, IsDocument, IsMigrated, IsRejectedAt, ShowsRefutation, document_of, formula_line, line_of}
+use Rattle.ml_refute_check.specs.Documents.{Finds, IsDocument, IsDocumentOf, IsMigrated, ShowsRefutation, formula_line, line_of}
+use Rattle.ml_refute_check.specs.Laws.{IsAcceptedDocument}
+use Rattle.ml_refute_check.specs.WrittenDocument.{document_of}
 use Rattle.ml_refute_check.specs.declared.verdict.Verdict.TheVariants.{Accepted, Rejected}
 use Rattle.ml_refute_check.specs.private.Parts.{plain, plain_entry}
 use Rattle.ml_refute_check.specs.private.Shown.{IsShown}
 use Rattle.ml_front.proofs.Logics.{parsed_well}
-use Rattle.ml_refute_check.proofs.Accepted.{documents_read_back}
+use Rattle.ml_refute_check.proofs.Accepted.{documents_read_back, some_document}
 
 abbrev pub IsClosed : Problem → Type 0
 IsClosed p = ¬ (HasLargeClosure p MOST_NODES)
@@ -68,7 +70,7 @@ accepted_there text p r lines shown g is_graph closed accepted =
 pub without_graph : (text : List ℕ) (p : Problem) (r : held.Refutation) (lines : Lines)
     → IsShown text p r lines
     → HasLargeClosure p MOST_NODES
-    → IsRejectedAt text formula_line 1
+    → ShowsRefutation text (Finds (Rejected formula_line 1))
 without_graph text p r lines shown large =
     shown_so text p r lines shown (Finds (Rejected formula_line 1)) (inl (large, refl, refl))
 
@@ -80,7 +82,7 @@ pub rejected_there : (text : List ℕ) (p : Problem) (r : held.Refutation) (line
     → IsFirstBad g (plain r) entry part number
     → ((at : EntryLines) → slice_get lines.entries.items entry ≡ Some at
     → line ≡ line_of at (length (entry_at (plain r) entry).traces.items) part)
-    → IsRejectedAt text line number
+    → ShowsRefutation text (Finds (Rejected line number))
 rejected_there text p r lines shown g entry part number line is_graph closed first told =
     let none : EntryLines = record { sequent = 0; live = 0; items = 0; heights = 0; decision = 0 } in
     let there =
@@ -107,9 +109,10 @@ pub migrated : (text out : List ℕ) (p : Problem) (r : held.Refutation) (lines 
     → out ≡ document_of p (plain r)
     → IsMigrated text out
 migrated text out p r lines shown is =
-    shown_so text p r lines shown (λ v body q s. (out ≡ document_of q s) × IsDocument out Two q s) (
-      is,
-      subst (λ t. IsDocument t Two p (plain r)) (sym is)
-          (documents_read_back p (plain r)
-          (parsed_well shown.has_head.formula_text p.formula shown.has_head.is_parsed) r.is_refutation),
+    let of : IsDocumentOf p (plain r) out =
+    subst (IsDocumentOf p (plain r)) (sym is) (some_document p (plain r) r.is_refutation) in
+    shown_so text p r lines shown (λ v body q s. IsDocumentOf q s out × IsDocument out Two q s) (
+      of,
+      documents_read_back p (plain r) out
+          (parsed_well shown.has_head.formula_text p.formula shown.has_head.is_parsed) r.is_refutation of,
     )

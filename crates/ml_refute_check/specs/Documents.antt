@@ -14,12 +14,10 @@
 --                             line of a document with the body b in version v
 --   Finds x v b p r        == x is found of the refutation r for the problem p, which the body b in version v shows
 --   IsVerdict text x       == x is what checking the text finds
---   IsAcceptedDocument text == that it is accepted
---   IsRejectedAt text line number == or that this is its first line with a broken rule, and the lowest one
 --   HoldsNowhere text      == the text answers `unsatisfiable` about a problem, and that is true
+--   IsDocumentOf p r text  == the text is the document that is written for the problem p and the refutation r
 --   IsMigrated text other  == the text shows a refutation for a problem, and the other text is what is written of the
 --                             two
---   document_of p r        == the document that is written for the problem p and the refutation r
 use Rattle.std.specs.Prelude.{ℕ, ◌≡◌, ◌⊎◌, ◌+◌, ◌-◌, ◌==◌, nat_lt, List, ◌++◌, Some, length, slice_get, if◌then◌else◌}
 use Rattle.ml_base.specs.declared.version.Version.{Version}
 use Rattle.ml_base.specs.declared.version.Version.TheVariants.{Two}
@@ -38,7 +36,7 @@ use Rattle.ml_refutation.specs.Acceptance.{entry_at, IsAccepted, IsFirstBad}
 use Rattle.ml_refutation_text.specs.BodyRules.{IsFaultOf}
 use Rattle.ml_refutation_text.specs.PartLines.{AreLinesOf}
 use Rattle.ml_refutation_text.specs.BodyRules.{IsTextOf}
-use Rattle.ml_refutation_text.specs.WrittenText.{written_text}
+use Rattle.ml_refutation_text.specs.Canonical.{IsWrittenText}
 use Rattle.ml_refutation_text.specs.declared.lines.EntryLines.{EntryLines}
 use Rattle.ml_refute_check.specs.declared.verdict.Verdict.{Verdict}
 use Rattle.ml_refute_check.specs.declared.verdict.Verdict.TheVariants.{Accepted, Unreadable, Rejected}
@@ -91,12 +89,6 @@ Finds (Rejected line number) v body p r =
     ⊎ InGraph p (λ g. IsRejectedBy g v body r line number)
 Finds (Unreadable fault) v body p r = ⊥
 
-abbrev pub IsAcceptedDocument : List ℕ → Type 0
-IsAcceptedDocument text = ShowsRefutation text (Finds Accepted)
-
-abbrev pub IsRejectedAt : List ℕ → ℕ → ℕ → Type 0
-IsRejectedAt text line number = ShowsRefutation text (Finds (Rejected line number))
-
 abbrev pub IsVerdict : List ℕ → Verdict → Type 0
 IsVerdict text (Unreadable fault) = IsDocumentFault Unsatisfiable IsFaultOf text fault
 IsVerdict text v = ShowsRefutation text (Finds v)
@@ -109,9 +101,11 @@ HoldsNowhere text = Shows Unsatisfiable text (λ v p body. ¬ (IsSatisfiable p))
 
 -- ---- what is written
 
-abbrev pub document_of : Problem → Refutation → List ℕ
-document_of p r = text_of (head_lines Two Unsatisfiable p) ++ written_text Two r
+pub record IsDocumentOf (p : Problem) (r : Refutation) (text : List ℕ) : Type 0 where
+  pub body : List ℕ
+  pub is_text : text ≡ text_of (head_lines Two Unsatisfiable p) ++ body
+  pub is_body : IsWrittenText Two body r
 
 -- the text shows a refutation, and the other one is the document that is written of it, which shows the same
 abbrev pub IsMigrated : (text other : List ℕ) → Type 0
-IsMigrated text other = ShowsRefutation text (λ v body p r. (other ≡ document_of p r) × IsDocument other Two p r)
+IsMigrated text other = ShowsRefutation text (λ v body p r. IsDocumentOf p r other × IsDocument other Two p r)

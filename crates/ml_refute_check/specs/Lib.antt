@@ -6,6 +6,8 @@ pub mod Problems
 pub mod Findings
 -- documents that show a refutation, and what checking one finds
 pub mod Documents
+-- the document that is written, as bytes
+pub mod WrittenDocument
 -- laws of these documents
 pub mod Laws
 -- what private contracts cite

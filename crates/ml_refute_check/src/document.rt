@@ -5,7 +5,8 @@ ghost use Rattle.ml_front.specs.Documents.{IsDocumentFault};
 ghost use Rattle.ml_refutation.specs.Acceptance.{entry_at};
 ghost use Rattle.ml_refutation_text.specs.BodyRules.{IsFaultOf};
 ghost use Rattle.ml_refutation_text.specs.declared.lines.EntryLines.{EntryLines};
-ghost use Rattle.ml_refute_check.specs.Documents.{IsMigrated, IsVerdict, HoldsNowhere, document_of, line_of};
+ghost use Rattle.ml_refute_check.specs.Documents.{IsMigrated, IsVerdict, HoldsNowhere, line_of};
+ghost use Rattle.ml_refute_check.specs.WrittenDocument.{document_of};
 ghost use Rattle.ml_refute_check.specs.private.Parts.{plain};
 ghost use Rattle.ml_refute_check.specs.private.Shown.{IsShown};
 

@@ -1,6 +1,6 @@
 // Laws about the definitions alone: empty functions, each of whose contract is a theorem.
 
-ghost use Rattle.ml_refute_check.specs.Laws.{AcceptedIsTrue, AlikeChecked, DocumentsReadBack, OneVerdict, SomeVerdict};
+ghost use Rattle.ml_refute_check.specs.Laws.{AcceptedIsTrue, AlikeChecked, DocumentsReadBack, OneDocument, OneVerdict, SomeDocument, SomeVerdict};
 ghost use Rattle.ml_refute_check.specs.Problems.{RefutedIsUnsatisfiable};
 ghost use Rattle.ml_refute_check.specs.Soundness.{AcceptedHoldsNowhere, AcceptedOrFault, NeverBoth, OneFault, RulesRise};
 ghost use Rattle.ml_refute_check.specs.Findings.{OneFinding};
@@ -58,6 +58,15 @@ pub fn accepted_is_true()
 /// Does nothing when called.
 pub fn documents_are_read_back()
     ensures { DocumentsReadBack }
+{}
+
+/// Of a problem and a refutation, which keeps what every one keeps (`IsRefutation`), one document is written, and no other
+/// one: what the format alone says of it (`IsDocumentOf`) tells each of its bytes.
+///
+/// Does nothing when called.
+pub fn one_document()
+    ensures some { SomeDocument }
+    ensures once { OneDocument }
 {}
 
 /// Checking a text finds exactly one thing: so `check` answers each exactly where it is said to come, but for want of

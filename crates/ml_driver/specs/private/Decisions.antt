@@ -17,7 +17,7 @@ use Rattle.ml_kripke.specs.Ordered.{HasNames, IsOrdered}
 use Rattle.ml_product.specs.DecisionGame.{HasMoreThan}
 use Rattle.ml_refutation.specs.Acceptance.{IsAccepted}
 use Rattle.ml_refutation.specs.Views.{of_parts}
-use Rattle.ml_refute_check.specs.Documents.{document_of}
+use Rattle.ml_refute_check.specs.WrittenDocument.{document_of}
 use Rattle.ml_driver.specs.Decision.{StaysOpen}
 use Rattle.ml_driver.specs.declared.deciding.Decision.{Decision}
 use Rattle.ml_driver.specs.declared.deciding.Decision.TheVariants as decision
