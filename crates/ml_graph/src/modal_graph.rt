@@ -77,7 +77,9 @@ impl ModalGraph {
     pub fn keeps(&self)
         ensures is_graph { IsGraph self.now }
         ensures small { IsSmall self.now }
-    {}
+    {
+        let _nodes = &self.nodes;
+    }
 
     /// How many nodes there are. Says too what the type keeps.
     pub fn size(&self) -> u32
