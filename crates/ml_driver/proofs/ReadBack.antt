@@ -49,12 +49,10 @@ refutation_shown q text out x =
 pub refuted_are_accepted : RefutedAreAccepted
 refuted_are_accepted q text out x =
     let shown = refutation_shown q text out x in
-    let found : Finds Accepted Two shown.0 x.problem x.refutation = record {
-      closed = closure_fits q.way q.limit x.problem x.is_closed;
-      graph = x.graph;
-      is_graph = x.is_graph;
-      holds = x.is_accepted;
-    } in
+    let found : Finds Accepted Two shown.0 x.problem x.refutation = (
+      closure_fits q.way q.limit x.problem x.is_closed,
+      record { graph = x.graph; is_graph = x.is_graph; holds = x.is_accepted },
+    ) in
     record {
       version = Two;
       problem = x.problem;

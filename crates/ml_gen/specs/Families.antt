@@ -30,9 +30,8 @@ logic_name _ = codes "mu"
 abbrev pub part : Family → ℕ → List ℕ
 part And i = codes "p" ++ number i
 part Or i = codes "(p" ++ number i ++ codes " | q" ++ number i ++ codes ")"
-part Step i = codes "a"
 part Fair i = codes "(G F p" ++ number i ++ codes ")"
-part Loop i = codes "a"
+part _ i = codes "a"
 
 abbrev pub parts : Family → List ℕ → ℕ → List ℕ
 parts family separator n = join_by (part family) separator (range_with_len 1 n)

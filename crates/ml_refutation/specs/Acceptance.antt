@@ -14,8 +14,6 @@
 --   OfSpread g C c P      == P holds of the spread of C under the choice c
 --   IsWellStarted r e g   == the nodes of entry e are nodes of g, and those of entry 0 are the root alone
 --   StandsIn C a g        == the item's node is one of C, and its odd priority, if it has one, occurs in g
---   SplitsOpenOr, Clashes == the node is an open or-node of the spread; the clash is one of the spread
---   LeavesByDiamond       == the node is a diamond of the spread
 --   LeadsWithinTargets    == the other sequent has nodes alone to which the diamond leads
 --   TracesNames           == the step meets the condition on names
 --   heights_of r          == the heights of each entry
@@ -90,15 +88,6 @@ pub record StandsIn (sequent : List ℕ) (a : traced.Item AutomatonState) (g : G
   pub member : IsMember a.state.node sequent
   pub occurs : IsState (odd_priorities g) a.state
 
-abbrev pub SplitsOpenOr : List ℕ → List (ℕ × Side) → ℕ → Graph → Type 0
-SplitsOpenOr sequent c n g = OfSpread g sequent c (λ sp. IsOpenOr g sp n)
-
-abbrev pub Clashes : List ℕ → List (ℕ × Side) → ClashCause → Graph → Type 0
-Clashes sequent c x g = OfSpread g sequent c (λ sp. IsCause g sp x)
-
-abbrev pub LeavesByDiamond : List ℕ → List (ℕ × Side) → ℕ → Graph → Type 0
-LeavesByDiamond sequent c d g = OfSpread g sequent c (λ sp. IsDiamondOf g sp d)
-
 abbrev pub LeadsWithinTargets : List ℕ → List (ℕ × Side) → ℕ → List ℕ → Graph → Type 0
 LeadsWithinTargets sequent c d next g = OfSpread g sequent c (λ sp. All (IsTarget g sp d) next)
 
@@ -116,10 +105,10 @@ HeightsFall r e f m = FallsAlong (heights_of r) (record { from = e; priority = p
 -- ---- the rules
 
 abbrev branch_rules : Refutation → ℕ → List (ℕ × Side) → Decision → List (Rule Graph)
-branch_rules r e c (Split n left right) = rule 5 (SplitsOpenOr (entry_at r e).sequent c n) ∷ []
-branch_rules r e c (Clash x) = rule 6 (Clashes (entry_at r e).sequent c x) ∷ []
+branch_rules r e c (Split n left right) = rule 5 (λ g. OfSpread g (entry_at r e).sequent c (λ sp. IsOpenOr g sp n)) ∷ []
+branch_rules r e c (Clash x) = rule 6 (λ g. OfSpread g (entry_at r e).sequent c (λ sp. IsCause g sp x)) ∷ []
 branch_rules r e c (Go d f m) =
-    rule 7 (LeavesByDiamond (entry_at r e).sequent c d)
+    rule 7 (λ g. OfSpread g (entry_at r e).sequent c (λ sp. IsDiamondOf g sp d))
     ∷ rule 8 (LeadsWithinTargets (entry_at r e).sequent c d (entry_at r f).sequent)
     ∷ rule 9 (TracesNames (entry_at r e) c d (entry_at r f) m)
     ∷ rule 10 (λ g. HeightsFall r e f m)

@@ -20,7 +20,7 @@ use Rattle.ml_refute_check.proofs.Refuted.{refuted_is_unsatisfiable}
 pub accepted_is_true : AcceptedIsTrue
 accepted_is_true text a =
     let head = a.has_head in
-    let found = a.holds.3 in
+    let found = a.holds.3.1 in
     record {
       version = a.version;
       problem = a.problem;

@@ -94,7 +94,7 @@ module _ (v : Version) (rest : List ℕ) (p : Problem) (r : Refutation) (ok : Is
       → InGraph p (λ g. IsAccepted g r)
       → InGraph p (λ g. IsRejectedBy g v rest r l n)
       → ⊥
-  accepted_rejected l n x y =
+  accepted_rejected l n (open, x) (shut, y) =
       let alike = graphs_alike p x.graph y.graph x.is_graph y.is_graph in
       parts.never_both y.graph r y.holds.entry y.holds.part n (accepted_same x.graph y.graph alike r x.holds)
       y.holds.is_first
@@ -103,7 +103,7 @@ module _ (v : Version) (rest : List ℕ) (p : Problem) (r : Refutation) (ok : Is
       → InGraph p (λ g. IsRejectedBy g v rest r l n)
       → InGraph p (λ g. IsRejectedBy g v rest r k m)
       → (l ≡ k) × (n ≡ m)
-  rejected_once l n k m one other =
+  rejected_once l n k m (open, one) (shut, other) =
       let x = one.holds in
       let y = other.holds in
       let alike = graphs_alike p one.graph other.graph one.is_graph other.is_graph in
@@ -126,12 +126,12 @@ module _ (v : Version) (rest : List ℕ) (p : Problem) (r : Refutation) (ok : Is
       → Finds (Rejected k m) v rest p r
       → (l ≡ k) × (n ≡ m)
   rejected_alike l n k m (inl x) (inl y) = (x.1 ∙ sym y.1, x.2 ∙ sym y.2)
-  rejected_alike l n k m (inl x) (inr y) = absurd (y.closed x.0)
-  rejected_alike l n k m (inr x) (inl y) = absurd (x.closed y.0)
+  rejected_alike l n k m (inl x) (inr y) = absurd (y.0 x.0)
+  rejected_alike l n k m (inr x) (inl y) = absurd (x.0 y.0)
   rejected_alike l n k m (inr x) (inr y) = rejected_once l n k m x y
 
   apart : (l n : ℕ) → Finds Accepted v rest p r → Finds (Rejected l n) v rest p r → ⊥
-  apart l n x (inl y) = x.closed y.0
+  apart l n x (inl y) = x.0 y.0
   apart l n x (inr y) = accepted_rejected l n x y
 
   one_found : (x y : Verdict) → Finds x v rest p r → Finds y v rest p r → x ≡ y

@@ -65,7 +65,7 @@ pub accepted_there : (text : List ℕ) (p : Problem) (r : held.Refutation) (line
     → IsAcceptedDocument text
 accepted_there text p r lines shown g is_graph closed accepted =
     shown_so text p r lines shown (Finds Accepted)
-    (record { closed = closed; graph = g; is_graph = is_graph; holds = accepted })
+    (closed, record { graph = g; is_graph = is_graph; holds = accepted })
 
 pub without_graph : (text : List ℕ) (p : Problem) (r : held.Refutation) (lines : Lines)
     → IsShown text p r lines
@@ -88,21 +88,23 @@ rejected_there text p r lines shown g entry part number line is_graph closed fir
     let there =
     slice_get-get_or lines.entries.items entry none
     (omega (arith, first.is_entry, as_many_lines text p r lines shown, length-map r.entries.items (plain_entry r))) in
-    shown_so text p r lines shown (Finds (Rejected line number)) (inr (record {
-      closed = closed;
-      graph = g;
-      is_graph = is_graph;
-      holds = record {
-        entry = entry;
-        part = part;
-        is_first = first;
-        lines = lines.entries.items;
-        are_lines = shown.are_lines;
-        at = get_or lines.entries.items entry none;
-        of_entry = there;
-        is_line = told (get_or lines.entries.items entry none) there;
-      };
-    }))
+    shown_so text p r lines shown (Finds (Rejected line number)) (inr (
+      closed,
+      record {
+        graph = g;
+        is_graph = is_graph;
+        holds = record {
+          entry = entry;
+          part = part;
+          is_first = first;
+          lines = lines.entries.items;
+          are_lines = shown.are_lines;
+          at = get_or lines.entries.items entry none;
+          of_entry = there;
+          is_line = told (get_or lines.entries.items entry none) there;
+        };
+      },
+    ))
 
 pub migrated : (text out : List ℕ) (p : Problem) (r : held.Refutation) (lines : Lines)
     → IsShown text p r lines

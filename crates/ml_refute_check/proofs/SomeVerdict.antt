@@ -45,25 +45,27 @@ module _ (v : Version) (rest : List ℕ) (p : Problem) (r : Refutation) (is_text
       → (w : Verdict) × Finds w v rest p r
   unfolding lines
   of_finding (inl accepted) =
-      (Accepted, record { closed = closed; graph = g; is_graph = is_graph; holds = accepted })
+      (Accepted, (closed, record { graph = g; is_graph = is_graph; holds = accepted }))
   of_finding (inr (e, k, number, first)) =
       let at = get_or lines e none in (
         Rejected (line_of at (length (entry_at r e).traces.items) k) number,
-        inr (record {
-          closed = closed;
-          graph = g;
-          is_graph = is_graph;
-          holds = record {
-            entry = e;
-            part = k;
-            is_first = first;
-            lines = lines;
-            are_lines = record { written = is_text; are_parts = refl };
-            at = at;
-            of_entry = slice_get-get_or lines e none (omega (arith, first.is_entry, many));
-            is_line = refl;
-          };
-        }),
+        inr (
+          closed,
+          record {
+            graph = g;
+            is_graph = is_graph;
+            holds = record {
+              entry = e;
+              part = k;
+              is_first = first;
+              lines = lines;
+              are_lines = record { written = is_text; are_parts = refl };
+              at = at;
+              of_entry = slice_get-get_or lines e none (omega (arith, first.is_entry, many));
+              is_line = refl;
+            };
+          },
+        ),
       )
 
 of_graph : (v : Version) (rest : List ℕ) (p : Problem) (r : Refutation) → IsTextOf v rest r

@@ -27,7 +27,7 @@ use Rattle.ml_front.specs.declared.answer.Answer.TheVariants.{Unsatisfiable}
 use Rattle.ml_front.specs.declared.problem.Problem.{Problem}
 use Rattle.ml_front.specs.declared.problem.TheConstants.{MOST_NODES}
 use Rattle.ml_front.specs.Documents.{Shows, IsDocumentFault, first_body_line}
-use Rattle.ml_front.specs.Graphs.{HasLargeClosure, IsGraphOf}
+use Rattle.ml_front.specs.Graphs.{HasLargeClosure, OfGraph}
 use Rattle.ml_front.specs.Head.{head_lines}
 use Rattle.ml_front.specs.HeadRules.{IsHead}
 use Rattle.ml_front.specs.Problems.{IsSatisfiable}
@@ -57,11 +57,8 @@ ShowsRefutation text P =
 -- ---- what checking it finds
 
 -- the closure of the problem isn't too large, and this holds in its graph
-pub record InGraph (p : Problem) (P : Graph → Type 0) : Type 0 where
-  pub closed : ¬ (HasLargeClosure p MOST_NODES)
-  pub graph : Graph
-  pub is_graph : IsGraphOf graph p
-  pub holds : P graph
+abbrev pub InGraph : Problem → (Graph → Type 0) → Type 0
+InGraph p P = (¬ (HasLargeClosure p MOST_NODES)) × OfGraph p P
 
 -- first the sequent and the names in use, then the items, and last the branches of the decision
 abbrev pub line_of : EntryLines → ℕ → ℕ → ℕ
