@@ -41,7 +41,8 @@ use Rattle.ml_blocks.specs.Agreement.{Agrees, AgreesWith, HoldsWhere, GraphsAgre
 use Rattle.ml_blocks.specs.BlockGraph.{IsGraphAt, start_of, linear_start_of}
 use Rattle.ml_blocks.specs.Items.{now}
 use Rattle.ml_blocks.specs.Laws.{signed}
-use Rattle.ml_blocks.specs.Places.{Place, Root, Total, HasEdge, LeadsOn, True, Holding, Both, Neither, Constant, Literal, And, Or, Diamond, form_of, block_of}
+use Rattle.ml_blocks.specs.Places.{Place, Root, Total, HasEdge, LeadsOn, True, Holding, Both, Neither, form_of, block_of}
+use Rattle.ml_nodes.specs.ClosureGraph.{Constant, Literal, And, Or, Diamond}
 use Rattle.ml_blocks.proofs.BlocksTold.{Told, ItemsTold, SomeFrom, block_told, given, never_both, one_of_both, holds_as, is_state_item}
 use Rattle.ml_blocks.proofs.DecidedTruth.{truth_is_decided}
 use Rattle.ml_nodes.proofs.EndlessWalks.{Onward, never_for_ever}

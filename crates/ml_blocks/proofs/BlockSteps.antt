@@ -15,7 +15,8 @@ use Rattle.ml_parity.specs.Winner.{IsStrategyOf}
 use Rattle.ml_blocks.specs.Items.{Item, Row, OfState, Becomes, Either, row}
 use Rattle.ml_blocks.specs.ItemSets.{put_all, without, next_items, eventualities}
 use Rattle.ml_blocks.specs.Places.{Block, Place, Path, True, False, Holding, form_of, priority_of, path_of, form_of_item, form_of_block}
-use Rattle.ml_blocks.specs.Places.{form_of_edge, priority_of_block, first_open, focus_behind, edge_priority, all_of, one_of}
+use Rattle.ml_blocks.specs.Places.{form_of_edge, priority_of_block, first_open, focus_behind, edge_priority}
+use Rattle.ml_nodes.specs.ClosureGraph.{all_of, one_of}
 use Rattle.ml_blocks.proofs.ItemSetMembers.{load}
 use Rattle.ml_blocks.proofs.LighterRows.{step_lighter}
 use Rattle.ml_blocks.proofs.LocalRuns.{Takes, LocalRun, settled, taken, Of, after_of}

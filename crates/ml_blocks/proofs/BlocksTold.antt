@@ -35,7 +35,8 @@ use Rattle.ml_ctl.proofs.StateFormulas.{looks_at_the_state}
 use Rattle.ml_blocks.specs.Items.{Item, OfState, row, now}
 use Rattle.ml_blocks.specs.ItemSets.{items_within}
 use Rattle.ml_blocks.specs.Laws.{Asks, signed, QuantifiersAreDecided}
-use Rattle.ml_blocks.specs.Places.{Constant, Holding}
+use Rattle.ml_blocks.specs.Places.{Holding}
+use Rattle.ml_nodes.specs.ClosureGraph.{Constant}
 use Rattle.ml_blocks.proofs.BlockSteps.{path}
 use Rattle.ml_blocks.proofs.BlockWalks.{AllWon}
 use Rattle.ml_blocks.proofs.ItemsFollow.{itself_within}

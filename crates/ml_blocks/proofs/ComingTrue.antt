@@ -17,7 +17,8 @@ use Rattle.ml_ctl.specs.Meaning.{Property, Nowhere, iterate_of}
 use Rattle.ml_ctl.specs.Paths.{places}
 use Rattle.ml_ctl.proofs.PlaceWalks.{walk-shift}
 use Rattle.ml_ctl.proofs.StepByStep.{closed}
-use Rattle.ml_blocks.specs.Items.{Item, Either, now, put_off, row, is_eventual}
+use Rattle.ml_blocks.specs.Items.{Item, Either, now, put_off, row}
+use Rattle.ml_ctl.specs.Eventualities.{is_eventual}
 use Rattle.ml_blocks.specs.Laws.{Asks, AllSay, SaysBy, RowSays, QuantifiersAreDecided, EventualitiesComeTrue}
 use Rattle.ml_blocks.proofs.ItemSetMembers.{AreNow}
 use Rattle.ml_blocks.proofs.RowsOfItems.{item, rows_say_the_same, eventualities_are_least}

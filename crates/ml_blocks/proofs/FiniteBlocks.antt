@@ -20,7 +20,8 @@ use Rattle.ml_blocks.specs.BlockClosures.{at_root, behind, children}
 use Rattle.ml_blocks.specs.BlockClosures.{IsReached}
 use Rattle.ml_blocks.specs.Items.{Item, Row, OfState, Waits, Becomes, Either, put_off, row}
 use Rattle.ml_blocks.specs.ItemSets.{due, key, put_all, without, items_within, next_items, eventualities}
-use Rattle.ml_blocks.specs.Places.{Place, Holding, form_of, form_of_item, focus_behind, is_put_off, path_of, first_open, block_of, all_of, one_of}
+use Rattle.ml_blocks.specs.Places.{Place, Holding, form_of, form_of_item, focus_behind, is_put_off, path_of, first_open, block_of}
+use Rattle.ml_nodes.specs.ClosureGraph.{all_of, one_of}
 use Rattle.ml_blocks.proofs.BlockSteps.{block, block_form, edge_form_of, path, path_is}
 use Rattle.ml_blocks.proofs.ItemSetMembers.{next_items-all_of}
 use Rattle.ml_blocks.proofs.ItemsWithin.{IsOf, bits_low, same_key, stands_at_within, within_stands}

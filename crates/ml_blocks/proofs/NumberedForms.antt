@@ -16,8 +16,9 @@ use Rattle.ml_ctl.specs.declared.term.Quantifier.TheVariants as quantifier
 use Rattle.ml_blocks.specs.Items.{Item, now}
 use Rattle.ml_blocks.specs.ItemSets.{next_items, eventualities, put_all, without}
 use Rattle.ml_blocks.specs.Places as node
-use Rattle.ml_blocks.specs.Places.{Place, path_of, all_of, one_of, focus_behind, edge_priority, form_of, priority_of, form_of_item}
-use Rattle.ml_blocks.specs.Places.{form_of_edge, form_of_block, priority_of_block, form_of_formula, form_of_connective}
+use Rattle.ml_blocks.specs.Places.{Place, path_of, focus_behind, edge_priority, form_of, priority_of, form_of_item}
+use Rattle.ml_nodes.specs.ClosureGraph.{all_of, one_of, form_of_connective}
+use Rattle.ml_blocks.specs.Places.{form_of_edge, form_of_block, priority_of_block, form_of_formula}
 use Rattle.ml_blocks.specs.private.Asked.{now_at, put_few, others}
 use Rattle.ml_blocks.specs.private.Forms.{Form, row_in, is_open_in, next_all, is_pending, focus_in, edge_priority_in, path_at, with_items, item_form, edge_form}
 use Rattle.ml_blocks.specs.private.Forms.{block_form, block_priority, whole, block_at, connective_form, symbol_form, state_form, form_in, priority_in}

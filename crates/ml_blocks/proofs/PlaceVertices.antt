@@ -33,7 +33,8 @@ use Rattle.ml_graph.proofs.OneStep.{vertex_low, pair_member}
 use Rattle.ml_ctl.specs.Paths.{IsTotal, has_step}
 use Rattle.ml_blocks.specs.BlockClosures.{HasForm}
 use Rattle.ml_blocks.specs.BlockClosures.{IsNumberedBy}
-use Rattle.ml_blocks.specs.Places.{Place, Form, And, Or, Diamond, Square, form_of, priority_of, all_of, one_of}
+use Rattle.ml_blocks.specs.Places.{Place, Form, form_of, priority_of}
+use Rattle.ml_nodes.specs.ClosureGraph.{And, Or, Diamond, Square, all_of, one_of}
 
 pub record Board : Type 0 where
   pub g : Graph

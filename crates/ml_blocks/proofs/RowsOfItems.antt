@@ -19,7 +19,8 @@ use Rattle.ml_ctl.specs.Paths.{places}
 use Rattle.ml_ctl.proofs.Iterated.{until_steps, release_steps}
 use Rattle.ml_ctl.proofs.Negations.{not_until, until_not, not_release, release_not}
 use Rattle.ml_ctl.proofs.StepByStep.{closed}
-use Rattle.ml_blocks.specs.Items.{Item, is_eventual}
+use Rattle.ml_blocks.specs.Items.{Item}
+use Rattle.ml_ctl.specs.Eventualities.{is_eventual}
 use Rattle.ml_blocks.specs.Laws.{Asks, RowSays, QuantifiersAreDecided, RowsSayTheSame, EventualitiesAreLeast, OthersAreGreatest}
 use Rattle.ml_blocks.proofs.DecidedTruth.{truth_is_decided}
 use Rattle.ml_blocks.proofs.RowConnectives as row

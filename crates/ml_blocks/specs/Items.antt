@@ -22,7 +22,7 @@ use Rattle.ml_ctl.specs.declared.term.Tense.{Tense}
 use Rattle.ml_ctl.specs.declared.term.Tense.TheVariants.{Next, Finally, Globally}
 use Rattle.ml_ctl.specs.declared.term.Pairing.{Pairing}
 use Rattle.ml_ctl.specs.declared.term.Pairing.TheVariants.{Until, Release, Weak}
-pub use Rattle.ml_ctl.specs.Eventualities.{is_eventual}
+use Rattle.ml_ctl.specs.Eventualities.{is_eventual}
 
 pub record Item : Type 0 where
   pub number : ℕ

@@ -30,7 +30,8 @@ use Rattle.ml_trace.specs.Run.{Run, AcceptingRun}
 use Rattle.ml_trace.specs.WordAutomata.{WordLasso, IsWordLasso, IsAcceptedFrom, stem, turn}
 use Rattle.ml_ctl.specs.Formula.{Formula}
 use Rattle.ml_blocks.specs.BlockClosures.{HasForm}
-use Rattle.ml_blocks.specs.Places.{Place, Form, Constant, Literal, And, Or, Diamond, Square, form_of}
+use Rattle.ml_blocks.specs.Places.{Place, Form, form_of}
+use Rattle.ml_nodes.specs.ClosureGraph.{Constant, Literal, And, Or, Diamond, Square}
 use Rattle.ml_blocks.proofs.BlocksTold.{never_both}
 use Rattle.ml_blocks.proofs.PlaceVertices as vertices
 use Rattle.ml_blocks.proofs.PlaceVertices.{Board, at, own_move, other_move, step_target}

@@ -26,7 +26,8 @@ use Rattle.ml_ctl.specs.Sorts.{is_linear}
 use Rattle.ml_ctl.specs.Paths.{has_step}
 use Rattle.ml_blocks.specs.Items.{Item, Row, OfState, Waits, Becomes, Either, now, row}
 use Rattle.ml_blocks.specs.ItemSets.{put_all, without, next_items, eventualities}
-use Rattle.ml_blocks.specs.Places.{Place, Holding, Constant, Literal, And, Or, Diamond, first_open, form_of, form_of_item, is_open, is_wait, focus_behind, edge_priority, path_of}
+use Rattle.ml_blocks.specs.Places.{Place, Holding, first_open, form_of, form_of_item, is_open, is_wait, focus_behind, edge_priority, path_of}
+use Rattle.ml_nodes.specs.ClosureGraph.{Constant, Literal, And, Or, Diamond}
 use Rattle.ml_blocks.proofs.BlockSteps as block
 use Rattle.ml_blocks.proofs.BlockSteps.{path, path_is, block_form, edge_form_of, edge_priority_of, Stepped, Settled, Steps, settle}
 use Rattle.ml_blocks.proofs.ItemSetMembers.{load, next_items-all_of}

@@ -27,7 +27,7 @@ use Rattle.ml_trace.specs.WordAutomata.{WordLasso, IsWordLasso, IsAcceptedFrom, 
 use Rattle.ml_ctl.specs.Formula.{Formula}
 use Rattle.ml_ctl.specs.Sorts.{is_linear}
 use Rattle.ml_blocks.specs.Items.{Item, now}
-use Rattle.ml_blocks.specs.Places.{Constant}
+use Rattle.ml_nodes.specs.ClosureGraph.{Constant}
 use Rattle.ml_blocks.proofs.ItemSetMembers.{alone}
 use Rattle.ml_blocks.proofs.BlockSteps.{path}
 use Rattle.ml_blocks.proofs.ItemsFollow.{itself_within}

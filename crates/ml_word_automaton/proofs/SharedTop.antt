@@ -15,12 +15,12 @@ use Rattle.ml_lists.proofs.Member.{member-place, member_of_get}
 use Rattle.ml_graph.specs.Graph.{Graph, node_at, size}
 use Rattle.ml_graph.specs.declared.node.Node.{Node}
 use Rattle.ml_graph.specs.declared.node.Node.TheVariants as node
-use Rattle.ml_nodes.specs.ClosureGraph.{HasForm, IsNumberOf, IsNumberedBy, IsReached, at_root, behind, children}
+use Rattle.ml_nodes.specs.ClosureGraph.{HasForm, IsNumberOf, IsNumberedBy, IsReached, at_root, behind, children, And, Or, Diamond}
 use Rattle.ml_ctl.specs.Formula.{Formula}
 use Rattle.ml_ctl.specs.Sorts.{is_linear}
 use Rattle.ml_blocks.specs.Items.{Item, Row, OfState, Waits, Becomes, Either, now, row}
 use Rattle.ml_blocks.specs.ItemSets.{eventualities, next_items, put_all, without}
-use Rattle.ml_blocks.specs.Places.{Place, Form, And, Or, Diamond, Holding, True, first_open, focus_behind, form_of, form_of_item, forms, is_wait, path_of}
+use Rattle.ml_blocks.specs.Places.{Place, Form, Holding, True, first_open, focus_behind, form_of, form_of_item, forms, is_wait, path_of}
 use Rattle.ml_blocks.proofs.BlockSteps.{block, block_form, edge_form_of, path, path_is}
 use Rattle.ml_blocks.proofs.ItemSetMembers.{next_items-all_of}
 use Rattle.ml_blocks.proofs.ItemsFollow.{itself_within}
