@@ -32,6 +32,7 @@ use Rattle.ml_blocks.specs.Items.{Item, Row, OfState, Waits, Becomes, Either, no
 use Rattle.ml_blocks.specs.Items.{row_of_tense, unless_put_off, until_released, left_number, behind_next, operand_of}
 use Rattle.ml_blocks.specs.ItemSets.{due, eventualities, next_items, next_of, put_all, without}
 use Rattle.ml_blocks.specs.Places as place
+use Rattle.ml_nodes.specs.ClosureGraph as form_case
 use Rattle.ml_blocks.specs.Places.{Block, Place, Form, block_of, edge_priority, first_open, focus_behind, form_of, form_of_block}
 use Rattle.ml_blocks.specs.Places.{form_of_edge, form_of_formula, form_of_item, forms, is_put_off, path_of, priority_of, priority_of_block}
 use Rattle.ml_text.proofs.Names.{kind_parts}
@@ -167,12 +168,12 @@ NamedPlace (place.Neither i f g sign) = NamesOf f × NamesOf g
 NamedPlace (place.Path b) = NamedItems b.items
 
 abbrev NamedForm : Form → Type 0
-NamedForm (place.Constant b) = Unit {0}
-NamedForm (place.Literal name sign) = IsName name
-NamedForm (place.And p q) = NamedPlace p × NamedPlace q
-NamedForm (place.Or p q) = NamedPlace p × NamedPlace q
-NamedForm (place.Diamond p) = NamedPlace p
-NamedForm (place.Square p) = NamedPlace p
+NamedForm (form_case.Constant b) = Unit {0}
+NamedForm (form_case.Literal name sign) = IsName name
+NamedForm (form_case.And p q) = NamedPlace p × NamedPlace q
+NamedForm (form_case.Or p q) = NamedPlace p × NamedPlace q
+NamedForm (form_case.Diamond p) = NamedPlace p
+NamedForm (form_case.Square p) = NamedPlace p
 
 -- ---- blocks
 
@@ -201,11 +202,11 @@ module _ (b : Block) (named : NamedItems b.items) where
           by_part (inl i) = all y i
           by_part (inr i) = without_named x y i
 
-  both_named : (sign : Bool) (p q : Place) → NamedPlace p → NamedPlace q → NamedForm (place.all_of sign p q)
+  both_named : (sign : Bool) (p q : Place) → NamedPlace p → NamedPlace q → NamedForm (form_case.all_of sign p q)
   both_named true p q x y = (x, y)
   both_named false p q x y = (x, y)
 
-  one_named : (sign : Bool) (p q : Place) → NamedPlace p → NamedPlace q → NamedForm (place.one_of sign p q)
+  one_named : (sign : Bool) (p q : Place) → NamedPlace p → NamedPlace q → NamedForm (form_case.one_of sign p q)
   one_named true p q x y = (x, y)
   one_named false p q x y = (x, y)
 
@@ -230,7 +231,7 @@ module _ (b : Block) (named : NamedItems b.items) where
       let k = focus_behind (eventualities b.first) b.focus b.items in
       by_sign b.positive (path_of b (next_items b.items) k) (path_named (next_items b.items) k next_items_named)
     where
-      by_sign : (sign : Bool) (p : Place) → NamedPlace p → NamedForm (if sign then place.Diamond p else place.Square p)
+      by_sign : (sign : Bool) (p : Place) → NamedPlace p → NamedForm (if sign then form_case.Diamond p else form_case.Square p)
       by_sign true p named = named
       by_sign false p named = named
 
@@ -284,18 +285,18 @@ form_named (place.Path b) named = block_named b named (first_open b.items) refl
 -- ---- what is reached
 
 child_named : (f : Form) (p : Place) → NamedForm f → IsMember p (children f) → NamedPlace p
-child_named (place.Constant b) p named none = absurd none
-child_named (place.Literal name sign) p named none = absurd none
-child_named (place.And q r) p named (inl is) = subst NamedPlace (sym is) named.0
-child_named (place.And q r) p named (inr (inl is)) = subst NamedPlace (sym is) named.1
-child_named (place.And q r) p named (inr (inr none)) = absurd none
-child_named (place.Or q r) p named (inl is) = subst NamedPlace (sym is) named.0
-child_named (place.Or q r) p named (inr (inl is)) = subst NamedPlace (sym is) named.1
-child_named (place.Or q r) p named (inr (inr none)) = absurd none
-child_named (place.Diamond q) p named (inl is) = subst NamedPlace (sym is) named
-child_named (place.Diamond q) p named (inr none) = absurd none
-child_named (place.Square q) p named (inl is) = subst NamedPlace (sym is) named
-child_named (place.Square q) p named (inr none) = absurd none
+child_named (form_case.Constant b) p named none = absurd none
+child_named (form_case.Literal name sign) p named none = absurd none
+child_named (form_case.And q r) p named (inl is) = subst NamedPlace (sym is) named.0
+child_named (form_case.And q r) p named (inr (inl is)) = subst NamedPlace (sym is) named.1
+child_named (form_case.And q r) p named (inr (inr none)) = absurd none
+child_named (form_case.Or q r) p named (inl is) = subst NamedPlace (sym is) named.0
+child_named (form_case.Or q r) p named (inr (inl is)) = subst NamedPlace (sym is) named.1
+child_named (form_case.Or q r) p named (inr (inr none)) = absurd none
+child_named (form_case.Diamond q) p named (inl is) = subst NamedPlace (sym is) named
+child_named (form_case.Diamond q) p named (inr none) = absurd none
+child_named (form_case.Square q) p named (inl is) = subst NamedPlace (sym is) named
+child_named (form_case.Square q) p named (inr none) = absurd none
 
 reached_named : (root p : Place) → NamedPlace root → IsReached root p → NamedPlace p
 reached_named root _ named at_root = named
@@ -333,12 +334,12 @@ low_priority (place.Path b) = by_sign b.positive
     by_sign false = omega (arith, low_block b (first_open b.items))
 
 literal_named : (f : Form) → NamedForm f → IsNamedForm f
-literal_named (place.Literal name positive) named = named
-literal_named (place.Constant b) named = tt
-literal_named (place.And l r) named = tt
-literal_named (place.Or l r) named = tt
-literal_named (place.Diamond p) named = tt
-literal_named (place.Square p) named = tt
+literal_named (form_case.Literal name positive) named = named
+literal_named (form_case.Constant b) named = tt
+literal_named (form_case.And l r) named = tt
+literal_named (form_case.Or l r) named = tt
+literal_named (form_case.Diamond p) named = tt
+literal_named (form_case.Square p) named = tt
 
 pub blocks_held : (start : Place) (g : Graph) → IsGraphAt g start → NamedPlace start → IsHeld g
 blocks_held start g is named =
