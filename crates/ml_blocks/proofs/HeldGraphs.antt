@@ -32,7 +32,7 @@ use Rattle.ml_blocks.specs.Items.{Item, Row, OfState, Waits, Becomes, Either, no
 use Rattle.ml_blocks.specs.Items.{row_of_tense, unless_put_off, until_released, left_number, behind_next, operand_of}
 use Rattle.ml_blocks.specs.ItemSets.{due, eventualities, next_items, next_of, put_all, without}
 use Rattle.ml_blocks.specs.Places as place
-use Rattle.ml_nodes.specs.ClosureGraph as form_case
+use Rattle.ml_nodes.specs.ClosureGraph as closure
 use Rattle.ml_blocks.specs.Places.{Block, Place, Form, block_of, edge_priority, first_open, focus_behind, form_of, form_of_block}
 use Rattle.ml_blocks.specs.Places.{form_of_edge, form_of_formula, form_of_item, forms, is_put_off, path_of, priority_of, priority_of_block}
 use Rattle.ml_text.proofs.Names.{kind_parts}
@@ -168,12 +168,12 @@ NamedPlace (place.Neither i f g sign) = NamesOf f × NamesOf g
 NamedPlace (place.Path b) = NamedItems b.items
 
 abbrev NamedForm : Form → Type 0
-NamedForm (form_case.Constant b) = Unit {0}
-NamedForm (form_case.Literal name sign) = IsName name
-NamedForm (form_case.And p q) = NamedPlace p × NamedPlace q
-NamedForm (form_case.Or p q) = NamedPlace p × NamedPlace q
-NamedForm (form_case.Diamond p) = NamedPlace p
-NamedForm (form_case.Square p) = NamedPlace p
+NamedForm (closure.Constant b) = Unit {0}
+NamedForm (closure.Literal name sign) = IsName name
+NamedForm (closure.And p q) = NamedPlace p × NamedPlace q
+NamedForm (closure.Or p q) = NamedPlace p × NamedPlace q
+NamedForm (closure.Diamond p) = NamedPlace p
+NamedForm (closure.Square p) = NamedPlace p
 
 -- ---- blocks
 
@@ -202,11 +202,11 @@ module _ (b : Block) (named : NamedItems b.items) where
           by_part (inl i) = all y i
           by_part (inr i) = without_named x y i
 
-  both_named : (sign : Bool) (p q : Place) → NamedPlace p → NamedPlace q → NamedForm (form_case.all_of sign p q)
+  both_named : (sign : Bool) (p q : Place) → NamedPlace p → NamedPlace q → NamedForm (closure.all_of sign p q)
   both_named true p q x y = (x, y)
   both_named false p q x y = (x, y)
 
-  one_named : (sign : Bool) (p q : Place) → NamedPlace p → NamedPlace q → NamedForm (form_case.one_of sign p q)
+  one_named : (sign : Bool) (p q : Place) → NamedPlace p → NamedPlace q → NamedForm (closure.one_of sign p q)
   one_named true p q x y = (x, y)
   one_named false p q x y = (x, y)
 
@@ -231,7 +231,7 @@ module _ (b : Block) (named : NamedItems b.items) where
       let k = focus_behind (eventualities b.first) b.focus b.items in
       by_sign b.positive (path_of b (next_items b.items) k) (path_named (next_items b.items) k next_items_named)
     where
-      by_sign : (sign : Bool) (p : Place) → NamedPlace p → NamedForm (if sign then form_case.Diamond p else form_case.Square p)
+      by_sign : (sign : Bool) (p : Place) → NamedPlace p → NamedForm (if sign then closure.Diamond p else closure.Square p)
       by_sign true p named = named
       by_sign false p named = named
 
@@ -285,18 +285,18 @@ form_named (place.Path b) named = block_named b named (first_open b.items) refl
 -- ---- what is reached
 
 child_named : (f : Form) (p : Place) → NamedForm f → IsMember p (children f) → NamedPlace p
-child_named (form_case.Constant b) p named none = absurd none
-child_named (form_case.Literal name sign) p named none = absurd none
-child_named (form_case.And q r) p named (inl is) = subst NamedPlace (sym is) named.0
-child_named (form_case.And q r) p named (inr (inl is)) = subst NamedPlace (sym is) named.1
-child_named (form_case.And q r) p named (inr (inr none)) = absurd none
-child_named (form_case.Or q r) p named (inl is) = subst NamedPlace (sym is) named.0
-child_named (form_case.Or q r) p named (inr (inl is)) = subst NamedPlace (sym is) named.1
-child_named (form_case.Or q r) p named (inr (inr none)) = absurd none
-child_named (form_case.Diamond q) p named (inl is) = subst NamedPlace (sym is) named
-child_named (form_case.Diamond q) p named (inr none) = absurd none
-child_named (form_case.Square q) p named (inl is) = subst NamedPlace (sym is) named
-child_named (form_case.Square q) p named (inr none) = absurd none
+child_named (closure.Constant b) p named none = absurd none
+child_named (closure.Literal name sign) p named none = absurd none
+child_named (closure.And q r) p named (inl is) = subst NamedPlace (sym is) named.0
+child_named (closure.And q r) p named (inr (inl is)) = subst NamedPlace (sym is) named.1
+child_named (closure.And q r) p named (inr (inr none)) = absurd none
+child_named (closure.Or q r) p named (inl is) = subst NamedPlace (sym is) named.0
+child_named (closure.Or q r) p named (inr (inl is)) = subst NamedPlace (sym is) named.1
+child_named (closure.Or q r) p named (inr (inr none)) = absurd none
+child_named (closure.Diamond q) p named (inl is) = subst NamedPlace (sym is) named
+child_named (closure.Diamond q) p named (inr none) = absurd none
+child_named (closure.Square q) p named (inl is) = subst NamedPlace (sym is) named
+child_named (closure.Square q) p named (inr none) = absurd none
 
 reached_named : (root p : Place) → NamedPlace root → IsReached root p → NamedPlace p
 reached_named root _ named at_root = named
@@ -334,12 +334,12 @@ low_priority (place.Path b) = by_sign b.positive
     by_sign false = omega (arith, low_block b (first_open b.items))
 
 literal_named : (f : Form) → NamedForm f → IsNamedForm f
-literal_named (form_case.Literal name positive) named = named
-literal_named (form_case.Constant b) named = tt
-literal_named (form_case.And l r) named = tt
-literal_named (form_case.Or l r) named = tt
-literal_named (form_case.Diamond p) named = tt
-literal_named (form_case.Square p) named = tt
+literal_named (closure.Literal name positive) named = named
+literal_named (closure.Constant b) named = tt
+literal_named (closure.And l r) named = tt
+literal_named (closure.Or l r) named = tt
+literal_named (closure.Diamond p) named = tt
+literal_named (closure.Square p) named = tt
 
 pub blocks_held : (start : Place) (g : Graph) → IsGraphAt g start → NamedPlace start → IsHeld g
 blocks_held start g is named =

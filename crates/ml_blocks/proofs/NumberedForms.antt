@@ -16,7 +16,7 @@ use Rattle.ml_ctl.specs.declared.term.Quantifier.TheVariants as quantifier
 use Rattle.ml_blocks.specs.Items.{Item, now}
 use Rattle.ml_blocks.specs.ItemSets.{next_items, eventualities, put_all, without}
 use Rattle.ml_blocks.specs.Places as node
-use Rattle.ml_nodes.specs.ClosureGraph as form_case
+use Rattle.ml_nodes.specs.ClosureGraph as closure
 use Rattle.ml_blocks.specs.Places.{Place, path_of, focus_behind, edge_priority, form_of, priority_of, form_of_item}
 use Rattle.ml_nodes.specs.ClosureGraph.{all_of, one_of, form_of_connective}
 use Rattle.ml_blocks.specs.Places.{form_of_edge, form_of_block, priority_of_block, form_of_formula}
@@ -73,7 +73,7 @@ module _ (names : List (List ℕ)) (fs : List Formula) (start : Place) where
   twice_is false s = refl
 
   edge_is : (sign : Bool) (s : Spot)
-      → seen (form.Edge sign s) ≡ (if sign then form_case.Diamond (here s) else form_case.Square (here s))
+      → seen (form.Edge sign s) ≡ (if sign then closure.Diamond (here s) else closure.Square (here s))
   edge_is true s = refl
   edge_is false s = refl
 
@@ -92,7 +92,7 @@ module _ (names : List (List ℕ)) (fs : List Formula) (start : Place) where
       ∙ ap (all_of b.positive (node.Holding x.number (formula_at fs x.number) (beq x.positive b.positive)))
       (with_is b (others x b.items) rest (others_is fs x b.items))
   item_is b x row.Waits =
-      ap (λ p. form_case.And p p) (with_is b b.items (items_of fs b.items) refl)
+      ap (λ p. closure.And p p) (with_is b b.items (items_of fs b.items) refl)
   item_is b x (row.Becomes ys) =
       let rest = others x b.items in
       twice_is b.positive (with_items b (put_few ys rest))
@@ -167,9 +167,9 @@ module _ (K : Kept) (start : Place) where
       (occurrence_here K.names n f o).right)
       ≡ form_of_formula n f sign
   state_same n (Const c) o sign s = refl
-  state_same n (Prop p) o sign s = ap (λ name. form_case.Literal name sign) (place_found K.names p s.among.0).named
+  state_same n (Prop p) o sign s = ap (λ name. closure.Literal name sign) (place_found K.names p s.among.0).named
   state_same n (Not f) o sign s =
-      ap (λ h. form_case.And (node.Holding (n + 1) h (not sign)) (node.Holding (n + 1) h (not sign)))
+      ap (λ h. closure.And (node.Holding (n + 1) h (not sign)) (node.Holding (n + 1) h (not sign)))
       (formula_is K (n + 1) f None (of_not K n f o s))
   state_same n (Binary op f g) o sign s =
       by_operator op
@@ -189,10 +189,10 @@ module _ (K : Kept) (start : Place) where
       by_operator operator.Implies is = is
       by_operator operator.Iff is = is
   state_same n (Quantified quantifier.Exists f) o sign s =
-      ap (λ h. let p = node.block_of (now (n + 1) h true) sign in form_case.And p p)
+      ap (λ h. let p = node.block_of (now (n + 1) h true) sign in closure.And p p)
       (formula_is K (n + 1) f (Some true) (of_quantifier K quantifier.Exists n f o s))
   state_same n (Quantified quantifier.Forall f) o sign s =
-      ap (λ h. let p = node.block_of (now (n + 1) h false) (not sign) in form_case.And p p)
+      ap (λ h. let p = node.block_of (now (n + 1) h false) (not sign) in closure.And p p)
       (formula_is K (n + 1) f (Some false) (of_quantifier K quantifier.Forall n f o s))
   state_same n (Temporal t f) o sign s = refl
   state_same n (Paired p f g) o sign s = refl
@@ -240,9 +240,9 @@ module _ (K : Kept) (start : Place) where
       let f_r =
       subst (λ k. formula_at K.formulas (k + occurrences i.left) ≡ i.right) (three n)
       (formula_is K (n + 3 + occurrences i.left) i.right None h.at_right) in
-      ap (λ p. form_case.And p (place (whole (entry_at K.occurrences n).right sign)))
+      ap (λ p. closure.And p (place (whole (entry_at K.occurrences n).right sign)))
       (holding_is (entry_at K.occurrences n).left (n + 1 + 2) i.left true at_l f_l)
-      ∙ ap (form_case.And (node.Holding (n + 1 + 2) i.left true))
+      ∙ ap (closure.And (node.Holding (n + 1 + 2) i.left true))
       (holding_is (entry_at K.occurrences n).right (n + 1 + 2 + occurrences i.left) i.right sign at_r f_r)
       ∙ sym (ap (λ e. form_of (node.Both (n + 1) (left_part e) (right_part e) sign)) i.is)
     where
@@ -259,9 +259,9 @@ module _ (K : Kept) (start : Place) where
       let f_r =
       subst (λ k. formula_at K.formulas (k + occurrences i.left) ≡ i.right) (three n)
       (formula_is K (n + 3 + occurrences i.left) i.right None h.at_right) in
-      ap (λ p. form_case.And p (place (whole (entry_at K.occurrences n).right (not sign))))
+      ap (λ p. closure.And p (place (whole (entry_at K.occurrences n).right (not sign))))
       (holding_is (entry_at K.occurrences n).left (n + 2 + 1) i.left false at_l f_l)
-      ∙ ap (form_case.And (node.Holding (n + 2 + 1) i.left false))
+      ∙ ap (closure.And (node.Holding (n + 2 + 1) i.left false))
       (holding_is (entry_at K.occurrences n).right (n + 2 + 1 + occurrences i.left) i.right (not sign) at_r f_r)
       ∙ sym (ap (λ e. form_of (node.Neither (n + 2) (left_part e) (right_part e) sign)) i.is)
     where
@@ -288,7 +288,7 @@ module _ (K : Kept) (start : Place) where
       ap (λ ks. view (edge_form K.occurrences ks b)) (eventualities_is b fits)
       ∙ edge_is K.names fs start b.positive
       (path_at b.first b.positive behind (focus_in ms b.focus (is_pending ms b.focus b.items)))
-      ∙ ap (λ p. if b.positive then form_case.Diamond p else form_case.Square p)
+      ∙ ap (λ p. if b.positive then closure.Diamond p else closure.Square p)
       (path_is K.names fs start (block_view fs b) b.first b.positive behind
       (focus_in ms b.focus (is_pending ms b.focus b.items)) refl refl
       ∙ ap (λ xs. path_of (block_view fs b) xs (focus_in ms b.focus (is_pending ms b.focus b.items)))
@@ -321,7 +321,7 @@ module _ (K : Kept) (start : Place) where
 
   module _ (first : Spot) (is_start : place first ≡ start) where
     pub form_is : (s : Spot) → Fits K s → view (form_in K.occurrences K.eventualities first s) ≡ form_of (place s)
-    form_is (spot.Fixed fixed.Root) fits = ap (λ p. form_case.And p node.Total) is_start
+    form_is (spot.Fixed fixed.Root) fits = ap (λ p. closure.And p node.Total) is_start
     form_is (spot.Fixed fixed.Total) fits = refl
     form_is (spot.Fixed fixed.HasEdge) fits = refl
     form_is (spot.Fixed fixed.LeadsOn) fits = refl

@@ -9,7 +9,7 @@ ghost use Rattle.ml_lists.specs.Iterate.{iterate};
 ghost use Rattle.ml_base.specs.Structure as kripke;
 ghost use Rattle.ml_mu.specs.Formula as plain;
 ghost use Rattle.ml_mu.specs.Meaning as mean;
-ghost use Rattle.ml_text.specs.Operators as truth;
+ghost use Rattle.ml_text.specs.Operators as operators;
 ghost use Rattle.ml_mu.specs.private.Environment.{given_of};
 ghost use Rattle.ml_mu.specs.Meaning.{HaveFlags};
 ghost use Rattle.ml_mu.specs.Term.{formula_of};
@@ -230,7 +230,7 @@ fn combine(
     left: &[bool],
     right: &[bool],
 ) -> Result<Vec<bool>, NoMemory>
-    ensures { IfOk result (λ set. set.items ≡ map (λ flags. truth.truth_of operator flags.0 flags.1) (zip left.now right.now)) }
+    ensures { IfOk result (λ set. set.items ≡ map (λ flags. operators.truth_of operator flags.0 flags.1) (zip left.now right.now)) }
 {
     let set = left
         .iter()
@@ -241,7 +241,7 @@ fn combine(
 }
 
 fn truth_of(operator: Operator, left: bool, right: bool) -> bool
-    ensures { result ≡ truth.truth_of operator left right }
+    ensures { result ≡ operators.truth_of operator left right }
 {
     match operator {
         Operator::And => left && right,

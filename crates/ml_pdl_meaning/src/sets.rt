@@ -3,7 +3,7 @@ ghost use Rattle.std.specs.Prelude.{◌≡◌, ◌<◌, ◌==◌, ◌&&◌, not,
 ghost use Rattle.std.specs.Str.{bytes_eq};
 ghost use Rattle.ml_base.specs.Structure as kripke;
 ghost use Rattle.ml_pdl.specs.Meaning as mean;
-ghost use Rattle.ml_text.specs.Operators as truth;
+ghost use Rattle.ml_text.specs.Operators as operators;
 
 use ml_base::{Action, Edge, Name, NoMemory};
 use ml_kripke::Structure;
@@ -69,7 +69,7 @@ pub(crate) fn combine(
     requires left { length left.now ≡ structure.now.states }
     requires right { length right.now ≡ structure.now.states }
     ensures value { IfOk result (λ set. set.items ≡ kripke.states_where structure.now
-        (λ s. truth.truth_of operator (kripke.is_member left.now s) (kripke.is_member right.now s))) }
+        (λ s. operators.truth_of operator (kripke.is_member left.now s) (kripke.is_member right.now s))) }
     ensures flags { IfOk result (λ set. length set.items ≡ structure.now.states) }
 {
     let set = (0..structure.states())
@@ -79,7 +79,7 @@ pub(crate) fn combine(
 }
 
 fn truth_of(operator: Operator, left: bool, right: bool) -> bool
-    ensures { result ≡ truth.truth_of operator left right }
+    ensures { result ≡ operators.truth_of operator left right }
 {
     match operator {
         Operator::And => left && right,
