@@ -4,16 +4,19 @@
 --   start_told, live_told  == the tests of the sequent and of the names in use tell exactly whether their rules are
 --                             kept
 --   front_refused_2, front_refused_3, front_later, front_kept == what is found of the three together
+--   front_starts, front_stands == where none of them is bad, the sequent is of nodes of the graph, and the items stand at
+--                      nodes of it
 --   live_low        == the names of an entry's items are in use
 --   ascending_again, start_stands == the sequent of an entry as a set, and its spread
 --   odds_ascend     == the odd priorities of a graph ascend
 --   entry_of_index  == an entry that a program reads by its place
 --   whole_front, whole_later, whole_kept == what is found of an entry
 use Rattle.std.proofs.Common.{◌≡◌, ◌↔◌, ℕ, zero, suc, ◌+◌, ◌<◌, ◌≤◌, ◌%◌, ◌==◌, filter, Bool, List, [], ◌∷◌, ◌++◌, None}
-use Rattle.std.proofs.Common.{Some, All, length, get_or, take, map, IsTrue, inl, refl, sym, ap, ◌∙◌, subst, arith}
+use Rattle.std.proofs.Common.{Some, All, length, get_or, take, map, IsTrue, inl, inr, refl, sym, ap, ◌∙◌, subst, arith}
 use Rattle.std.proofs.lemmas.List.{map-append, take_more, take_all, get_or-map, length-map}
 use Rattle.ml_lists.specs.Ascending.{IsAscending, ascending}
 use Rattle.ml_lists.specs.Member.{IsMember}
+use Rattle.ml_lists.proofs.Member.{member-All}
 use Rattle.ml_lists.proofs.Ascending.{ascending-is, ascending_same, ascending-member, member-ascending}
 use Rattle.ml_graph.specs.Graph.{Graph, size, odd_priorities}
 use Rattle.ml_trace.specs.Automaton.{IsGuess}
@@ -30,6 +33,7 @@ use Rattle.ml_refute_check.specs.declared.finding.BadPart.{BadPart}
 use Rattle.ml_sequent.specs.declared.choice.Side.{Side}
 use Rattle.ml_sequent.specs.Spread.{SpreadList, IsSpreadOf, IsSpread}
 use Rattle.ml_refute_check.specs.private.Parts.{Question, question, plain_entry, Stands, KeepEach, FirstBadIn, Finds, IsEntryOf, front_parts, branch_parts}
+use Rattle.ml_refute_check.specs.private.Sources.{StandAmong}
 use Rattle.ml_refute_check.proofs.PartsFound.{keep_both, found_first, found_next, found_behind, found_before, none_next, none_behind, parts_are}
 
 module _ (q : Question) (e : ℕ) where
@@ -105,6 +109,13 @@ module _ (q : Question) (e : ℕ) where
       unfolding Finds
       items_first fails keep = first_item xs k a here at_place fails keep
 
+    -- where each of them stands in the sequent, each one's node is there
+    each_stands : (xs : List Item) → KeepEach q e (item_parts xs) → (a : Item) → IsMember a xs → IsMember a.node sequent
+    unfolding KeepEach
+    each_stands [] keep a m = absurd m
+    each_stands (x ∷ xs) keep a (inl is) = subst (λ (b : Item). IsMember b.node sequent) (sym is) keep.0.0.member
+    each_stands (x ∷ xs) keep a (inr m) = each_stands xs keep.1 a m
+
     pub items_all : (xs : List Item) (k : ℕ)
         → length xs ≤ k
         → KeepEach q e (item_parts (take k xs))
@@ -178,6 +189,16 @@ module _ (q : Question) (e : ℕ) where
     unfolding front_parts Finds KeepEach
     front_starts none =
         subst (λ (x : plain.Entry). All (λ n. n < size q.graph) x.sequent) is.is none.0.0.in_graph
+
+    pub front_stands : (stacks : List (List ℕ)) (items : List Item)
+        → entry.traces.items ≡ map (item_of stacks) items
+        → Finds q e (front_parts entry) None
+        → StandAmong entry.sequent items
+    unfolding front_parts Finds KeepEach
+    front_stands stacks items items_are none =
+        let keep = subst (λ xs. KeepEach q e (map acceptance.Item xs)) items_are none.1.1 in
+        member-All (λ (a : Item). IsMember a.node entry.sequent) items
+        (λ a m. subst (IsMember a.node) (ap (λ (x : plain.Entry). x.sequent) is.is) (each_stands stacks items keep a m))
 
     -- ---- the whole entry
 

@@ -6,9 +6,10 @@
 --   traced_at        == an item is traced back along the traces to its node exactly where it is along all
 --   led_into         == those of the traces that lead to one of some nodes
 --   led_at, led_nowhere == and among them those to one node
---   step_sorted      == the traces of a step, in another order
+--   item_nodes_stand, item_nodes_inside == the nodes at which items stand, as a set
+--   told_sorted      == what is told of traces is told of them in another order
 use Rattle.std.proofs.Common.{◌≡◌, ◌↔◌, ◌⊎◌, ℕ, zero, suc, ◌+◌, ◌<◌, ◌≤◌, Bool, true, false, ◌&&◌, ◌||◌, ◌==◌, nat_lt, nat_eq, ltb, leb, List, [], ◌∷◌}
-use Rattle.std.proofs.Common.{Option, None, Some, length, get_or, take, drop, map, IsTrue, inl, inr, refl, sym, ◌∙◌, subst, arith}
+use Rattle.std.proofs.Common.{Option, None, Some, All, length, get_or, take, drop, map, IsTrue, inl, inr, refl, sym, ◌∙◌, subst, arith}
 use Rattle.std.specs.List.{AllWithin, list_any}
 use Rattle.std.specs.List.Sorted.{IsPartitionPoint}
 use Rattle.std.proofs.lemmas.Bool.{ltb-true, ltb-false, leb-true, leb-false, eqb-true, eq-eqb}
@@ -16,17 +17,16 @@ use Rattle.std.proofs.lemmas.Bool.Decides.{nat_tests}
 use Rattle.std.proofs.lemmas.List.{take-append-drop, get_or-take, get_or-drop, length-take-le, length-drop}
 use Rattle.std.proofs.lemmas.List.Sorted.{IsNonDecreasingBy-from_all_adjacent}
 use Rattle.ml_lists.specs.Member.{IsMember}
-use Rattle.ml_lists.proofs.Member.{member-place, member-append, member-append_left, member-append_right, member-filter, member-filter_from, list_any-member, member-list_any}
+use Rattle.ml_lists.specs.Ascending.{ascending}
+use Rattle.ml_lists.proofs.Ascending.{ascending-member, member-ascending}
+use Rattle.ml_lists.proofs.Member.{All-member, member-All, member-map, member-map_from, member-place, member-append, member-append_left, member-append_right, member-filter, member-filter_from, list_any-member, member-list_any}
 use Rattle.ml_trace.specs.declared.letters.AutomatonState.{AutomatonState}
 use Rattle.ml_trace.specs.declared.letters.Triple.{Triple}
 use Rattle.ml_trace.specs.Stack as traced
-use Rattle.ml_graph.specs.Graph.{Graph}
-use Rattle.ml_sequent.specs.Spread.{SpreadList}
-use Rattle.ml_sequent.specs.Step.{IsStep}
 use Rattle.ml_refutation.specs.declared.refutation.Item.{Item}
 use Rattle.ml_refutation.specs.Refutation.{AreAbove, guess_before}
 use Rattle.ml_refutation.specs.Views.{item_of}
-use Rattle.ml_refute_check.specs.private.Sources.{stack_of, SourceAmong, HasSource, IsNameTraced, IsItemTraced, LeadInto, RiseByNode, led}
+use Rattle.ml_refute_check.specs.private.Sources.{stack_of, SourceAmong, HasSource, IsNameTraced, IsItemTraced, LeadInto, StandAmong, RiseByNode, led}
 
 -- ---- entries with one key
 
@@ -200,13 +200,31 @@ led_nowhere next traces node none t = (
   λ h. absurd (none (subst (λ n. IsMember n next) h.1 ((led_into next traces t).0 h.0).1)),
 )
 
--- the traces of a step, in another order
-pub step_sorted : {g : Graph} {C : List ℕ} {sp : SpreadList} {d : ℕ} {next : List ℕ} {made sorted : List Triple}
-    → IsStep g C sp d next made
+-- ---- the nodes of items
+
+-- the set of the nodes at which items stand: each item stands there, and where they stand among nodes, these are among them
+pub item_nodes_stand : (items : List Item) (nodes : List ℕ) → nodes ≡ ascending (map (λ (a : Item). a.node) items)
+    → StandAmong nodes items
+item_nodes_stand items nodes is =
+    let its = λ (a : Item). a.node in
+    member-All (λ (a : Item). IsMember a.node nodes) items
+    (λ a m. subst (IsMember a.node) (sym is) (member-ascending a.node (map its items) (member-map its a items m)))
+
+pub item_nodes_inside : (items : List Item) (C nodes : List ℕ) → nodes ≡ ascending (map (λ (a : Item). a.node) items)
+    → StandAmong C items
+    → All (λ n. IsMember n C) nodes
+item_nodes_inside items C nodes is stand = member-All (λ n. IsMember n C) nodes inside
+  where
+    inside : (n : ℕ) → IsMember n nodes → IsMember n C
+    inside n m =
+        let its = λ (a : Item). a.node in
+        let i = member-map_from its n items (ascending-member n (map its items) (subst (IsMember n) is m)) in
+        subst (λ k. IsMember k C) (sym i.holds) (All-member (λ (a : Item). IsMember a.node C) items stand i.from i.member)
+
+-- what is told of traces is told of them in another order
+pub told_sorted : (P : Triple → Type 0) (made sorted : List Triple)
+    → ((t : Triple) → IsMember t made ↔ P t)
     → ((t : Triple) → IsMember t sorted ↔ IsMember t made)
-    → IsStep g C sp d next sorted
-step_sorted step same = record {
-  ascends = step.ascends;
-  targets = step.targets;
-  traces = λ t. (λ m. (step.traces t).0 ((same t).0 m), λ h. (same t).1 ((step.traces t).1 h));
-}
+    → (t : Triple)
+    → IsMember t sorted ↔ P t
+told_sorted P made sorted told same t = ((λ m. (told t).0 ((same t).0 m)), (λ h. (same t).1 ((told t).1 h)))

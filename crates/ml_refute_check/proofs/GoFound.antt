@@ -1,7 +1,7 @@
 -- What the tests of a `go` tell of its rules.
 --
 --   rows_told   == rows of heights fall exactly where the heights fall along the arc
---   AtGo, at_go == leaving an entry along a diamond of a spread of it, to another entry
+--   AtGo, at_go == leaving an entry by a step along a diamond of a spread of it, to another entry
 --   within_told, names_told, falls_told == the tests tell exactly whether the rules are kept
 use Rattle.std.proofs.Common.{◌≡◌, ◌↔◌, ℕ, ◌*◌, ◌/◌, ◌≤◌, Bool, List, [], All, get_or, IsTrue, sym, ap, ◌∙◌, subst, arith}
 use Rattle.std.proofs.Math.ListN.{get_or-map}
@@ -15,11 +15,15 @@ use Rattle.ml_trace.specs.declared.marks.Mark.{Mark}
 use Rattle.ml_trace.specs.Marks.{priority}
 use Rattle.ml_trace.specs.NamesCondition.{NamesCondition}
 use Rattle.ml_sequent.specs.Spread.{SpreadList}
-use Rattle.ml_sequent.specs.Step.{IsTarget, IsTrace, IsStep}
+use Rattle.ml_sequent.specs.Step.{IsTarget, IsTrace}
+use Rattle.ml_refutation.specs.declared.refutation.Item.{Item}
 use Rattle.ml_refutation.specs.Refutation.{Entry, Refutation}
 use Rattle.ml_refutation.specs.GoStep.{GoStep, HasTransition}
 use Rattle.ml_refutation.specs.Acceptance.{entry_at, no_entry, heights_of, LeadsWithinTargets, TracesNames, HeightsFall}
+use Rattle.ml_refute_check.specs.declared.stepping.KeptStep.{KeptStep}
 use Rattle.ml_refute_check.specs.private.Parts.{Question, Stands, IsEntryOf}
+use Rattle.ml_refute_check.specs.private.Sources.{StandAmong}
+use Rattle.ml_refute_check.specs.private.Stepping.{IsStepFrom}
 use Rattle.ml_refute_check.proofs.BranchesFound.{of_spread_has, of_spread_is}
 
 rows_there : (rows : List (List ℕ)) (a : Arc)
@@ -73,28 +77,32 @@ falls_told {q = q} {e = e} {f = f} here there m b {p = p} {from = from} {to = to
         (subst (λ xs. RowsFall p xs (get_or (heights_of q.refutation) f [])) (sym from_at)
         (subst (λ k. RowsFall k (get_or (heights_of q.refutation) e []) (get_or (heights_of q.refutation) f [])) (sym p_is) h))
 
--- leaving an entry along a diamond of a spread of it, to another entry
-pub record AtGo (q : Question) (e f d : ℕ) (nodes : List ℕ) (sp : SpreadList) (targets : List ℕ) (made : List Triple) (behind : Entry) : Type 0 where
+-- leaving an entry by a step along a diamond of a spread of it, to another entry
+pub record AtGo (q : Question) (e f : ℕ) (nodes : List ℕ) (sp : SpreadList) (step : KeptStep) (behind : Entry) : Type 0 where
   pub is_graph : IsGraph q.graph
   pub stands : Stands q e nodes sp
   pub there : IsEntryOf q f behind
-  pub step : IsStep q.graph nodes sp d targets made
+  pub is_step : IsStepFrom q.graph nodes sp step
 
-pub at_go : {q : Question} {e f d : ℕ} {nodes targets : List ℕ} {sp : SpreadList} {made : List Triple} {behind : Entry} {g : Graph}
+pub at_go : {q : Question} {e f : ℕ} {nodes : List ℕ} {sp : SpreadList} {step : KeptStep} {behind : Entry} {g : Graph}
     → Stands q e nodes sp
     → IsGraph q.graph
     → IsEntryOf q f behind
     → g ≡ q.graph
-    → IsStep g nodes sp d targets made → AtGo q e f d nodes sp targets made behind
-at_go {d = d} {nodes = nodes} {targets = targets} {sp = sp} {made = made} stands is_graph there same step = record {
+    → IsStepFrom g nodes sp step
+    → AtGo q e f nodes sp step behind
+at_go {nodes = nodes} {sp = sp} {step = step} stands is_graph there same is_step = record {
   is_graph = is_graph;
   stands = stands;
   there = there;
-  step = subst (λ g. IsStep g nodes sp d targets made) same step;
+  is_step = subst (λ g. IsStepFrom g nodes sp step) same is_step;
 }
 
-module _ {q : Question} {e f d : ℕ} {nodes targets : List ℕ} {sp : SpreadList} {made : List Triple} {behind : Entry}
-    (w : AtGo q e f d nodes sp targets made behind) where
+module _ {q : Question} {e f : ℕ} {nodes : List ℕ} {sp : SpreadList} {step : KeptStep} {behind : Entry}
+    (w : AtGo q e f nodes sp step behind) where
+  abbrev d : ℕ
+  d = step.diamond
+
   abbrev Within : Type 0
   Within = LeadsWithinTargets (entry_at q.refutation e).sequent sp.choice d (entry_at q.refutation f).sequent q.graph
 
@@ -102,16 +110,16 @@ module _ {q : Question} {e f d : ℕ} {nodes targets : List ℕ} {sp : SpreadLis
   next_is = sym (ap (λ (x : Entry). x.sequent) w.there.is)
 
   pub within_told : (b : Bool) {values next : List ℕ}
-      → values ≡ targets
+      → values ≡ step.targets
       → next ≡ behind.sequent
       → (IsTrue b ↔ All (λ k. IsMember k values) next)
       → IsTrue b ↔ Within
   within_told b {values = values} {next = next} values_are next_are told = (
     λ h. of_spread_has q e nodes sp w.is_graph w.stands (λ s. All (IsTarget q.graph s d) (entry_at q.refutation f).sequent)
         (subst (All (IsTarget q.graph sp d)) (next_are ∙ next_is)
-        (λ k z low. (w.step.targets (get_or next k z)).0 (subst (IsMember (get_or next k z)) values_are (told.0 h k z low)))),
+        (λ k z low. (w.is_step.targets (get_or next k z)).0 (subst (IsMember (get_or next k z)) values_are (told.0 h k z low)))),
     λ within. told.1 (λ k z low. subst (IsMember (get_or next k z)) (sym values_are)
-        ((w.step.targets (get_or next k z)).1 (target within k z low))),
+        ((w.is_step.targets (get_or next k z)).1 (target within k z low))),
   )
     where
       target : Within → All (IsTarget q.graph sp d) next
@@ -119,15 +127,18 @@ module _ {q : Question} {e f d : ℕ} {nodes targets : List ℕ} {sp : SpreadLis
           subst (All (IsTarget q.graph sp d)) (sym (next_are ∙ next_is))
           (of_spread_is q e nodes sp w.is_graph w.stands (λ s. All (IsTarget q.graph s d) (entry_at q.refutation f).sequent) within)
 
-  pub names_told : {entry : Entry} → IsEntryOf q e entry → (m : Mark) (b : Bool) {odds next : List ℕ} {triples : List Triple}
+  pub names_told : {entry : Entry} → IsEntryOf q e entry → (m : Mark) (b : Bool) (items : List Item) {odds next : List ℕ}
+      {triples : List Triple}
       → odds ≡ odd_priorities q.graph
       → next ≡ behind.sequent
-      → triples ≡ made
-      → ((g : Graph) (go : GoStep) → odds ≡ odd_priorities g → next ≡ go.next
-      → ((t : Triple) → IsMember t triples ↔ IsTrace g go.sequent go.spread go.diamond t)
+      → triples ≡ step.traces.items
+      → StandAmong step.sources items
+      → ((g : Graph) (go : GoStep) (sources : List ℕ) → odds ≡ odd_priorities g → next ≡ go.next
+      → StandAmong sources items
+      → ((t : Triple) → IsMember t triples ↔ (IsMember t.from sources × IsTrace g go.sequent go.spread go.diamond t))
       → IsTrue b ↔ NamesCondition (HasTransition g) go m entry.traces behind.traces)
       → IsTrue b ↔ TracesNames (entry_at q.refutation e) sp.choice d (entry_at q.refutation f) m q.graph
-  names_told {entry = entry} here m b {triples = triples} odds_are next_are triples_are told = (
+  names_told {entry = entry} here m b items {triples = triples} odds_are next_are triples_are stand told = (
     λ h. of_spread_has q e nodes sp w.is_graph w.stands Condition (now.0 h),
     λ n. now.1 (of_spread_is q e nodes sp w.is_graph w.stands Condition n),
   )
@@ -145,14 +156,16 @@ module _ {q : Question} {e f d : ℕ} {nodes targets : List ℕ} {sp : SpreadLis
           NamesCondition (HasTransition q.graph) (go_step s) m (entry_at q.refutation e).traces
           (entry_at q.refutation f).traces
 
-      is_trace : (t : Triple) → IsMember t triples ↔ IsTrace q.graph (entry_at q.refutation e).sequent sp d t
+      is_trace : (t : Triple) → IsMember t triples
+          ↔ (IsMember t.from step.sources × IsTrace q.graph (entry_at q.refutation e).sequent sp d t)
       is_trace t =
-          subst (λ ns. IsMember t triples ↔ IsTrace q.graph ns sp d t) w.stands.of_entry
-          (subst (λ ts. IsMember t ts ↔ IsTrace q.graph nodes sp d t) (sym triples_are) (w.step.traces t))
+          subst (λ ns. IsMember t triples ↔ (IsMember t.from step.sources × IsTrace q.graph ns sp d t)) w.stands.of_entry
+          (subst (λ ts. IsMember t ts ↔ (IsMember t.from step.sources × IsTrace q.graph nodes sp d t)) (sym triples_are)
+          (w.is_step.traces t))
 
       now : IsTrue b ↔ Condition sp
       now =
           subst (λ (x : Entry). IsTrue b ↔ NamesCondition (HasTransition q.graph) (go_step sp) m
           (entry_at q.refutation e).traces x.traces) (sym w.there.is)
           (subst (λ (x : Entry). IsTrue b ↔ NamesCondition (HasTransition q.graph) (go_step sp) m x.traces behind.traces)
-          (sym here.is) (told q.graph (go_step sp) odds_are (next_are ∙ next_is) is_trace))
+          (sym here.is) (told q.graph (go_step sp) step.sources odds_are (next_are ∙ next_is) stand is_trace))

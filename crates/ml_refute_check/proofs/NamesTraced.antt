@@ -4,6 +4,9 @@
 --   before_source   == and the other way round
 --   condition_holds, condition_tells == names of all items are traced back exactly where the condition on names holds,
 --                      of names that are in use
+--
+-- The traces at hand are those that begin at some nodes, at which all items before the step stand: a predecessor comes
+-- along a trace that begins at its own node, so none is missed.
 use Rattle.std.proofs.Common.{◌≡◌, ◌↔◌, ◌⊎◌, ℕ, ◌<◌, ◌≤◌, Bool, true, false, not, List, Option, Some, map, All, IsTrue, inl, inr, refl, sym, ap, ◌∙◌, subst}
 use Rattle.std.proofs.lemmas.Bool.{cases_Bool, true≢false}
 use Rattle.ml_lists.specs.Member.{IsMember}
@@ -21,7 +24,7 @@ use Rattle.ml_sequent.specs.Step.{IsTrace}
 use Rattle.ml_refutation.specs.declared.refutation.Item.{Item}
 use Rattle.ml_refutation.specs.Views.{item_of}
 use Rattle.ml_refutation.specs.GoStep.{GoStep, HasTransition}
-use Rattle.ml_refute_check.specs.private.Sources.{stack_of, HasSource, IsNameTraced, IsItemTraced, AreInUse, LeadInto, green_of}
+use Rattle.ml_refute_check.specs.private.Sources.{stack_of, HasSource, IsNameTraced, IsItemTraced, AreInUse, LeadInto, StandAmong, green_of}
 use Rattle.ml_trace.proofs.Stacks.{has-member, member-has}
 
 green_is : (m : Mark) (x : ℕ) → green_of m ≡ Some x → m ≡ Green x
@@ -29,10 +32,11 @@ green_is (Red y) x e = absurd (cc)
 green_is (Green y) x e = ap Green (let names : y ≡ x = cc in names)
 green_is Neutral x e = absurd (cc)
 
-module _ (stacks : List (List ℕ)) (g : Graph) (step : GoStep) (traces : List Triple)
+module _ (stacks : List (List ℕ)) (g : Graph) (step : GoStep) (sources : List ℕ) (traces : List Triple)
     (given : (t : Triple)
-    → IsMember t traces ↔ (IsTrace g step.sequent step.spread step.diamond t × IsMember t.to step.next))
-    (live : ℕ) (items : List Item) where
+    → IsMember t traces
+    ↔ ((IsMember t.from sources × IsTrace g step.sequent step.spread step.diamond t) × IsMember t.to step.next))
+    (live : ℕ) (items : List Item) (stand : StandAmong sources items) where
   abbrev before : traced.Entry AutomatonState
   before = record { live = live; items = map (item_of stacks) items }
 
@@ -53,7 +57,7 @@ module _ (stacks : List (List ℕ)) (g : Graph) (step : GoStep) (traces : List T
     named = s.among.is_source.serves.0;
     transition = record {
       trace = s.trace;
-      is_trace = ((given s.trace).0 s.member).0;
+      is_trace = ((given s.trace).0 s.member).0.1;
       stays = ((given s.trace).0 s.member).1;
       begins = s.among.is_source.begins;
       ends = s.among.is_source.ends;
@@ -70,15 +74,27 @@ module _ (stacks : List (List ℕ)) (g : Graph) (step : GoStep) (traces : List T
       → HasSource stacks odds traces y p items a
   before_source y p a h progress = of_image (member-map_from (item_of stacks) h.item items h.member)
     where
+      -- it begins at the item's node
+      begins_there : (i : Image (item_of stacks) h.item items) → i.from.node ≡ h.transition.trace.from
+      begins_there i = sym (ap (λ (z : traced.Item AutomatonState). z.state.node) i.holds) ∙ h.transition.begins
+
       of_image : Image (item_of stacks) h.item items → HasSource stacks odds traces y p items a
       of_image i = record {
         trace = h.transition.trace;
-        member = (given h.transition.trace).1 (h.transition.is_trace, h.transition.stays);
+        member =
+            (given h.transition.trace).1 (
+              (
+                subst (λ n. IsMember n sources) (begins_there i)
+                    (All-member (λ (b : Item). IsMember b.node sources) items stand i.from i.member),
+                h.transition.is_trace,
+              ),
+              h.transition.stays,
+            );
         among = record {
           item = i.from;
           member = i.member;
           is_source = record {
-            begins = sym (ap (λ (z : traced.Item AutomatonState). z.state.node) i.holds) ∙ h.transition.begins;
+            begins = begins_there i;
             ends = h.transition.ends;
             accepting = h.accepting;
             leads =
@@ -206,11 +222,12 @@ module _ (stacks : List (List ℕ)) (g : Graph) (step : GoStep) (traces : List T
     step_refused used told not_used = not_in_use (λ h. true≢false (sym (told.1 (in_use_told h)) ∙ not_used))
 
 -- what the tests of a step tell, of the values that a program has
-pub kept_names : (stacks : List (List ℕ)) (g : Graph) (step : GoStep) (m : Mark) (odds next : List ℕ) (made traces ts : List Triple)
+pub kept_names : (stacks : List (List ℕ)) (g : Graph) (step : GoStep) (m : Mark) (odds next sources : List ℕ) (made traces ts : List Triple)
     (live live_behind low : ℕ) (green : Option ℕ) (items ins items_behind bs : List Item) (used b : Bool)
     → odds ≡ odd_priorities g
     → next ≡ step.next
-    → ((t : Triple) → IsMember t made ↔ IsTrace g step.sequent step.spread step.diamond t)
+    → StandAmong sources items
+    → ((t : Triple) → IsMember t made ↔ (IsMember t.from sources × IsTrace g step.sequent step.spread step.diamond t))
     → LeadInto next made traces
     → ts ≡ traces
     → ins ≡ items
@@ -223,12 +240,13 @@ pub kept_names : (stacks : List (List ℕ)) (g : Graph) (step : GoStep) (m : Mar
     → IsTrue b
     ↔ NamesCondition (HasTransition g) step m (record { live = live; items = map (item_of stacks) items })
     (record { live = live_behind; items = map (item_of stacks) items_behind })
-kept_names stacks g step m odds next made traces ts live live_behind low green items ins items_behind bs used b odds_are
-    next_is told into ts_are ins_are bs_are low_is green_is used_told is traced_told =
-    step_kept stacks g step traces given live items m live_behind items_behind used b u2 is t6
+kept_names stacks g step m odds next sources made traces ts live live_behind low green items ins items_behind bs used b
+    odds_are next_is stand told into ts_are ins_are bs_are low_is green_is used_told is traced_told =
+    step_kept stacks g step sources traces given live items stand m live_behind items_behind used b u2 is t6
   where
     given : (t : Triple)
-        → IsMember t traces ↔ (IsTrace g step.sequent step.spread step.diamond t × IsMember t.to step.next)
+        → IsMember t traces
+        ↔ ((IsMember t.from sources × IsTrace g step.sequent step.spread step.diamond t) × IsMember t.to step.next)
     given t = (
       λ h. let l = (into t).0 h in ((told t).0 l.0, subst (IsMember t.to) next_is l.1),
       λ h. (into t).1 ((told t).1 h.0, subst (IsMember t.to) (sym next_is) h.1),

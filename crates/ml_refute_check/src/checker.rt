@@ -12,10 +12,11 @@ ghost use Rattle.ml_refutation.specs.Refutation as plain;
 ghost use Rattle.ml_refutation.specs.Refutation.{IsDecided, IsMarkOf};
 ghost use Rattle.ml_sequent.specs.Choice.{with_side};
 ghost use Rattle.ml_sequent.specs.Spread.{SpreadList, IsOpenOr};
-ghost use Rattle.ml_sequent.specs.Step.{IsDiamondOf, IsStep};
+ghost use Rattle.ml_sequent.specs.Step.{IsDiamondOf};
 ghost use Rattle.ml_refutation.specs.Views.{decision_of, item_of};
-ghost use Rattle.ml_refute_check.specs.private.Sources.{RiseByTarget};
+ghost use Rattle.ml_refute_check.specs.private.Sources.{StandAmong, RiseByTarget};
 ghost use Rattle.ml_refute_check.specs.private.Parts.{Finds, Stands, IsEntryOf, Asks, question, plain_entry, front_parts, branch_parts, count_branches};
+ghost use Rattle.ml_refute_check.specs.private.Stepping.{IsStepFrom};
 
 use crate::branches::{heights_fall, leads_within, mark_priority};
 use crate::finding::BadPart;
@@ -138,7 +139,8 @@ impl<'a> Checker<'a> {
         None
     }
 
-    /// The first bad branch of the decision of an entry, whose sequent is one of nodes of the graph.
+    /// The first bad branch of the decision of an entry, whose sequent is one of nodes of the graph, and whose items stand
+    /// at nodes of it.
     fn check_tree(
         &self,
         branch: &mut KeptBranch,
@@ -150,6 +152,7 @@ impl<'a> Checker<'a> {
         requires entry { IsEntryOf (question self.now.graph.now self.now.refutation.now) place (plain_entry self.now.refutation.now entry.now) }
         requires sequents { branch.old.sequents ≡ self.now.refutation.now.sequents }
         requires low { All (λ n. n < size self.now.graph.now) (plain_entry self.now.refutation.now entry.now).sequent }
+        requires items { StandAmong (plain_entry self.now.refutation.now entry.now).sequent entry.now.items.items }
         ensures graph { OnOk result (branch.new.on.graph ≡ branch.old.on.graph) }
         ensures sequents { OnOk result (branch.new.sequents ≡ branch.old.sequents) }
         ensures found { IfOk result (Finds (question self.now.graph.now self.now.refutation.now) place
@@ -171,6 +174,7 @@ impl<'a> Checker<'a> {
         requires asks { Asks self.now.graph.now self.now.odds.items }
         requires graph { branch.old.on.graph ≡ self.now.graph.now }
         requires entry { IsEntryOf (question self.now.graph.now self.now.refutation.now) place (plain_entry self.now.refutation.now entry.now) }
+        requires items { StandAmong (plain_entry self.now.refutation.now entry.now).sequent entry.now.items.items }
         requires stands { Stands (question self.now.graph.now self.now.refutation.now) place branch.old.on.sequent branch.old.on.spread }
         requires decided { IsDecided self.now.refutation.now.names
             (length self.now.refutation.now.entries.items) (decision_of decision.now) }
@@ -221,6 +225,7 @@ impl<'a> Checker<'a> {
         requires asks { Asks self.now.graph.now self.now.odds.items }
         requires graph { branch.old.on.graph ≡ self.now.graph.now }
         requires entry { IsEntryOf (question self.now.graph.now self.now.refutation.now) place (plain_entry self.now.refutation.now entry.now) }
+        requires items { StandAmong (plain_entry self.now.refutation.now entry.now).sequent entry.now.items.items }
         requires stands { Stands (question self.now.graph.now self.now.refutation.now) place branch.old.on.sequent branch.old.on.spread }
         requires open { IsOpenOr branch.old.on.graph branch.old.on.spread node }
         requires decided { IsDecided self.now.refutation.now.names
@@ -257,6 +262,9 @@ impl<'a> Checker<'a> {
     }
 
     /// Whether leaving the entry along a diamond is bad at this spread, and the lowest rule that it breaks.
+    ///
+    /// Cost: that of the step (`KeptBranch::take_step`), in which local traces begin at nodes of the entry's items alone;
+    /// and of the names of the items behind it (`keeps_names`).
     fn check_go(
         &self,
         branch: &mut KeptBranch,
@@ -269,6 +277,7 @@ impl<'a> Checker<'a> {
         requires asks { Asks self.now.graph.now self.now.odds.items }
         requires graph { branch.old.on.graph ≡ self.now.graph.now }
         requires entry { IsEntryOf (question self.now.graph.now self.now.refutation.now) place (plain_entry self.now.refutation.now entry.now) }
+        requires items { StandAmong (plain_entry self.now.refutation.now entry.now).sequent entry.now.items.items }
         requires stands { Stands (question self.now.graph.now self.now.refutation.now) place branch.old.on.sequent branch.old.on.spread }
         requires target { target < length self.now.refutation.now.entries.items }
         requires mark { IsMarkOf self.now.refutation.now.names mark }
@@ -279,7 +288,7 @@ impl<'a> Checker<'a> {
         if !branch.has_diamond(diamond) {
             return Ok(Some(BadPart { part: 0, rule: 7 }));
         }
-        let step = branch.take_step(diamond)?;
+        let step = branch.take_step(diamond, &entry.items)?;
         let found = self.check_step(place, entry, &step, target, mark);
         branch.keep(step);
         Ok(found)
@@ -298,11 +307,12 @@ impl<'a> Checker<'a> {
         requires entry { IsEntryOf (question self.now.graph.now self.now.refutation.now) place (plain_entry self.now.refutation.now entry.now) }
         requires target { target < length self.now.refutation.now.entries.items }
         requires mark { IsMarkOf self.now.refutation.now.names mark }
+        requires sources { StandAmong step.now.sources entry.now.items.items }
         requires rise { RiseByTarget step.now.traces.items }
         ensures { (nodes : List ℕ) (sp : SpreadList)
             → Stands (question self.now.graph.now self.now.refutation.now) place nodes sp
             → IsDiamondOf self.now.graph.now sp step.now.diamond
-            → IsStep self.now.graph.now nodes sp step.now.diamond step.now.targets step.now.traces.items
+            → IsStepFrom self.now.graph.now nodes sp step.now
             → Finds (question self.now.graph.now self.now.refutation.now) place
             (branch_parts sp.choice (plain.Go step.now.diamond target mark)) result }
     {

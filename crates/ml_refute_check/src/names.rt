@@ -3,9 +3,9 @@
 // A name below the bound of the mark, or its green one, has to come from somewhere: each item behind the step that has it
 // needs a trace from an item that has it too, and for the green name from one that makes progress. `keeps_names` asks it
 // of all items and names, with the traces sorted by the nodes to which they lead.
-ghost use Rattle.std.specs.Prelude.{◌≡◌, ◌↔◌, ◌<◌, false, true, All, IsTrue};
+ghost use Rattle.std.specs.Prelude.{◌≡◌, ◌↔◌, ◌<◌, ℕ, List, false, true, All, IsTrue};
 ghost use Rattle.ml_lists.specs.Ascending.{IsAscending};
-ghost use Rattle.ml_refute_check.specs.private.Sources.{IsSource, SourceAmong, HasSource, Serves, IsNameTraced, IsItemTraced, AreInUse, led, RiseByNode, RiseByTarget, green_of, traces_of};
+ghost use Rattle.ml_refute_check.specs.private.Sources.{IsSource, SourceAmong, HasSource, Serves, IsNameTraced, IsItemTraced, AreInUse, led, StandAmong, RiseByNode, RiseByTarget, green_of, traces_of};
 ghost use Rattle.ml_graph.specs.Graph.{Graph, odd_priorities};
 ghost use Rattle.ml_lists.specs.Member.{IsMember};
 ghost use Rattle.ml_refutation.specs.GoStep.{GoStep, HasTransition};
@@ -243,7 +243,8 @@ fn are_in_use(bound: u32, green: Option<u32>, live: u32, live_behind: u32) -> bo
     }
 }
 
-/// Does a step meet the condition on names, along which these traces were made, into a sequent with these nodes?
+/// Does a step meet the condition on names, along which these traces were made, into a sequent with these nodes? They are
+/// its traces from some nodes, at which the items before it stand: no others tell where a name comes from.
 ///
 /// Cost: for each item behind the step, the logarithm of the traces; and for each of its names the traces to its node up to
 /// one from an item that serves, each with a look-up of its node among the items before the step.
@@ -260,10 +261,12 @@ pub(crate) fn keeps_names(
     requires made { RiseByTarget made.now }
     requires next { IsAscending next.now }
     requires items { RiseByNode before.now.items.items }
-    ensures { (g : Graph) (step : GoStep)
+    ensures { (g : Graph) (step : GoStep) (sources : List ℕ)
         → odds.now ≡ odd_priorities g
         → next.now ≡ step.next
-        → ((t : Triple) → IsMember t made.now ↔ IsTrace g step.sequent step.spread step.diamond t)
+        → StandAmong sources before.now.items.items
+        → ((t : Triple) → IsMember t made.now
+        ↔ (IsMember t.from sources × IsTrace g step.sequent step.spread step.diamond t))
         → IsTrue result
         ↔ NamesCondition (HasTransition g) step mark (traces_of stacks.now before.now) (traces_of stacks.now behind.now) }
 {

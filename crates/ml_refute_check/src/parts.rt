@@ -1,9 +1,11 @@
-// What the parts of an entry before its decision are asked: its sequent, its names in use and its items.
+// What the parts of an entry before its decision are asked: its sequent, its names in use and its items. So are lists of
+// nodes and of odd priorities, which ascend, whether they have those of an item.
 ghost use Rattle.std.specs.Prelude.{◌≡◌, ◌↔◌, ◌<◌, ◌≤◌, ◌||◌, false, true, ℕ, [], ◌∷◌, length, map, slice_index_or, All, IfOk, IsTrue};
 ghost use Rattle.ml_graph.specs.Graph.{size};
 ghost use Rattle.ml_lists.specs.Ascending.{IsAscending};
 ghost use Rattle.ml_lists.specs.Member.{IsMember};
 ghost use Rattle.ml_refutation.specs.Views.{item_of};
+ghost use Rattle.ml_refute_check.specs.private.Sources.{StandAmong};
 ghost use Rattle.ml_trace.specs.Automaton.{IsGuess};
 ghost use Rattle.ml_trace.specs.NamesCondition.{EachNameStands};
 ghost use Rattle.ml_trace.specs.Stack.{has};
@@ -108,6 +110,21 @@ pub(crate) fn item_stands(sequent: &[u32], odds: &[u32], item: &Item) -> bool
     ensures { IsTrue result ↔ (IsMember item.now.node sequent.now × IsGuess odds.now item.now.odd) }
 {
     has_number(sequent, item.node) && is_guess(odds, item.odd)
+}
+
+/// Does each of the items stand at one of these nodes, which ascend?
+///
+/// Cost: the logarithm of the nodes for each item.
+pub(crate) fn stand_among(nodes: &[u32], items: &[Item]) -> bool
+    requires { IsAscending nodes.now }
+    ensures { IsTrue result ↔ StandAmong nodes.now items.now }
+{
+    for item in items {
+        if !has_number(nodes, item.node) {
+            return false;
+        }
+    }
+    true
 }
 
 /// Is the guess one of these odd priorities, or none?

@@ -2,31 +2,37 @@
 //
 // Entries with one sequent begin at one branch, and where each choice on it was taken back it needn't begin anew: two
 // entries have one sequent where they name the same place, and else where the lists there are equal. So it is with a step
-// along a diamond, which serves each `go` along it, up to the next choice or sequent. Contracts see the branch, and the
-// sequents.
+// along a diamond, up to the next choice or sequent: its targets serve each `go` along it, and its local traces, which are
+// made from the nodes of an entry's items alone, each whose items stand at no other nodes. Contracts see the branch, and
+// the sequents.
 ghost use Rattle.std.specs.Prelude.{◌≡◌, ◌<◌, ◌↔◌, ℕ, List, [], ◌∷◌, All, IfOk, OnOk, IsTrue};
 ghost use Rattle.ml_graph.specs.Graph.{size};
 ghost use Rattle.ml_lists.specs.Ascending.{IsAscending};
-ghost use Rattle.ml_refute_check.specs.private.Stepping.{IsBegun, IsStepOn, list_at};
+ghost use Rattle.ml_refute_check.specs.private.Sources.{StandAmong};
+ghost use Rattle.ml_refute_check.specs.private.Stepping.{IsBegun, IsStepOn, AreTargets, list_at};
 ghost use Rattle.ml_sequent.specs.Branch.{undone};
 ghost use Rattle.ml_sequent.specs.Choice.{with_side};
 ghost use Rattle.ml_sequent.specs.Spread.{IsSpread, IsSpreadOf, IsCause, IsOpenOr};
 ghost use Rattle.ml_sequent.specs.Step.{IsDiamondOf};
 
 use crate::by_node::sort_by_target;
+use crate::parts::stand_among;
 use ml_base::NoMemory;
 use ml_graph::ModalGraph;
-use ml_refutation::Lists;
+use ml_refutation::{Item, Lists};
 use ml_sequent::{Branch, ClashCause, Sequent, Side};
 use ml_trace::Triple;
 use std::alloc::Global;
 use std::marker::Model;
 
-/// The step along a diamond of a branch: its targets, and its local traces, sorted by their targets.
+/// The step along a diamond of a branch: its targets, and its local traces from some nodes of the sequent, sorted by their
+/// targets.
 #[derive(Drop)]
 pub(crate) struct KeptStep {
     pub(crate) diamond: u32,
     pub(crate) targets: Sequent,
+    /// The nodes at which the traces begin.
+    pub(crate) sources: Sequent,
     pub(crate) traces: Vec<Triple>,
 }
 
@@ -165,34 +171,58 @@ impl<'a> KeptBranch<'a> {
         self.branch.is_cause(cause)
     }
 
-    /// The step along a diamond, made unless it is the one that is kept, which is taken.
-    pub(crate) fn take_step(&mut self, diamond: u32) -> Result<KeptStep, NoMemory>
+    /// The step along a diamond, with the traces from the nodes of these items at least: the one that is kept, which is
+    /// taken, or else one that is made with the traces from these nodes alone.
+    ///
+    /// Cost: where its diamond is kept and the items stand at its sources, the logarithm of these for each item; else that
+    /// of the traces from the nodes of the items, and linear in the spread unless the diamond is the one that is kept.
+    pub(crate) fn take_step(&mut self, diamond: u32, items: &[Item]) -> Result<KeptStep, NoMemory>
         requires spread { IsSpreadOf self.old.on.graph self.old.on.sequent self.old.on.spread.choice self.old.on.spread }
         requires diamond { IsDiamondOf self.old.on.graph self.old.on.spread diamond }
+        requires items { StandAmong self.old.on.sequent items.now }
         ensures same { self.new ≡ self.old }
         ensures step { IfOk result (IsStepOn self.old.on) }
         ensures diamond { IfOk result (λ step. step.diamond ≡ diamond) }
+        ensures sources { IfOk result (λ step. StandAmong step.sources items.now) }
     {
         match self.last.take() {
-            Some(last) if last.diamond == diamond => Ok(last),
-            _ => self.make_step(diamond),
+            Some(last) if last.diamond == diamond => {
+                if stand_among(last.sources.values(), items) {
+                    return Ok(last);
+                }
+                self.make_step(diamond, last.targets, items)
+            }
+            _ => {
+                let targets = self.branch.targets(diamond)?;
+                self.make_step(diamond, targets, items)
+            }
         }
     }
 
-    // the step along a diamond
-    fn make_step(&mut self, diamond: u32) -> Result<KeptStep, NoMemory>
+    // the step along a diamond with these targets, and with the traces from the nodes of these items
+    fn make_step(
+        &mut self,
+        diamond: u32,
+        targets: Sequent,
+        items: &[Item],
+    ) -> Result<KeptStep, NoMemory>
         requires spread { IsSpreadOf self.old.on.graph self.old.on.sequent self.old.on.spread.choice self.old.on.spread }
         requires diamond { IsDiamondOf self.old.on.graph self.old.on.spread diamond }
+        requires targets { AreTargets self.old.on.graph self.old.on.spread diamond targets }
+        requires items { StandAmong self.old.on.sequent items.now }
         ensures same { self.new ≡ self.old }
         ensures step { IfOk result (IsStepOn self.old.on) }
         ensures diamond { IfOk result (λ step. step.diamond ≡ diamond) }
+        ensures sources { IfOk result (λ step. StandAmong step.sources items.now) }
     {
-        let (targets, made) = self.branch.step(diamond)?;
-        let mut traces = Vec::from_slice(self.alloc, made.triples())?;
+        let nodes: Vec<u32> = items.iter().map(|item| item.node).collect(self.alloc)?;
+        let sources = Sequent::of(self.alloc, &nodes)?;
+        let mut traces = self.branch.traces_from(diamond, sources.values())?;
         sort_by_target(&mut traces);
         Ok(KeptStep {
             diamond,
             targets,
+            sources,
             traces,
         })
     }

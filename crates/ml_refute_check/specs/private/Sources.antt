@@ -13,6 +13,7 @@
 --   traces_of ks e              == the items and the names in use of an entry
 --   LeadInto next made ts       == ts are those of made that lead to one of the nodes next
 --   led next made               == those traces themselves
+--   StandAmong nodes is         == each of the items is stands at one of the nodes
 --   RiseByNode is, RiseByTarget ts == the nodes of the items is, the targets of the traces ts don't descend
 use Rattle.std.specs.Prelude.{ℕ, ◌≡◌, ◌⊎◌, ◌↔◌, ◌<◌, ◌≤◌, nat_eq, Bool, true, not, List, [], Option, None, Some, All, map, slice_index_or}
 use Rattle.std.specs.List.{filter, list_any}
@@ -85,6 +86,10 @@ LeadInto next made traces = (t : Triple) → IsMember t traces ↔ (IsMember t m
 -- those of the traces that lead to one of these nodes
 abbrev pub led : List ℕ → List Triple → List Triple
 led next made = filter (λ t. list_any (nat_eq t.to) next) made
+
+-- each item stands at one of these nodes
+abbrev pub StandAmong : List ℕ → List Item → Type 0
+StandAmong nodes items = All (λ (a : Item). IsMember a.node nodes) items
 
 abbrev pub RiseByNode : List Item → Type 0
 RiseByNode items = IsNonDecreasingBy (λ (a : Item). a.node) items

@@ -4,11 +4,16 @@
 --   KeptList          == a branch, and the sequents with which it may begin
 --   IsOwn b sp        == sp is a spread of the sequent of the branch b
 --   IsBegun b qs p    == b began with the sequent at the place p of qs: its spreads, now and before each choice, are of it
---   IsStepOn b s      == s is the step along its diamond on the branch b, its traces sorted by target
-use Rattle.std.specs.Prelude.{◌≡◌, ℕ, List, [], All, slice_index_or}
+--   AreTargets g sp d ns == ns are the targets along the diamond d of the spread sp
+--   IsStepFrom g C sp s == s has the targets along its diamond of the spread sp of C, and the traces from its sources
+--   IsStepOn b s      == s is that of the branch b, its traces sorted by target
+use Rattle.std.specs.Prelude.{◌≡◌, ◌↔◌, ℕ, List, [], All, slice_index_or}
+use Rattle.ml_lists.specs.Member.{IsMember}
+use Rattle.ml_graph.specs.Graph.{Graph}
+use Rattle.ml_trace.specs.declared.letters.Triple.{Triple}
 use Rattle.ml_sequent.specs.Branch.{BranchList}
 use Rattle.ml_sequent.specs.Spread.{SpreadList, IsSpreadOf, IsSpread}
-use Rattle.ml_sequent.specs.Step.{IsStep}
+use Rattle.ml_sequent.specs.Step.{IsTarget, IsTrace}
 use Rattle.ml_refute_check.specs.declared.stepping.KeptStep.{KeptStep}
 use Rattle.ml_refute_check.specs.private.Sources.{RiseByTarget}
 
@@ -31,6 +36,16 @@ pub record IsBegun (b : BranchList) (sequents : List (List ℕ)) (place : ℕ) :
   pub spread : IsOwn b b.spread
   pub before : All (IsOwn b) b.before
 
+-- the targets along a diamond
+abbrev pub AreTargets : Graph → SpreadList → ℕ → List ℕ → Type 0
+AreTargets g sp d targets = (m : ℕ) → IsMember m targets ↔ IsTarget g sp d m
+
+-- the targets along the diamond of a step, and the local traces from its sources
+pub record IsStepFrom (g : Graph) (C : List ℕ) (sp : SpreadList) (s : KeptStep) : Type 0 where
+  pub targets : AreTargets g sp s.diamond s.targets
+  pub traces : (t : Triple) → IsMember t s.traces.items ↔ (IsMember t.from s.sources × IsTrace g C sp s.diamond t)
+
+-- that of a branch, its traces sorted by target
 pub record IsStepOn (b : BranchList) (s : KeptStep) : Type 0 where
-  pub step : IsStep b.graph b.sequent b.spread s.diamond s.targets s.traces.items
+  pub step : IsStepFrom b.graph b.sequent b.spread s
   pub rise : RiseByTarget s.traces.items

@@ -36,7 +36,7 @@ check_decision-check_side-requires t c =
           c.requires.graph,
           (
             c.requires.entry,
-            (c.requires.stands, (c.is_open_or.ensures.0 c.if-not-is_open_or.false, decided)),
+            (c.requires.items, (c.requires.stands, (c.is_open_or.ensures.0 c.if-not-is_open_or.false, decided))),
           ),
         ),
       ),
@@ -63,11 +63,14 @@ check_decision-check_side-requires-in-None t c =
           (
             c.requires.entry,
             (
-              subst (λ (b : KeptList). Stands q c.args.place b.on.sequent b.on.spread) (sym same) c.requires.stands,
+              c.requires.items,
               (
-                subst (λ (b : KeptList). IsOpenOr b.on.graph b.on.spread c.in-Split.node) (sym same)
-                    (c.is_open_or.ensures.0 c.if-not-is_open_or.false),
-                decided,
+                subst (λ (b : KeptList). Stands q c.args.place b.on.sequent b.on.spread) (sym same) c.requires.stands,
+                (
+                  subst (λ (b : KeptList). IsOpenOr b.on.graph b.on.spread c.in-Split.node) (sym same)
+                      (c.is_open_or.ensures.0 c.if-not-is_open_or.false),
+                  decided,
+                ),
               ),
             ),
           ),
@@ -135,7 +138,7 @@ check_side-check_decision-requires t c =
       omega (arith, c.decreases),
       (
         c.requires.asks,
-        (c.choose.ensures.graph ∙ c.requires.graph, (c.requires.entry, (longer.0, c.requires.decided))),
+        (c.choose.ensures.graph ∙ c.requires.graph, (c.requires.entry, (c.requires.items, (longer.0, c.requires.decided)))),
       ),
     )
 

@@ -1,10 +1,11 @@
-use Rattle.std.proofs.Common.{◌↔◌, IsTrue, sym, subst}
+use Rattle.std.proofs.Common.{◌↔◌, ◌∙◌, IsTrue, ap, sym, subst}
 use Rattle.ml_refute_check.specs.private.Stepping.{KeptList}
 use Rattle.ml_sequent.specs.Spread.{IsSpreadOf}
-use Rattle.ml_sequent.specs.Step.{IsDiamondOf, IsStep}
-use Rattle.ml_refutation.specs.Refutation.{Go}
+use Rattle.ml_sequent.specs.Step.{IsDiamondOf}
+use Rattle.ml_refutation.specs.Refutation.{Go, Entry}
 use Rattle.ml_refute_check.specs.private.Parts.{question, Finds, branch_parts}
-use Rattle.ml_refute_check.specs.private.Stepping.{IsStepOn}
+use Rattle.ml_refute_check.specs.private.Sources.{StandAmong}
+use Rattle.ml_refute_check.specs.private.Stepping.{IsStepFrom, IsStepOn}
 use Rattle.ml_refute_check.proofs.BranchesFound.{test_fails, go_refused_7}
 use Rattle.ml_refute_check.proofs.checker.Checker.check_go.Goals as goal
 
@@ -23,6 +24,17 @@ take_step-requires-clause-spread c =
     subst (λ g. IsSpreadOf g c.args.branch.now.on.sequent c.args.branch.now.on.spread.choice c.args.branch.now.on.spread)
     (sym c.requires.graph) c.requires.stands.is_spread
 
+pub take_step-requires-clause-items : goal.take_step-requires-clause-items
+take_step-requires-clause-items c =
+    let items = c.args.entry.now.items.items in
+    subst (StandAmong c.args.branch.now.on.sequent) (sym c.deref.ensures.value)
+    (subst (λ nodes. StandAmong nodes items)
+    (sym (c.requires.stands.of_entry ∙ ap (λ (x : Entry). x.sequent) c.requires.entry.is)) c.requires.items)
+
+pub check_step-requires-clause-sources : goal.check_step-requires-clause-sources
+check_step-requires-clause-sources c =
+    subst (StandAmong c.in_ok-step.step.sources) c.deref.ensures.value c.in_ok-step.ensures.sources
+
 pub keep-requires : goal.keep-requires
 keep-requires c = subst (λ (b : KeptList). IsStepOn b.on c.in_ok-step.step) (sym c.in_ok-step.ensures.same) c.in_ok-step.ensures.step
 
@@ -31,7 +43,7 @@ returns-clause-found c =
     let q = question c.args.self.now.graph.now c.args.self.now.refutation.now in
     let b = c.args.branch.now in
     let step = c.in_ok-step.step in
-    let on = subst (λ g. IsStep g b.on.sequent b.on.spread step.diamond step.targets step.traces.items) c.requires.graph c.in_ok-step.ensures.step.step in
+    let on = subst (λ g. IsStepFrom g b.on.sequent b.on.spread step) c.requires.graph c.in_ok-step.ensures.step.step in
     let diamond =
     subst (λ d. IsDiamondOf q.graph b.on.spread d) (sym c.in_ok-step.ensures.diamond)
     (subst (λ g. IsDiamondOf g b.on.spread c.args.diamond) c.requires.graph (c.has_diamond.ensures.0 c.if-not-has_diamond.false)) in

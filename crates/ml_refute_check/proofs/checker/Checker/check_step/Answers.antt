@@ -38,8 +38,8 @@ returns-then-not-keeps_names c = λ nodes sp stands diamond step.
     within_told w c.leads_within.result c.values.ensures.value
     c.sequent.ensures c.leads_within.ensures in
     let names =
-    names_told w c.requires.entry m c.keeps_names.result (c.deref.ensures.value ∙ c.requires.asks.odds_are)
-    c.sequent-2.ensures c.deref-2.ensures.value
+    names_told w c.requires.entry m c.keeps_names.result c.args.entry.now.items.items (c.deref.ensures.value ∙ c.requires.asks.odds_are)
+    c.sequent-2.ensures c.deref-2.ensures.value c.requires.sources
     c.keeps_names.ensures in
     go_refused_9 q _ _ _ ok stands d c.args.target m diamond (within.0 c.if-not-leads_within.false)
     (test_fails _ c.keeps_names.result names c.if-not-keeps_names.true)
@@ -55,8 +55,8 @@ returns-then-not-heights_fall c = λ nodes sp stands diamond step.
     within_told w c.leads_within.result c.values.ensures.value
     c.sequent.ensures c.leads_within.ensures in
     let names =
-    names_told w c.requires.entry m c.keeps_names.result (c.deref.ensures.value ∙ c.requires.asks.odds_are)
-    c.sequent-2.ensures c.deref-2.ensures.value
+    names_told w c.requires.entry m c.keeps_names.result c.args.entry.now.items.items (c.deref.ensures.value ∙ c.requires.asks.odds_are)
+    c.sequent-2.ensures c.deref-2.ensures.value c.requires.sources
     c.keeps_names.ensures in
     let falls =
     falls_told c.requires.entry c.entry-behind.ensures m c.heights_fall.result c.mark_priority.ensures
@@ -75,8 +75,8 @@ returns c = λ nodes sp stands diamond step.
     within_told w c.leads_within.result c.values.ensures.value
     c.sequent.ensures c.leads_within.ensures in
     let names =
-    names_told w c.requires.entry m c.keeps_names.result (c.deref.ensures.value ∙ c.requires.asks.odds_are)
-    c.sequent-2.ensures c.deref-2.ensures.value
+    names_told w c.requires.entry m c.keeps_names.result c.args.entry.now.items.items (c.deref.ensures.value ∙ c.requires.asks.odds_are)
+    c.sequent-2.ensures c.deref-2.ensures.value c.requires.sources
     c.keeps_names.ensures in
     let falls =
     falls_told c.requires.entry c.entry-behind.ensures m c.heights_fall.result c.mark_priority.ensures
