@@ -24,7 +24,7 @@
 --   IsReadAs ts f            == the signs ts, all of them, are a text of f
 use Rattle.std.specs.Prelude.{◌≡◌, ℕ, Bool, true, false, List, [], ◌∷◌, Some, codes}
 use Rattle.ml_text.specs.declared.token.Operator.{Operator}
-use Rattle.ml_text.specs.declared.token.Operator.TheVariants as operator
+use Rattle.ml_text.specs.declared.token.Operator.TheVariants.{Iff}
 use Rattle.ml_text.specs.Levels.{Level, Joined, Operand, tighter, left_level, right_level}
 use Rattle.ml_pdl.specs.Formula as plain
 use Rattle.ml_pdl.specs.Formula.{Formula, Program}
@@ -45,7 +45,7 @@ opens_program _ = false
 
 mutual
   pub data Reads : Level → List Sign → Formula → List Sign → Type 0 where
-    -- iff, imp, or, and: what is tighter alone, or joined by the connective
+    -- iff = imp [ IFF iff ], imp = or [ IMP imp ], or = and { OR and }, and = un { AND un }
     alone : {ts rest : List Sign} {f : Formula} (o : Operator) → Reads (tighter o) ts f rest → Reads (Joined o) ts f rest
     joined : {ts us rest : List Sign} {f g : Formula} (o : Operator)
         → Reads (left_level o) ts f (Connective o ∷ us)
@@ -69,7 +69,7 @@ mutual
         → Reads Operand (Added Repeats ∷ Added (Paren k) ∷ ts) (plain.Repeat p) rest
     -- "(" iff ")"
     group : {ts rest : List Sign} {f : Formula} (k : Mark)
-        → Reads (Joined operator.Iff) ts f (Close ∷ rest)
+        → Reads (Joined Iff) ts f (Close ∷ rest)
         → Reads Operand (Added (Paren k) ∷ ts) f rest
     -- TT, FF, PROP
     constant : {rest : List Sign} (b : Bool) → Reads Operand (Const b ∷ rest) (plain.Const b) rest
@@ -125,8 +125,8 @@ mutual
         → ReadsTested (Lower p ∷ rest) (plain.Prop p) rest
     -- "(" iff ")"
     tested_group : {ts rest : List Sign} {f : Formula} (k : Mark)
-        → Reads (Joined operator.Iff) ts f (Close ∷ rest)
+        → Reads (Joined Iff) ts f (Close ∷ rest)
         → ReadsTested (Added (Paren k) ∷ ts) f rest
 
 abbrev pub IsReadAs : List Sign → Formula → Type 0
-IsReadAs ts f = Reads (Joined operator.Iff) ts f []
+IsReadAs ts f = Reads (Joined Iff) ts f []
