@@ -22,8 +22,7 @@ use Rattle.ml_driver.specs.declared.status.Status.TheVariants.{Yes, Undecided, T
 use Rattle.ml_driver.specs.Statuses.{IsUnreadable, longest_input, model_said, refusal_line, refutation_said}
 use Rattle.ml_driver.specs.Run.{IsAnswer, IsChecked, IsDue, IsJudged, asked}
 use Rattle.ml_driver.specs.declared.command.Command.{Command}
-use Rattle.ml_refute_check.specs.Documents.{IsDocument, IsMigrated, IsVerdict}
-use Rattle.ml_refute_check.specs.WrittenDocument.{document_of}
+use Rattle.ml_refute_check.specs.Documents.{IsDocument, IsDocumentOf, IsMigrated, IsVerdict}
 use Rattle.ml_refute_check.specs.declared.verdict.Verdict.TheVariants.{Unreadable}
 use Rattle.ml_refute_check.proofs.OneVerdict.{one_verdict, shown_fault}
 use Rattle.ml_gen.specs.declared.family.Family.{Family}
@@ -142,7 +141,7 @@ migrated_refused : (text out more : List ℕ) → IsMigrated text out
     → IsUnreadable (λ fault. IsVerdict text (Unreadable fault)) more
     → ⊥
 migrated_refused text out more x r =
-    shown_fault text (λ v body p s. (out ≡ document_of p s) × IsDocument out Two p s) r.fault x r.is_fault
+    shown_fault text (λ v body p s. IsDocumentOf p s out × IsDocument out Two p s) r.fault x r.is_fault
 
 one_migrated : (text : List ℕ) (s t : Status) (out more : List ℕ)
     → IsAnswer Migrate text s out

@@ -94,7 +94,7 @@ module _ (v : Version) (rest : List ℕ) (p : Problem) (r : Refutation) (ok : Is
       → InGraph p (λ g. IsAccepted g r)
       → InGraph p (λ g. IsRejectedBy g v rest r l n)
       → ⊥
-  accepted_rejected l n (open, x) (shut, y) =
+  accepted_rejected l n (fits, x) (shut, y) =
       let alike = graphs_alike p x.graph y.graph x.is_graph y.is_graph in
       parts.never_both y.graph r y.holds.entry y.holds.part n (accepted_same x.graph y.graph alike r x.holds)
       y.holds.is_first
@@ -103,7 +103,7 @@ module _ (v : Version) (rest : List ℕ) (p : Problem) (r : Refutation) (ok : Is
       → InGraph p (λ g. IsRejectedBy g v rest r l n)
       → InGraph p (λ g. IsRejectedBy g v rest r k m)
       → (l ≡ k) × (n ≡ m)
-  rejected_once l n k m (open, one) (shut, other) =
+  rejected_once l n k m (fits, one) (shut, other) =
       let x = one.holds in
       let y = other.holds in
       let alike = graphs_alike p one.graph other.graph one.is_graph other.is_graph in
