@@ -70,11 +70,11 @@ pub alike_checked : AlikeChecked
 alike_checked text other v w p r x y =
     (accepted_so text other v w p r x y, accepted_so other text w v p r y x)
 
-pub shown_fault : (text : List ℕ) (P : Version → List ℕ → Problem → Refutation → Type 0) (fault : DocFault)
+pub shown_fault : (text : List ℕ) {P : Version → List ℕ → Problem → Refutation → Type 0} (fault : DocFault)
     → ShowsRefutation text P
     → IsDocumentFault Unsatisfiable IsFaultOf text fault
     → ⊥
-shown_fault text P fault x bad =
+shown_fault text {P = P} fault x bad =
     shown_no_fault Unsatisfiable text IsFaultOf
     (λ v p rest. (r : Refutation) × IsRefutation r × IsTextOf v rest r × P v rest p r) fault
     (λ v p rest (r, ok, is, holds).
@@ -94,7 +94,7 @@ module _ (v : Version) (rest : List ℕ) (p : Problem) (r : Refutation) (ok : Is
       → InGraph p (λ g. IsAccepted g r)
       → InGraph p (λ g. IsRejectedBy g v rest r l n)
       → ⊥
-  accepted_rejected l n (open, x) (shut, y) =
+  accepted_rejected l n (few, x) (as_few, y) =
       let alike = graphs_alike p x.graph y.graph x.is_graph y.is_graph in
       parts.never_both y.graph r y.holds.entry y.holds.part n (accepted_same x.graph y.graph alike r x.holds)
       y.holds.is_first
@@ -103,7 +103,7 @@ module _ (v : Version) (rest : List ℕ) (p : Problem) (r : Refutation) (ok : Is
       → InGraph p (λ g. IsRejectedBy g v rest r l n)
       → InGraph p (λ g. IsRejectedBy g v rest r k m)
       → (l ≡ k) × (n ≡ m)
-  rejected_once l n k m (open, one) (shut, other) =
+  rejected_once l n k m (few, one) (as_few, other) =
       let x = one.holds in
       let y = other.holds in
       let alike = graphs_alike p one.graph other.graph one.is_graph other.is_graph in
@@ -154,10 +154,10 @@ one_shown text v w x y =
 
 pub one_verdict : OneVerdict
 one_verdict text (Unreadable e) (Unreadable f) x y = ap Unreadable (one_fault text e f x y)
-one_verdict text (Unreadable e) Accepted x y = absurd (shown_fault text (Finds Accepted) e y x)
-one_verdict text (Unreadable e) (Rejected l n) x y = absurd (shown_fault text (Finds (Rejected l n)) e y x)
-one_verdict text Accepted (Unreadable f) x y = absurd (shown_fault text (Finds Accepted) f x y)
-one_verdict text (Rejected l n) (Unreadable f) x y = absurd (shown_fault text (Finds (Rejected l n)) f x y)
+one_verdict text (Unreadable e) Accepted x y = absurd (shown_fault text e y x)
+one_verdict text (Unreadable e) (Rejected l n) x y = absurd (shown_fault text e y x)
+one_verdict text Accepted (Unreadable f) x y = absurd (shown_fault text f x y)
+one_verdict text (Rejected l n) (Unreadable f) x y = absurd (shown_fault text f x y)
 one_verdict text Accepted Accepted x y = refl
 one_verdict text Accepted (Rejected l n) x y = one_shown text Accepted (Rejected l n) x y
 one_verdict text (Rejected l n) Accepted x y = one_shown text (Rejected l n) Accepted x y
