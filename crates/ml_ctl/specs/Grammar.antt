@@ -28,7 +28,7 @@
 --   IsReadAs w ts f       == the signs ts, all of them, are a text of f in the logic w
 use Rattle.std.specs.Prelude.{◌≡◌, ℕ, Bool, List, [], ◌∷◌}
 use Rattle.ml_text.specs.declared.token.Operator.{Operator}
-use Rattle.ml_text.specs.declared.token.Operator.TheVariants as operator
+use Rattle.ml_text.specs.declared.token.Operator.TheVariants.{Iff}
 use Rattle.ml_text.specs.Levels.{Level, Joined, Operand, Tight, tighter, left_level, right_level}
 use Rattle.ml_ctl.specs.Formula as plain
 use Rattle.ml_ctl.specs.Formula.{Formula}
@@ -44,7 +44,7 @@ use Rattle.ml_ctl.specs.Signs.{Sign}
 use Rattle.ml_ctl.specs.declared.signs.Own.TheVariants.{Tensed, Pairs, Quantifies}
 
 pub data Reads (w : Language) : Sort → Level → List Sign → Formula → List Sign → Type 0 where
-  -- iff, imp, or, and, and the same of path formulas: what is tighter alone, or joined by the connective
+  -- iff = imp [ IFF iff ], imp = or [ IMP imp ], or = and { OR and }, and = un { AND un }; and so for path formulas
   alone : {s : Sort} {ts rest : List Sign} {f : Formula} (o : Operator)
       → Reads w s (tighter o) ts f rest
       → Reads w s (Joined o) ts f rest
@@ -73,7 +73,7 @@ pub data Reads (w : Language) : Sort → Level → List Sign → Formula → Lis
       → Reads w s Tight (Added (Quantifies q) ∷ ts) (plain.Quantified q f) rest
   -- "(" iff ")"
   group : {s : Sort} {ts rest : List Sign} {f : Formula}
-      → Reads w s (Joined operator.Iff) ts f (Close ∷ rest)
+      → Reads w s (Joined Iff) ts f (Close ∷ rest)
       → Reads w s Tight (Open ∷ ts) f rest
   -- TT, FF, PROP
   constant : {s : Sort} {rest : List Sign} (b : Bool) → Reads w s Tight (Const b ∷ rest) (plain.Const b) rest
@@ -84,4 +84,4 @@ sort_of Ctl = State
 sort_of Ltl = Path
 
 abbrev pub IsReadAs : Language → List Sign → Formula → Type 0
-IsReadAs w ts f = Reads w (sort_of w) (Joined operator.Iff) ts f []
+IsReadAs w ts f = Reads w (sort_of w) (Joined Iff) ts f []

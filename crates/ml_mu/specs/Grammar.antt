@@ -20,7 +20,7 @@
 --   IsReadAs ts f       == the signs ts, all of them, are a text of f
 use Rattle.std.specs.Prelude.{◌≡◌, ℕ, Bool, true, false, List, [], ◌∷◌, Some, codes}
 use Rattle.ml_text.specs.declared.token.Operator.{Operator}
-use Rattle.ml_text.specs.declared.token.Operator.TheVariants as operator
+use Rattle.ml_text.specs.declared.token.Operator.TheVariants.{Iff}
 use Rattle.ml_text.specs.Levels.{Level, Joined, Operand, tighter, left_level, right_level}
 use Rattle.ml_mu.specs.Formula as plain
 use Rattle.ml_mu.specs.Formula.{Formula, Modality, Fixpoint}
@@ -33,7 +33,7 @@ begins_operator (Connective o ∷ ts) = true
 begins_operator _ = false
 
 pub data Reads : Level → List Sign → Formula → List Sign → Type 0 where
-  -- iff, imp, or, and: what is tighter alone, or joined by the connective
+  -- iff = imp [ IFF iff ], imp = or [ IMP imp ], or = and { OR and }, and = un { AND un }
   alone : {ts rest : List Sign} {f : Formula} (o : Operator) → Reads (tighter o) ts f rest → Reads (Joined o) ts f rest
   joined : {ts us rest : List Sign} {f g : Formula} (o : Operator)
       → Reads (left_level o) ts f (Connective o ∷ us)
@@ -53,12 +53,12 @@ pub data Reads : Level → List Sign → Formula → List Sign → Type 0 where
       → Reads Operand (Added (Begins m) ∷ Added (Ends m) ∷ ts) (plain.Modal m (codes "_") f) rest
   -- "mu" VAR "." iff, "nu" VAR "." iff
   binder : {ts rest : List Sign} {f : Formula} (q : Fixpoint) (x : List ℕ)
-      → Reads (Joined operator.Iff) ts f rest
+      → Reads (Joined Iff) ts f rest
       → begins_operator rest ≡ false
       → Reads Operand (Added (Binds q) ∷ Upper x ∷ Added Dot ∷ ts) (plain.Binder q x f) rest
   -- "(" iff ")"
   group : {ts rest : List Sign} {f : Formula}
-      → Reads (Joined operator.Iff) ts f (Close ∷ rest)
+      → Reads (Joined Iff) ts f (Close ∷ rest)
       → Reads Operand (Open ∷ ts) f rest
   -- TT, FF, PROP, VAR
   constant : {rest : List Sign} (b : Bool) → Reads Operand (Const b ∷ rest) (plain.Const b) rest
@@ -66,4 +66,4 @@ pub data Reads : Level → List Sign → Formula → List Sign → Type 0 where
   variable : {rest : List Sign} (x : List ℕ) → Reads Operand (Upper x ∷ rest) (plain.Var x) rest
 
 abbrev pub IsReadAs : List Sign → Formula → Type 0
-IsReadAs ts f = Reads (Joined operator.Iff) ts f []
+IsReadAs ts f = Reads (Joined Iff) ts f []
