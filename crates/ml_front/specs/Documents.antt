@@ -4,6 +4,7 @@
 -- a document shows, and a format tells the first bad line of a body. The lines of the body are counted on from those of
 -- the head, so from 6 on.
 --
+--   first_body_line    == the number of the first line of a body
 --   Shows a text P     == the text is a head that gives the answer a, and then a body, and P is true of the head's version,
 --                         its problem and the body
 --   IsDocumentFault a IsFaultOf text f == f tells the first bad line of the text, and the lowest rule that it breaks: one
@@ -15,7 +16,6 @@ use Rattle.ml_front.specs.HeadRules.{IsHead, IsHeadFault}
 use Rattle.ml_front.specs.declared.answer.Answer.{Answer}
 use Rattle.ml_front.specs.declared.problem.Problem.{Problem}
 
--- the number of the first line of a body
 abbrev pub first_body_line : ℕ
 first_body_line = 6
 

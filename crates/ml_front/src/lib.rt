@@ -6,7 +6,8 @@
 //
 // A document begins with five lines, its head, and goes on with a body. `read_head` reads the head where one answer is
 // wanted, in either version, and tells the first bad line where there is none; `write_head` writes it. What a head is,
-// and by which rules it is refused, stands in `specs/HeadRules.antt`.
+// and by which rules it is refused, stands in `specs/HeadRules.antt`, and what a document shows by head and body in
+// `specs/Documents.antt`.
 //
 // The logics are the mu-calculus, PDL, CTL*, LTL, and LTL on single words. CTL* and LTL speak of the structures in which each
 // state has an edge by `_`, and LTL on words of those in which each has exactly one. The closure of a problem of CTL* and LTL,
