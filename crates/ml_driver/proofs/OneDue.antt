@@ -12,7 +12,6 @@ use Rattle.ml_front.specs.Problems.{IsSatisfiable}
 use Rattle.ml_front.specs.declared.problem.Problem.{Problem}
 use Rattle.ml_front.proofs.Logics.{formula_once, formula_or_refused}
 use Rattle.ml_driver.specs.Decision.{IsAnswered, IsClosed, IsProblem, LeftOpen, Refuted, RefusedText, Satisfied, StaysOpen, if_open, if_refused, if_refuted, if_satisfied}
-use Rattle.ml_base.specs.declared.version.Version.TheVariants.{Two}
 use Rattle.ml_driver.specs.declared.question.Question.{Question}
 use Rattle.ml_driver.specs.declared.question.Way.TheVariants.{WholeGame, Search}
 use Rattle.ml_model_check.proofs.OneCheck.{one_check}
@@ -22,7 +21,7 @@ use Rattle.ml_driver.specs.declared.status.Status.TheVariants.{Yes, Undecided, T
 use Rattle.ml_driver.specs.Statuses.{IsUnreadable, longest_input, model_said, refusal_line, refutation_said}
 use Rattle.ml_driver.specs.Run.{IsAnswer, IsChecked, IsDue, IsJudged, asked}
 use Rattle.ml_driver.specs.declared.command.Command.{Command}
-use Rattle.ml_refute_check.specs.Documents.{IsDocument, IsDocumentOf, IsMigrated, IsVerdict}
+use Rattle.ml_refute_check.specs.Documents.{IsMigrated, IsVerdict}
 use Rattle.ml_refute_check.specs.declared.verdict.Verdict.TheVariants.{Unreadable}
 use Rattle.ml_refute_check.proofs.OneVerdict.{one_verdict, shown_fault}
 use Rattle.ml_gen.specs.declared.family.Family.{Family}
@@ -140,8 +139,7 @@ one_judged text s t out more x y =
 migrated_refused : (text out more : List ℕ) → IsMigrated text out
     → IsUnreadable (λ fault. IsVerdict text (Unreadable fault)) more
     → ⊥
-migrated_refused text out more x r =
-    shown_fault text (λ v body p s. IsDocumentOf p s out × IsDocument out Two p s) r.fault x r.is_fault
+migrated_refused text out more x r = shown_fault text r.fault x r.is_fault
 
 one_migrated : (text : List ℕ) (s t : Status) (out more : List ℕ)
     → IsAnswer Migrate text s out

@@ -70,11 +70,11 @@ pub alike_checked : AlikeChecked
 alike_checked text other v w p r x y =
     (accepted_so text other v w p r x y, accepted_so other text w v p r y x)
 
-pub shown_fault : (text : List ℕ) (P : Version → List ℕ → Problem → Refutation → Type 0) (fault : DocFault)
+pub shown_fault : (text : List ℕ) {P : Version → List ℕ → Problem → Refutation → Type 0} (fault : DocFault)
     → ShowsRefutation text P
     → IsDocumentFault Unsatisfiable IsFaultOf text fault
     → ⊥
-shown_fault text P fault x bad =
+shown_fault text {P = P} fault x bad =
     shown_no_fault Unsatisfiable text IsFaultOf
     (λ v p rest. (r : Refutation) × IsRefutation r × IsTextOf v rest r × P v rest p r) fault
     (λ v p rest (r, ok, is, holds).
@@ -154,10 +154,10 @@ one_shown text v w x y =
 
 pub one_verdict : OneVerdict
 one_verdict text (Unreadable e) (Unreadable f) x y = ap Unreadable (one_fault text e f x y)
-one_verdict text (Unreadable e) Accepted x y = absurd (shown_fault text (Finds Accepted) e y x)
-one_verdict text (Unreadable e) (Rejected l n) x y = absurd (shown_fault text (Finds (Rejected l n)) e y x)
-one_verdict text Accepted (Unreadable f) x y = absurd (shown_fault text (Finds Accepted) f x y)
-one_verdict text (Rejected l n) (Unreadable f) x y = absurd (shown_fault text (Finds (Rejected l n)) f x y)
+one_verdict text (Unreadable e) Accepted x y = absurd (shown_fault text e y x)
+one_verdict text (Unreadable e) (Rejected l n) x y = absurd (shown_fault text e y x)
+one_verdict text Accepted (Unreadable f) x y = absurd (shown_fault text f x y)
+one_verdict text (Rejected l n) (Unreadable f) x y = absurd (shown_fault text f x y)
 one_verdict text Accepted Accepted x y = refl
 one_verdict text Accepted (Rejected l n) x y = one_shown text Accepted (Rejected l n) x y
 one_verdict text (Rejected l n) Accepted x y = one_shown text (Rejected l n) Accepted x y
