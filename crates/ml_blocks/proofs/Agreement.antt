@@ -635,10 +635,10 @@ exactly g start P is agree m ok s low = from (agree m ok s low)
 
 pub graphs_hold : GraphsHold
 graphs_hold f negated g state is =
-    exactly g (start_of f negated) (λ m s. problem.HoldsAt m s (record { formula = f; negated = negated })) is
+    exactly g (start_of f negated) (λ m s. problem.HoldsAt m s f negated) is
     (graphs_agree f negated g state is)
 
 pub linear_graphs_hold : LinearGraphsHold
 linear_graphs_hold f negated g is =
-    exactly g (linear_start_of f negated) (λ m s. ltl.HoldsAt m s (record { formula = f; negated = negated })) is
+    exactly g (linear_start_of f negated) (λ m s. ltl.HoldsAt m s f negated) is
     (linear_graphs_agree f negated g is)

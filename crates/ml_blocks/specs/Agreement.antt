@@ -34,23 +34,23 @@ GraphsAgree =
     (f : Formula) (negated : Bool) (g : Graph)
     → is_state f ≡ true
     → IsGraphAt g (start_of f negated)
-    → AgreesWith g (λ m s. HoldsAt m s (record { formula = f; negated = negated }))
+    → AgreesWith g (λ m s. HoldsAt m s f negated)
 
 abbrev pub GraphsHold : Type 0
 GraphsHold =
     (f : Formula) (negated : Bool) (g : Graph)
     → is_state f ≡ true
     → IsGraphAt g (start_of f negated)
-    → HoldsWhere g (λ m s. HoldsAt m s (record { formula = f; negated = negated }))
+    → HoldsWhere g (λ m s. HoldsAt m s f negated)
 
 abbrev pub LinearGraphsAgree : Type 0
 LinearGraphsAgree =
     (f : Formula) (negated : Bool) (g : Graph)
     → IsGraphAt g (linear_start_of f negated)
-    → AgreesWith g (λ m s. ltl.HoldsAt m s (record { formula = f; negated = negated }))
+    → AgreesWith g (λ m s. ltl.HoldsAt m s f negated)
 
 abbrev pub LinearGraphsHold : Type 0
 LinearGraphsHold =
     (f : Formula) (negated : Bool) (g : Graph)
     → IsGraphAt g (linear_start_of f negated)
-    → HoldsWhere g (λ m s. ltl.HoldsAt m s (record { formula = f; negated = negated }))
+    → HoldsWhere g (λ m s. ltl.HoldsAt m s f negated)

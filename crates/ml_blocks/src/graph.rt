@@ -61,7 +61,7 @@ pub fn graph_of(
     max: u32,
 ) -> Result<ModalGraph, BlockRefusal>
     ensures graph { IfOk result (λ g. IsGraphAt g (start_of formula.now negated)) }
-    ensures agrees { IfOk result (λ g. HoldsWhere g (λ m s. HoldsAt m s (record { formula = formula.now; negated = negated }))) }
+    ensures agrees { IfOk result (λ g. HoldsWhere g (λ m s. HoldsAt m s formula.now negated)) }
     ensures fits { IfOk result (λ g. size g ≤ max) }
     ensures too_large { IsErrOf result BlockRefusal.ClosureTooLarge → HasMoreThan (Root (start_of formula.now negated)) max }
 {
@@ -84,7 +84,7 @@ pub fn ltl_graph_of(
     max: u32,
 ) -> Result<ModalGraph, BlockRefusal>
     ensures graph { IfOk result (λ g. IsGraphAt g (linear_start_of formula.now negated)) }
-    ensures agrees { IfOk result (λ g. HoldsWhere g (λ m s. ltl.HoldsAt m s (record { formula = formula.now; negated = negated }))) }
+    ensures agrees { IfOk result (λ g. HoldsWhere g (λ m s. ltl.HoldsAt m s formula.now negated)) }
     ensures fits { IfOk result (λ g. size g ≤ max) }
     ensures too_large { IsErrOf result BlockRefusal.ClosureTooLarge → HasMoreThan (Root (linear_start_of formula.now negated)) max }
 {

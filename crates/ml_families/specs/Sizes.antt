@@ -26,4 +26,4 @@ abbrev pub PdlGames : (ℕ → pdl.Formula) → (ℕ → ℕ) → Type 0
 PdlGames f size = (n : ℕ) → 1 ≤ n → (g : Graph) → pdl_graphs.IsGraphOf g (f n) false → HasSoMany g (size n)
 
 abbrev pub LoopsAreSatisfiable : Type 0
-LoopsAreSatisfiable = (n : ℕ) → 1 ≤ n → IsSatisfiable (record { formula = loop_formula n; negated = false })
+LoopsAreSatisfiable = (n : ℕ) → 1 ≤ n → IsSatisfiable (loop_formula n) false

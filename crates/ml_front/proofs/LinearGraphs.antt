@@ -24,13 +24,13 @@ HoldsAs g negated f =
 
 pub linear_agrees : {E : Type 0} (p : Problem) (f : Formula) (r : Result Graph E)
     → p.formula ≡ Ltl f
-    → IfOk r (λ g. blocks.HoldsWhere g (λ m s. ltl.HoldsAt m s (record { formula = f; negated = p.negated })))
+    → IfOk r (λ g. blocks.HoldsWhere g (λ m s. ltl.HoldsAt m s f p.negated))
     → IfOk r (λ g. HoldsWhere g p)
 linear_agrees p f (Ok g) is agrees = subst (HoldsAs g p.negated) (sym is) agrees
 linear_agrees p f (Err e) is agrees = tt
 
 pub word_agrees : (p : Problem) (f : Formula) (g : Graph)
     → p.formula ≡ Word f
-    → word.HoldsWhere g (record { formula = f; negated = p.negated })
+    → word.HoldsWhere g f p.negated
     → HoldsWhere g p
 word_agrees p f g is agrees = subst (HoldsAs g p.negated) (sym is) agrees

@@ -52,11 +52,11 @@ IsFirstFork l m s = ⊥
 
 -- a formula, in its sense
 abbrev pub HoldsAs : Structure → ℕ → Bool → AnyFormula → Type 0
-HoldsAs m s negated (Mu f) = mu.HoldsAt m s (record { formula = f; negated = negated })
-HoldsAs m s negated (Pdl f) = pdl.HoldsAt m s (record { formula = f; negated = negated })
-HoldsAs m s negated (Ctl f) = ctl.HoldsAt m s (record { formula = f; negated = negated })
-HoldsAs m s negated (Ltl f) = ltl.HoldsAt m s (record { formula = f; negated = negated })
-HoldsAs m s negated (Word f) = word.HoldsAt m s (record { formula = f; negated = negated })
+HoldsAs m s negated (Mu f) = mu.HoldsAt m s f negated
+HoldsAs m s negated (Pdl f) = pdl.HoldsAt m s f negated
+HoldsAs m s negated (Ctl f) = ctl.HoldsAt m s f negated
+HoldsAs m s negated (Ltl f) = ltl.HoldsAt m s f negated
+HoldsAs m s negated (Word f) = word.HoldsAt m s f negated
 
 abbrev pub HoldsAt : Structure → ℕ → Problem → Type 0
 HoldsAt m s p = HoldsAs m s p.negated p.formula

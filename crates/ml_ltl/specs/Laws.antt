@@ -12,10 +12,10 @@ use Rattle.ml_ltl.specs.Problem.{HoldsAt}
 
 abbrev pub PlainAsksForPaths : Type 0
 PlainAsksForPaths = (m : Structure) (f : Formula) (s : ℕ)
-    → HoldsAt m s (record { formula = f; negated = false })
+    → HoldsAt m s f false
     ↔ ((l : Lasso) × IsPathFrom m s l × Satisfies m l f)
 
 abbrev pub NegatedAsksForPaths : Type 0
 NegatedAsksForPaths = (m : Structure) (f : Formula) (s : ℕ)
-    → HoldsAt m s (record { formula = f; negated = true })
+    → HoldsAt m s f true
     ↔ ((l : Lasso) × IsPathFrom m s l × (Satisfies m l f → ⊥))

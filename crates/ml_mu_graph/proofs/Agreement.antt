@@ -70,7 +70,7 @@ module _ (f : Formula) (g : Graph) (m : Structure) (m_ok : IsStructure m) (bound
   })
 
   pub agreement : (negated : Bool) → IsGraphOf g f negated → (s : ℕ) → s < m.states
-      → Holds g m s ↔ problem.HoldsAt m s (record { formula = f; negated = negated })
+      → Holds g m s ↔ problem.HoldsAt m s f negated
   agreement false is s low = subst (λ n. HoldsAt g m s n ↔ (is_member (meaning m [] f) s ≡ true)) (sym is.root_is) ((whole false is).holds s low)
   agreement true is s low =
       let says = (whole true is).fails s low in

@@ -302,7 +302,7 @@ fn lists_of(alloc: Global, term: &Term) -> Result<Lists, NoMemory>
 /// most twice as deep as the formula, which has at most 1,000 occurrences.
 pub fn graph_of(alloc: Global, formula: &Formula, negated: bool) -> Result<ModalGraph, NoMemory>
     ensures graph { IfOk result (λ g. IsGraphOf g formula.now negated) }
-    ensures agrees { IfOk result (λ g. HoldsWhere g (record { formula = formula.now; negated = negated })) }
+    ensures agrees { IfOk result (λ g. HoldsWhere g formula.now negated) }
 {
     let lists = lists_of(alloc, formula.root())?;
     Ok(lists.into_graph(root_of(negated)))

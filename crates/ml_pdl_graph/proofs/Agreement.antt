@@ -54,7 +54,7 @@ module _ (g : Graph) (m : Structure) (g_ok : IsGraph g) (m_ok : IsStructure m) w
 
 module _ (f : Formula) (g : Graph) (m : Structure) (m_ok : IsStructure m) where
   agreement : (negated : Bool) → IsGraphOf g f negated → (s : ℕ) → s < m.states
-      → Holds g m s ↔ problem.HoldsAt m s (record { formula = f; negated = negated })
+      → Holds g m s ↔ problem.HoldsAt m s f negated
   agreement false is s low =
       subst (λ n. HoldsAt g m s n ↔ (is_member (meaning m f) s ≡ true)) (sym is.root_is)
       (shown g m is.is_graph m_ok f 0 is.stands (omega (arith, is.two_for_each)) true s low)

@@ -26,7 +26,7 @@ module _ (f : Formula) (linear : is_linear f ≡ true) (m : Structure) (ok : IsA
       ((λ x. same ∙ says.0 x), (λ e. says.1 (sym same ∙ e)))
 
   pub found_at : (negated b : Bool) → truth m l f 0 ≡ b
-      → IsTrue (not (beq b negated)) ↔ HoldsAt m s (record { formula = f; negated = negated })
+      → IsTrue (not (beq b negated)) ↔ HoldsAt m s f negated
   found_at false true is = ((λ differ. (l, w, (on_each l w).1 is)), (λ holds. refl))
   found_at false false is =
       ((λ differ. absurd (false≢true differ)), (λ holds. sym is ∙ (on_each holds.0 holds.1).0 holds.2))

@@ -55,7 +55,7 @@ fn holds_along(
     requires state { state < structure.now.states }
     requires admitted { IsAdmitted structure.now }
     requires leads { Leads structure.now next.now }
-    ensures { IfOk result (λ holds. IsTrue holds ↔ HoldsAt structure.now state (record { formula = formula.now; negated = negated })) }
+    ensures { IfOk result (λ holds. IsTrue holds ↔ HoldsAt structure.now state formula.now negated) }
 {
     let word = word_from(alloc, next, state)?;
     let truths = truths(alloc, formula.root(), structure, &word)?;
@@ -78,7 +78,7 @@ pub fn holds(
 ) -> Result<bool, WordRefusal>
     requires { state < structure.now.states }
     ensures holds { IfOk result (λ holds. IsTrue holds
-        ↔ HoldsAt structure.now state (record { formula = formula.now; negated = negated })) }
+        ↔ HoldsAt structure.now state formula.now negated) }
     ensures admitted { OnOk result (IsAdmitted structure.now) }
     ensures fork { (s : ℕ) → IsErrOf result (WordRefusal.NotAWord s) → IsFirst (IsFork structure.now) structure.now.states s }
 {

@@ -64,7 +64,7 @@ module _ (f : Formula) (negated : Bool) (g : Graph) (linear : is_linear f ≡ tr
   word_says : (l : Lasso) → IsWordFrom m s l → Says (in_sense negated (Satisfies m l f)) (node_value m ok root s)
   word_says l w = sense_says negated (value m ok f s) (here_says f linear m ok s low l w)
 
-  pub agreement : Holds g m s ↔ HoldsAt m s (record { formula = f; negated = negated })
+  pub agreement : Holds g m s ↔ HoldsAt m s f negated
   agreement =
       let w = a_word m ok s low in (
         λ h. (w.0, w.1, (word_says w.0 w.1).1 (holds_by_value.0 h)),

@@ -36,7 +36,7 @@ pub holds_or_fails : (f : Formula) (negated : Bool)
     → IsAdmitted m
     → (s : ℕ)
     → s < m.states
-    → Decided (HoldsAt m s (record { formula = f; negated = negated }))
+    → Decided (HoldsAt m s f negated)
 holds_or_fails f negated linear m ok s low =
     ⊎_elim (λ (e : value m ok f s ≡ true). where_true negated e) (λ (e : value m ok f s ≡ false). where_false negated e)
     (cases_Bool (value m ok f s))
@@ -44,11 +44,11 @@ holds_or_fails f negated linear m ok s low =
     says : (l : Lasso) → IsWordFrom m s l → Says (Satisfies m l f) (value m ok f s)
     says l w = here_says f linear m ok s low l w
 
-    where_true : (b : Bool) → value m ok f s ≡ true → Decided (HoldsAt m s (record { formula = f; negated = b }))
+    where_true : (b : Bool) → value m ok f s ≡ true → Decided (HoldsAt m s f b)
     where_true false e = let w = a_word m ok s low in inl (w.0, w.1, (says w.0 w.1).1 e)
     where_true true e = inr (λ h. h.2 ((says h.0 h.1).1 e))
 
-    where_false : (b : Bool) → value m ok f s ≡ false → Decided (HoldsAt m s (record { formula = f; negated = b }))
+    where_false : (b : Bool) → value m ok f s ≡ false → Decided (HoldsAt m s f b)
     where_false false e = inr (λ h. false≢true (sym e ∙ (says h.0 h.1).0 h.2))
     where_false true e =
         let w = a_word m ok s low in inl (w.0, w.1, λ holds. false≢true (sym e ∙ (says w.0 w.1).0 holds))

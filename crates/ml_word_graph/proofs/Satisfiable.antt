@@ -219,7 +219,7 @@ as_word m l f true starts linear h = λ t. h ((satisfies_alike m l starts f line
 pub as_satisfiable : AsSatisfiable
 as_satisfiable f negated linear = (there, back)
   where
-    there : IsSatisfiable (record { formula = f; negated = negated }) → ltl.IsSatisfiable (record { formula = f; negated = negated })
+    there : IsSatisfiable f negated → ltl.IsSatisfiable f negated
     there (m, ok, s, low, (l, word, holds)) = (
       m,
       record {
@@ -231,7 +231,7 @@ as_satisfiable f negated linear = (there, back)
       (l, word.is_path, as_ltl m l f negated holds),
     )
 
-    back : ltl.IsSatisfiable (record { formula = f; negated = negated }) → IsSatisfiable (record { formula = f; negated = negated })
+    back : ltl.IsSatisfiable f negated → IsSatisfiable f negated
     back (m, ok, s, low, (l, path, holds)) =
         let starts = path.is_path.starts in (
           word_of m l,

@@ -44,7 +44,7 @@ fn lists_of(alloc: Global, term: &Term, negated: bool) -> Result<Lists, NoMemory
 /// subformulas.
 pub fn graph_of(alloc: Global, formula: &Formula, negated: bool) -> Result<ModalGraph, NoMemory>
     ensures graph { IfOk result (λ g. IsGraphOf g formula.now negated) }
-    ensures agrees { IfOk result (λ g. HoldsWhere g (record { formula = formula.now; negated = negated })) }
+    ensures agrees { IfOk result (λ g. HoldsWhere g formula.now negated) }
 {
     let lists = lists_of(alloc, formula.root(), negated)?;
     Ok(lists.into_graph(0))

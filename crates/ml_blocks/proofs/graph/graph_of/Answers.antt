@@ -15,7 +15,7 @@ returns-clause-agrees c =
     let f = c.args.formula.now in
     let negated = c.args.negated in
     ok_more c.made.result (λ g. IsGraphAt g (start_place None (formula_of c.root.result.now) (not negated)))
-    (λ g. HoldsWhere g (λ m s. HoldsAt m s (record { formula = f; negated = negated })))
+    (λ g. HoldsWhere g (λ m s. HoldsAt m s f negated))
     (λ g is. graphs_hold f negated g c.root.ensures.well_formed.is_of_logic
     (subst (λ h. IsGraphAt g (start_place None h (not negated))) c.root.ensures.tree is))
     c.made.ensures.graph

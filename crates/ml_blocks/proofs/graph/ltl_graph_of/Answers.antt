@@ -15,7 +15,7 @@ returns-clause-agrees c =
     let f = c.args.formula.now in
     let negated = c.args.negated in
     ok_more c.made.result (λ g. IsGraphAt g (start_place (Some (not negated)) (formula_of c.root.result.now) true))
-    (λ g. HoldsWhere g (λ m s. ltl.HoldsAt m s (record { formula = f; negated = negated })))
+    (λ g. HoldsWhere g (λ m s. ltl.HoldsAt m s f negated))
     (λ g is. linear_graphs_hold f negated g
     (subst (λ h. IsGraphAt g (start_place (Some (not negated)) h true)) c.root.ensures.tree is))
     c.made.ensures.graph
