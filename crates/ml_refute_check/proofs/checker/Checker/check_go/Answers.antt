@@ -31,8 +31,8 @@ take_step-requires-clause-items c =
     (subst (λ nodes. StandAmong nodes items)
     (sym (c.requires.stands.of_entry ∙ ap (λ (x : Entry). x.sequent) c.requires.entry.is)) c.requires.items)
 
-pub check_step-requires-clause-sources : goal.check_step-requires-clause-sources
-check_step-requires-clause-sources c =
+pub check_step-found-requires-clause-sources : goal.check_step-found-requires-clause-sources
+check_step-found-requires-clause-sources c =
     subst (StandAmong c.in_ok-step.step.sources) c.deref.ensures.value c.in_ok-step.ensures.sources
 
 pub keep-requires : goal.keep-requires
