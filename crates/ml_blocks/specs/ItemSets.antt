@@ -12,7 +12,7 @@
 use Rattle.std.specs.Prelude.{ℕ, ◌+◌, ◌*◌, ◌==◌, Bool, true, false, not, nat_lt, if◌then◌else◌, List, [], ◌∷◌, ◌++◌, map, filter}
 use Rattle.ml_lists.specs.Ascending.{ascending}
 use Rattle.ml_text.specs.declared.token.Operator.TheVariants as operator
-use Rattle.ml_ctl.specs.Formula.{Formula, Const, Prop, Not, Binary, Temporal, Paired, Quantified, occurrences}
+use Rattle.ml_ctl.specs.Formula.{Formula, Not, Binary, Temporal, Paired, occurrences}
 use Rattle.ml_blocks.specs.Items.{Item, now, behind_next, is_least}
 
 -- by occurrences, at one occurrence what is to be true first, now-items before what is put off

@@ -17,11 +17,11 @@
 use Rattle.std.specs.Prelude.{ℕ, ◌+◌, Bool, true, false, not, if◌then◌else◌, List, [], ◌∷◌}
 use Rattle.ml_text.specs.declared.token.Operator.{Operator}
 use Rattle.ml_text.specs.declared.token.Operator.TheVariants as operator
-use Rattle.ml_ctl.specs.Formula.{Formula, Const, Prop, Not, Binary, Temporal, Paired, Quantified, occurrences}
+use Rattle.ml_ctl.specs.Formula.{Formula, Not, Binary, Temporal, Paired, occurrences}
 use Rattle.ml_ctl.specs.declared.term.Tense.{Tense}
 use Rattle.ml_ctl.specs.declared.term.Tense.TheVariants.{Next, Finally, Globally}
 use Rattle.ml_ctl.specs.declared.term.Pairing.{Pairing}
-use Rattle.ml_ctl.specs.declared.term.Pairing.TheVariants.{Until, Release, Weak}
+use Rattle.ml_ctl.specs.declared.term.Pairing.TheVariants.{Release}
 use Rattle.ml_ctl.specs.Eventualities.{is_eventual}
 
 pub record Item : Type 0 where

@@ -23,8 +23,8 @@ use Rattle.std.specs.Prelude.{ℕ, ◌+◌, ◌%◌, ◌==◌, ◌&&◌, Bool, t
 use Rattle.std.specs.Bool.{beq}
 use Rattle.std.specs.List.{list_any}
 use Rattle.ml_nodes.specs.ClosureGraph as closure
-use Rattle.ml_nodes.specs.ClosureGraph.{Constant, Literal, And, Or, Diamond, Square, all_of, one_of, form_of_connective}
-use Rattle.ml_ctl.specs.Formula.{Formula, Const, Prop, Not, Binary, Temporal, Paired, Quantified, occurrences}
+use Rattle.ml_nodes.specs.ClosureGraph.{Constant, Literal, And, Diamond, Square, all_of, one_of, form_of_connective}
+use Rattle.ml_ctl.specs.Formula.{Formula, Const, Prop, Not, Binary, Quantified, occurrences}
 use Rattle.ml_ctl.specs.declared.term.Quantifier.{Quantifier}
 use Rattle.ml_ctl.specs.declared.term.Quantifier.TheVariants.{Exists, Forall}
 use Rattle.ml_blocks.specs.Items.{Item, now, left_number, Row, row, OfState, Waits, Becomes, Either}

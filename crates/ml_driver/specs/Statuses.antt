@@ -33,7 +33,7 @@ use Rattle.ml_refute_check.specs.declared.verdict.Verdict.{Verdict}
 use Rattle.ml_refute_check.specs.declared.verdict.Verdict.TheVariants as verdict
 use Rattle.ml_task.specs.declared.limits.TheConstants.{LONGEST_TASK_TEXT}
 use Rattle.ml_driver.specs.declared.command.Command.{Command}
-use Rattle.ml_driver.specs.declared.command.Command.TheVariants.{Decide, Valid, Find, Prove, CheckModel, CheckRefutation, Migrate, Quotient, SolveGame, Determinise, Realize, Gen, Bench}
+use Rattle.ml_driver.specs.declared.command.Command.TheVariants.{CheckModel, CheckRefutation, Migrate, Quotient, SolveGame, Determinise, Realize, Gen, Bench}
 use Rattle.ml_driver.specs.declared.command.TheConstants.{LONGEST_TEXT, LONGEST_DOCUMENT}
 use Rattle.ml_driver.specs.declared.status.Status.{Status}
 use Rattle.ml_driver.specs.declared.status.Status.TheVariants.{Yes, No, Undecided, Words, Text, NoMemory}

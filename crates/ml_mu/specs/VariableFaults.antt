@@ -14,7 +14,7 @@ use Rattle.std.specs.Prelude.{ℕ, ◌+◌, ◌-◌, ◌%◌, ◌==◌, ◌&&◌
 use Rattle.ml_text.specs.declared.token.Operator.TheVariants.{Iff, Implies, Or, And}
 pub use Rattle.ml_mu.specs.declared.variables.Standing.{Standing}
 pub use Rattle.ml_mu.specs.declared.variables.Standing.TheVariants.{Fine, Unbound, NotPositive}
-use Rattle.ml_mu.specs.Formula.{Formula, Const, Prop, Var, Not, Binary, Modal, Binder}
+use Rattle.ml_mu.specs.Formula.{Formula, Var, Not, Binary, Modal, Binder}
 
 pub record Around : Type 0 where
   pub name : List ℕ

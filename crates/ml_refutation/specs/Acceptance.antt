@@ -36,7 +36,6 @@ use Rattle.ml_trace.specs.Stack as traced
 use Rattle.ml_graph.specs.Graph.{Graph, size, odd_priorities}
 use Rattle.ml_sequent.specs.declared.choice.Side.{Side}
 use Rattle.ml_sequent.specs.declared.choice.Side.TheVariants.{Left, Right}
-use Rattle.ml_sequent.specs.declared.clashes.ClashCause.{ClashCause}
 use Rattle.ml_sequent.specs.declared.clashes.ClashCause.TheVariants as cause
 use Rattle.ml_sequent.specs.Choice.{with_side}
 use Rattle.ml_sequent.specs.Spread.{SpreadList, IsSpreadOf, IsOpenOr, IsCause}

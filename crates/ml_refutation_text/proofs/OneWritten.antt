@@ -14,13 +14,13 @@ use Rattle.std.proofs.lemmas.List.{append-nil}
 use Rattle.ml_base.specs.declared.version.Version.{Version}
 use Rattle.ml_base.specs.declared.version.Version.TheVariants.{One, Two}
 use Rattle.ml_lines.specs.Lines.{Line, text_of}
-use Rattle.ml_lines.specs.Reading.{lines_of, left_of, value, word}
+use Rattle.ml_lines.specs.Reading.{lines_of, value, word}
 use Rattle.ml_lines.proofs.WrittenLines.{text_read}
 use Rattle.ml_lists.proofs.Entries.{same_head}
 use Rattle.ml_refutation.specs.Refutation.{Refutation, Entry, Decision, Split, IsRefutation}
 use Rattle.ml_refutation_text.specs.BodyRules.{Form, InFull, ByTables, Known, Around, InLeft, InRight, Begun, Place, AtNames, AtSequents, AtTableSequent}
 use Rattle.ml_refutation_text.specs.BodyRules.{AtStacks, AtTableStack, AtEntries, AtEntry, AtSequent, AtLive, AtItem, AtDecision, AtEnd, AtNothing}
-use Rattle.ml_refutation_text.specs.BodyRules.{IsTextOf, Runs, at_entry, after, after_entry, body, closed, leaf_of, state_of, stack_of, values, whole, with_item}
+use Rattle.ml_refutation_text.specs.BodyRules.{Runs, at_entry, after, after_entry, body, closed, leaf_of, state_of, stack_of, values, whole, with_item}
 use Rattle.ml_refutation_text.specs.Canonical.{IsWrittenText, written_form, used_stacks}
 use Rattle.ml_refutation_text.specs.Laws.{OneWrittenText, WrittenIsRead, WrittenIsWritten}
 use Rattle.ml_refutation_text.specs.RefutationText.{entries_line, end_line}

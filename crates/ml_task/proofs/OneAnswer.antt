@@ -8,7 +8,6 @@
 use Rattle.std.proofs.Common.{◌≡◌, ℕ, List, [], ◌∷◌, drop, slice_index_or, inl, inr, sym, ap, subst, ◌∙◌, ⊎_elim, arith}
 use Rattle.std.specs.List.{join_with_byte}
 use Rattle.std.proofs.lemmas.List.Splits.{join_with_byte-slice_split}
-use Rattle.ml_base.specs.declared.doc_fault.DocFault.{DocFault}
 use Rattle.ml_ctl.specs.Parsing.{IsParsedAs}
 use Rattle.ml_ctl.specs.declared.language.Language.TheVariants.{Ltl}
 use Rattle.ml_ctl.proofs.OneAnswer as formulas
@@ -19,8 +18,7 @@ use Rattle.ml_lists.specs.Readings.{IsReadable}
 use Rattle.ml_lists.proofs.Ascending.{ascending-one, ascending-cons}
 use Rattle.ml_lists.proofs.Documents.{one_bad, readable_no_bad, readable_or_bad}
 use Rattle.ml_task.specs.Laws.{OneTask, SomeAnswer, TaskOrFault, OneFault, TaskRulesRise}
-use Rattle.ml_task.specs.Task.{Task}
-use Rattle.ml_task.specs.TaskText.{IsTaskText, IsTaskFault, AtInputs, AtOutputs, AtFormula, AtNothing, task, task_lines}
+use Rattle.ml_task.specs.TaskText.{AtInputs, AtOutputs, AtFormula, AtNothing, task, task_lines}
 use Rattle.ml_task.proofs.JudgedLines.{judges}
 use Rattle.ml_task.proofs.ReadableTasks.{readable_task, task_readable}
 

@@ -5,7 +5,7 @@
 --   formula_told      == behind it a line that is no good formula is the first bad one
 --   end_told          == behind it and the formula a further line is
 --   task_read         == with nothing behind the formula it is the text of a task
-use Rattle.std.proofs.Common.{◌≡◌, ℕ, ◌<◌, true, List, [], ◌∷◌, ◌++◌, length, codes, inl, inr, refl, sym, ap, subst, ◌∙◌, arith}
+use Rattle.std.proofs.Common.{◌≡◌, ℕ, true, List, [], ◌∷◌, ◌++◌, length, codes, inl, inr, refl, sym, ap, subst, ◌∙◌, arith}
 use Rattle.ml_ctl.specs.Formula.{Formula}
 use Rattle.ml_ctl.specs.Parsing.{IsParsedAs}
 use Rattle.ml_ctl.specs.declared.language.Language.TheVariants.{Ltl}
@@ -15,7 +15,7 @@ use Rattle.ml_lines.specs.Reading.{is_blank, words_of}
 use Rattle.ml_lines.proofs.Cuts.{some_part}
 use Rattle.ml_lists.specs.Documents.{IsFirstBad, IsFirstBroken, KeepsAll}
 use Rattle.ml_task.specs.Task.{knows, task_of}
-use Rattle.ml_task.specs.TaskText.{AtFormula, AtInputs, AtNothing, AtOutputs, IsTaskText, Place, names_rules, rules, task, task_lines}
+use Rattle.ml_task.specs.TaskText.{AtFormula, AtInputs, AtNothing, IsTaskText, Place, names_rules, rules, task, task_lines}
 use Rattle.ml_task.specs.declared.task_rule.LineRefusal.{LineRefusal}
 use Rattle.ml_task.specs.declared.task_rule.LineRefusal.TheVariants as line
 use Rattle.ml_task.specs.declared.task_rule.TaskRule.TheVariants.{OfKind}

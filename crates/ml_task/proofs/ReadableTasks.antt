@@ -4,7 +4,7 @@
 --   good_task        == good lines of names and of a formula make a task
 --   task_readable    == the text of a task is readable
 --   readable_task    == what is readable is the text of a task
-use Rattle.std.proofs.Common.{◌≡◌, ℕ, zero, suc, ◌+◌, ◌<◌, ◌≤◌, Bool, true, false, not, ◌&&◌, List, [], ◌∷◌, ◌++◌, length, map, drop, codes, refl, sym, ap, subst, ◌∙◌, append_assoc, arith, IsTrue}
+use Rattle.std.proofs.Common.{◌≡◌, ℕ, ◌+◌, ◌≤◌, Bool, true, false, not, ◌&&◌, List, [], ◌∷◌, ◌++◌, length, map, drop, codes, refl, sym, ap, subst, ◌∙◌, append_assoc, arith, IsTrue}
 use Rattle.std.specs.List.{AllByRecursion, list_all, list_any, join_with_byte, slice_split}
 use Rattle.std.specs.Str.{bytes_eq}
 use Rattle.std.proofs.lemmas.Bool.{and_from, and_parts}
@@ -22,8 +22,8 @@ use Rattle.ml_lines.proofs.Cuts.{some_part}
 use Rattle.ml_lines.proofs.LineFronts.{none_passes}
 use Rattle.ml_lists.specs.Documents.{KeepsAll}
 use Rattle.ml_lists.specs.Readings.{IsReadable}
-use Rattle.ml_task.specs.Task.{Task, IsTask, are_new, is_named, knows, most_names, names_of, task_of}
-use Rattle.ml_task.specs.TaskText.{IsTaskText, AtInputs, AtOutputs, AtFormula, formula_bytes, last_line, names_rules, rules, task, task_lines}
+use Rattle.ml_task.specs.Task.{Task, are_new, is_named, knows, most_names, names_of, task_of}
+use Rattle.ml_task.specs.TaskText.{IsTaskText, AtInputs, AtFormula, formula_bytes, last_line, names_rules, rules, task, task_lines}
 use Rattle.ml_task.proofs.FormulaRead.{given_bytes, is_formula_line}
 
 -- ---- names

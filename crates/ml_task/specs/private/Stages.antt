@@ -8,8 +8,7 @@
 --   TellsFault text e          == the refusal e tells the first bad line of the text, if it isn't for want of memory
 --   formula_refusal e          == the refusal of a line whose text the parser refuses with e
 --   at_line k e                == the refusal of a text whose line k is refused with e
-use Rattle.std.specs.Prelude.{ℕ, ◌≡◌, ◌≤◌, ◌+◌, ⊤, List, [], ◌∷◌, length, codes, slice_index_or, IsTrue}
-use Rattle.std.specs.List.{list_all}
+use Rattle.std.specs.Prelude.{ℕ, ◌≡◌, ⊤, List, [], ◌∷◌, codes, slice_index_or, IsTrue}
 use Rattle.ml_base.specs.declared.doc_refusal.DocRefusal.{DocRefusal}
 use Rattle.ml_base.specs.declared.doc_refusal.DocRefusal.TheVariants as refused
 use Rattle.ml_base.specs.declared.parse_refusal.ParseRefusal.{ParseRefusal}
@@ -20,7 +19,7 @@ use Rattle.ml_ctl.specs.declared.language.Language.TheVariants.{Ltl}
 use Rattle.ml_lines.specs.Lines.{Word, Line}
 use Rattle.ml_lines.specs.Reading.{words_of}
 use Rattle.ml_lists.specs.Documents.{Rule, IsFirstBroken, KeepsAll}
-use Rattle.ml_task.specs.Task.{is_named, are_new, knows, most_names}
+use Rattle.ml_task.specs.Task.{knows}
 use Rattle.ml_task.specs.TaskText.{IsTaskFault, names_rules, rule_number}
 use Rattle.ml_task.specs.declared.task_rule.TaskRule.{TaskRule}
 use Rattle.ml_task.specs.declared.task_rule.TaskRule.TheVariants.{Parses}

@@ -1,4 +1,4 @@
-use Rattle.std.proofs.Common.{◌≡◌, ◌++◌, drop, map}
+use Rattle.std.proofs.Common.{◌≡◌, ◌++◌, drop}
 use Rattle.std.specs.List.{enumerate_from, flat_map}
 use Rattle.ml_lines.specs.Lines.{text_of}
 use Rattle.ml_realize_text.specs.RealizeText.{machine_state_lines}

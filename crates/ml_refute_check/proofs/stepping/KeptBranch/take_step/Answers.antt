@@ -1,7 +1,7 @@
 use Rattle.std.proofs.Common.{ℕ, ◌≡◌, ◌∙◌, List, Option, Some, sym, subst}
 use Rattle.std.specs.Option.{IfSome}
 use Rattle.ml_sequent.specs.Branch.{BranchList}
-use Rattle.ml_sequent.specs.Spread.{IsSpreadOf, IsSpread}
+use Rattle.ml_sequent.specs.Spread.{IsSpread}
 use Rattle.ml_sequent.proofs.OwnSpreads.{own_spread}
 use Rattle.ml_refute_check.specs.declared.stepping.KeptStep.{KeptStep}
 use Rattle.ml_refute_check.specs.private.Sources.{StandAmong}

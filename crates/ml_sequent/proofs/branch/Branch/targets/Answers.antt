@@ -1,4 +1,4 @@
-use Rattle.std.proofs.Common.{ℕ, ◌↔◌, List, IfOk, subst}
+use Rattle.std.proofs.Common.{ℕ, ◌↔◌, IfOk, subst}
 use Rattle.ml_lists.specs.Member.{IsMember}
 use Rattle.ml_sequent.specs.Branch.{BranchList}
 use Rattle.ml_sequent.specs.Step.{IsDiamondOf, IsTarget}
