@@ -43,7 +43,9 @@ impl Sequent {
     }
 
     /// The set of the given nodes, in any order and with any repeats. It takes no memory.
-    pub(crate) fn of_members(nodes: Vec<u32>) -> Sequent
+    ///
+    /// Cost: `n log n` in the nodes.
+    pub fn of_members(nodes: Vec<u32>) -> Sequent
         ensures { result ≡ ascending nodes.items }
     {
         Sequent {

@@ -48,8 +48,10 @@ impl LocalTraces {
         self.triples.as_slice()
     }
 
-    // The triples, to be put in another order.
-    pub(crate) fn into_triples(self) -> Vec<Triple>
+    /// The triples, as they were given, to be put in another order.
+    ///
+    /// Cost: constant.
+    pub fn into_triples(self) -> Vec<Triple>
         ensures { result.items ≡ self }
     {
         self.triples
