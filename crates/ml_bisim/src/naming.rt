@@ -111,7 +111,9 @@ pub(crate) fn names(
     requires keepers { length keeper.old.items ≡ length members.old.items }
     requires each_state { length parts.now.numbers.items ≡ length states.now }
     requires in_turn { RunsOn 0 parts.now.numbers.items parts.now.count }
-    requires one_class { (i j : ℕ) → i < length states.now → j < length states.now → get_or parts.now.numbers.items i 0 ≡ get_or parts.now.numbers.items j 0 → class_of class.now (get_or states.now i 0) ≡ class_of class.now (get_or states.now j 0) }
+    requires one_class { (i j : ℕ) → i < length states.now → j < length states.now
+        → get_or parts.now.numbers.items i 0 ≡ get_or parts.now.numbers.items j 0
+        → class_of class.now (get_or states.now i 0) ≡ class_of class.now (get_or states.now j 0) }
     ensures members { OnOk result (HasMembers class.now (length class.now) (rows members.new.items)) }
     ensures keepers { OnOk result (length keeper.new.items ≡ length members.new.items) }
     ensures names { IfOk result (λ names. AreNames class.now states.now parts.now.numbers.items keeper.old.items names.items (length members.old.items) (length members.new.items)) }

@@ -3,7 +3,10 @@ ghost use Rattle.std.specs.Prelude.{◌≡◌, ◌+◌, ◌^◌};
 ghost use Rattle.ml_realize.specs.TaskGame.{most_nodes};
 ghost use Rattle.ml_task.specs.declared.limits.TheConstants.{LONGEST_TASK_TEXT};
 ghost use Rattle.ml_driver.specs.declared.command.TheConstants.{DEFAULT_LIMIT, GREATEST_LIMIT, LONGEST_DOCUMENT, LONGEST_NUMBER, LONGEST_TEXT};
-ghost use Rattle.ml_driver.specs.Laws.{AnswersAreExact, DecideIsChecked, DecidedAreChecked, FindIsChecked, FindsAsDecided, GraphsFit, OneAutomatonDue, OneAutomatonWritten, OneDue, OneMeasure, OneQuotientDue, OneUnlessOpen, ProveIsChecked, ProvesAsDecided, QuotientsAreCheckedAlike, QuotientsAreRead, RefutedAreAccepted, SameWinners, SomeDue, SomeDueForWords, SomeGame, ValidIsChecked, WrittenAcceptsTheSame, WrittenHoldsTheSame};
+ghost use Rattle.ml_driver.specs.Laws.{AnswersAreExact, DecideIsChecked, DecidedAreChecked, FindIsChecked, FindsAsDecided, GraphsFit, OneAutomatonDue};
+ghost use Rattle.ml_driver.specs.Laws.{OneAutomatonWritten, OneDue, OneMeasure, OneQuotientDue, OneUnlessOpen, ProveIsChecked, ProvesAsDecided};
+ghost use Rattle.ml_driver.specs.Laws.{QuotientsAreCheckedAlike, QuotientsAreRead, RefutedAreAccepted, SameWinners, SomeDue, SomeDueForWords, SomeGame};
+ghost use Rattle.ml_driver.specs.Laws.{ValidIsChecked, WrittenAcceptsTheSame, WrittenHoldsTheSame};
 
 /// For each command but `find` and `prove`, for words that are none, and for each input exactly one status is due: some
 /// status with some output, and no other status. For `find` and `prove` some status is due too, and two that are due are the

@@ -4,7 +4,8 @@
 --   back                       == a token more in front of what is left
 --   rest_of                    == what is left of a text that is read to its end
 --   read_text                  == such a text is an automaton text, within the limits where it is read strictly
-use Rattle.std.proofs.Common.{◌≡◌, ℕ, suc, ◌+◌, ◌-◌, ◌<◌, ◌≤◌, ◌==◌, Bool, true, false, nat_eq, nat_le, if◌then◌else◌, List, [], ◌∷◌, ◌++◌, length, map, Option, Some, None, refl, sym, ◌∙◌, ap, subst, arith, length-append, codes, All, inl, inr}
+use Rattle.std.proofs.Common.{◌≡◌, ℕ, suc, ◌+◌, ◌-◌, ◌<◌, ◌≤◌, ◌==◌, Bool, true, false, nat_eq, nat_le, if◌then◌else◌, List, [], ◌∷◌, ◌++◌, length, map}
+use Rattle.std.proofs.Common.{Option, Some, None, refl, sym, ◌∙◌, ap, subst, arith, length-append, codes, All, inl, inr}
 use Rattle.ml_lists.specs.Member.{IsMember}
 use Rattle.ml_lists.proofs.Member.{member-All}
 use Rattle.std.specs.List.{flat_map, list_all, list_any}
@@ -22,9 +23,12 @@ use Rattle.ml_hoa.specs.declared.reader.Stood.{Stood}
 use Rattle.ml_hoa.specs.Automaton.{Edge, most_states, most_props, most_edges, most_operators}
 use Rattle.ml_hoa.specs.Tokens.{Token, Number, Text, Plain}
 use Rattle.ml_hoa.specs.Grammar as grammar
-use Rattle.ml_hoa.specs.Grammar.{Numeral, EdgeText, StateText, Header, IsHeader, header_tokens, sets_tokens, name_tokens, edge_tokens, state_tokens, body_tokens, label_tokens, number_token, is_passed, states_in, start_in, props_in, acceptance_in}
+use Rattle.ml_hoa.specs.Grammar.{Numeral, EdgeText, StateText, Header, IsHeader, header_tokens, sets_tokens, name_tokens, edge_tokens, state_tokens}
+use Rattle.ml_hoa.specs.Grammar.{body_tokens, label_tokens, number_token, is_passed, states_in, start_in, props_in, acceptance_in}
 use Rattle.ml_hoa.specs.AutomatonText.{number_of, operators_in, most_open, IsSmallLabel, IsSmall}
-use Rattle.ml_hoa.specs.private.Machine.{State, Turn, Next, Past, Stuck, turn, turn_at, wanted, strings, into_body, on_header, on_ignored, on_body, on_edges, behind_name, behind_number, behind_target, start, first_of, with_id, with_edge_set, with_state_set, with_target, edge_to, last_accepting, on_operand, behind_operand, closed, label_ended, LevelState}
+use Rattle.ml_hoa.specs.private.Machine.{State, Turn, Next, Past, Stuck, turn, turn_at, wanted, strings, into_body, on_header, on_ignored, on_body, on_edges}
+use Rattle.ml_hoa.specs.private.Machine.{behind_name, behind_number, behind_target, start, first_of, with_id, with_edge_set, with_state_set, with_target}
+use Rattle.ml_hoa.specs.private.Machine.{edge_to, last_accepting, on_operand, behind_operand, closed, label_ended, LevelState}
 use Rattle.ml_hoa.proofs.Runs.{led, run}
 use Rattle.ml_hoa.proofs.BodyRuns.{Each, FitsLabel, edge_texts}
 use Rattle.ml_hoa.proofs.LabelRests.{Goes, Left, kept, BehindRest, OperandRest, conjunction, disjunction, is_conjunction, is_disjunction, and_tokens, or_tokens, operand_back, behind_back}

@@ -14,7 +14,8 @@ use Rattle.ml_hoa.specs.declared.reader.Acceptance.TheVariants as acceptance
 use Rattle.ml_hoa.specs.Automaton as automaton
 use Rattle.ml_hoa.specs.Automaton.{Guard, Edge, PropsBelow, operators, IsEdge, IsAutomaton, most_states}
 use Rattle.ml_hoa.specs.Grammar.{Numeral, Label, Level, Literal, Conjunction, Disjunction, Const, Ap, Not, Inside, Last, And, Least, Or, EdgeText, StateText, Heads, Draft}
-use Rattle.ml_hoa.specs.AutomatonText.{number_of, joined, guard_with, accepts, has_zero, edge_of, edges_in, automaton_of, operators_in, IsSmall, IsSmallLabel, past, label_faults, sets_faults, edge_faults, id_faults, state_faults, body_faults, faults}
+use Rattle.ml_hoa.specs.AutomatonText.{number_of, joined, guard_with, accepts, has_zero, edge_of, edges_in, automaton_of, operators_in, IsSmall, IsSmallLabel}
+use Rattle.ml_hoa.specs.AutomatonText.{past, label_faults, sets_faults, edge_faults, id_faults, state_faults, body_faults, faults}
 use Rattle.ml_hoa.proofs.LabelRuns.{noted_by, noted_both, clipped, clipped_guard}
 use Rattle.ml_hoa.proofs.BodyRuns.{Body, Each, clipped_edge, behind_edge, behind_edges, is_out, numbered, in_sets, behind_state, behind_states, edge_texts, each_first, each_last}
 use Rattle.ml_hoa.proofs.HeadRuns.{headed, first_fault}

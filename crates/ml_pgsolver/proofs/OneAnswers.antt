@@ -12,7 +12,8 @@ use Rattle.std.proofs.lemmas.List.Sorted.{IsPermutation-sym}
 use Rattle.ml_pgsolver.specs.Tokens.{Token, tokens, signs_of}
 use Rattle.ml_pgsolver.specs.Grammar.{Draft, vertices_of, draft_tokens}
 use Rattle.ml_pgsolver.specs.GameText.{Row, NamedGame, IsGameOf, StandsFor, row_of, id_at}
-use Rattle.ml_pgsolver.specs.Refusals.{Cause, Syntax, Repeated, TooMany, TooLarge, rank, next_place, place_from, place_behind, roles_from, successor_at_place, successors_among, IsFirstFault, IsUnknown, IsFirstUnknown, ComesAt, IsReadAs, IsRefusedBy, offset_of}
+use Rattle.ml_pgsolver.specs.Refusals.{Cause, Syntax, Repeated, TooMany, TooLarge, rank, next_place, place_from, place_behind, roles_from, successor_at_place}
+use Rattle.ml_pgsolver.specs.Refusals.{successors_among, IsFirstFault, IsUnknown, IsFirstUnknown, ComesAt, IsReadAs, IsRefusedBy, offset_of}
 use Rattle.ml_pgsolver.specs.declared.refusal.GameTextRefusal.{GameTextRefusal}
 use Rattle.ml_pgsolver.specs.declared.refusal.GameTextRefusal.TheVariants as refusal
 use Rattle.ml_pgsolver.specs.private.Machine.{State, Step}

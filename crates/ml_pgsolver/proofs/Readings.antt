@@ -13,7 +13,8 @@ use Rattle.ml_lists.specs.Times.{IsApart}
 use Rattle.ml_lists.proofs.Member.{member-append}
 use Rattle.ml_lists.proofs.Entries.{no_middle}
 use Rattle.ml_pgsolver.specs.Tokens.{Token, Number, Name, Parity, Comma, Semicolon, Stray}
-use Rattle.ml_pgsolver.specs.Refusals.{next_place, place_from, place_behind, roles_from, id_at_place, successor_at_place, ids_of, successors_among, Cause, Syntax, Repeated, TooMany, TooLarge, IsId, IsSuccessor, IsFaulty, most_vertices, most_successors, greatest_number}
+use Rattle.ml_pgsolver.specs.Refusals.{next_place, place_from, place_behind, roles_from, id_at_place, successor_at_place, ids_of, successors_among, Cause}
+use Rattle.ml_pgsolver.specs.Refusals.{Syntax, Repeated, TooMany, TooLarge, IsId, IsSuccessor, IsFaulty, most_vertices, most_successors, greatest_number}
 use Rattle.ml_pgsolver.proofs.Splits.{last_split}
 use Rattle.ml_pgsolver.proofs.Trees.{Progress, Start, grow, grown_from, grown-append}
 use Rattle.ml_pgsolver.proofs.Viable.{begins-grown}

@@ -11,7 +11,8 @@ use Rattle.std.proofs.lemmas.Grind.{flat_map-append}
 use Rattle.ml_parity.specs.declared.players.Player.TheVariants.{Even}
 use Rattle.ml_pgsolver.specs.Tokens.{Token, Number, Comma, Semicolon}
 use Rattle.ml_pgsolver.specs.Grammar.{Vertex, Draft, owner_digits, further, vertex_tokens, header_tokens, vertices_of, draft_tokens, IsGameText, BeginsGameText}
-use Rattle.ml_pgsolver.proofs.Trees.{Part, Id, Priority, Owner, First, Behind, Further, Close, Progress, Start, HeaderNumber, HeaderEnd, Body, first_of, with_further, named, core_tokens, part_tokens, tokens_of, grown_from, grown-append, grown-tokens, grown-draft}
+use Rattle.ml_pgsolver.proofs.Trees.{Part, Id, Priority, Owner, First, Behind, Further, Close, Progress, Start, HeaderNumber, HeaderEnd, Body, first_of}
+use Rattle.ml_pgsolver.proofs.Trees.{with_further, named, core_tokens, part_tokens, tokens_of, grown_from, grown-append, grown-tokens, grown-draft}
 
 abbrev zero_digits : List ℕ
 zero_digits = codes "0"

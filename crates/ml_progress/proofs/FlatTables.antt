@@ -7,7 +7,8 @@
 --   top_written, row_written     == the measure after a write of a flag, and of a row
 --   row_handed                   == as the program writes the row
 --   zero_table                   == the table of zeros
-use Rattle.std.proofs.Common.{ℕ, ◌≡◌, ◌≢◌, ◌+◌, ◌-◌, ◌*◌, ◌<◌, ◌≤◌, ◌⊎◌, inl, inr, ◌↔◌, arith, Bool, true, false, IsTrue, List, length, get_or, map, set, take, drop, ◌++◌, replicate, Option, Some, None, refl, sym, ap, ◌∙◌, subst, length-set, length-append, length-take, length-drop}
+use Rattle.std.proofs.Common.{ℕ, ◌≡◌, ◌≢◌, ◌+◌, ◌-◌, ◌*◌, ◌<◌, ◌≤◌, ◌⊎◌, inl, inr, ◌↔◌, arith, Bool, true, false, IsTrue, List, length, get_or, map, set, take}
+use Rattle.std.proofs.Common.{drop, ◌++◌, replicate, Option, Some, None, refl, sym, ap, ◌∙◌, subst, length-set, length-append, length-take, length-drop}
 use Rattle.std.specs.List.{range_with_len}
 use Rattle.std.proofs.Math.Nat.{mul-le-mul_right, add-mul}
 use Rattle.std.proofs.lemmas.Bool.{cases_eq, cases_order}

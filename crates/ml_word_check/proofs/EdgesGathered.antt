@@ -7,7 +7,8 @@
 --   one_or_fork    == a state from which exactly one edge leads has one step, and every other one is a fork
 --   word_found     == so a structure is one of words, or has a first fork
 --   all_only, leads_along == where it has none, exactly one edge leads from each state, and it is told where
-use Rattle.std.proofs.Common.{ℕ, ◌≡◌, ◌==◌, ◌&&◌, ◌||◌, ◌<◌, ◌≤◌, ◌+◌, ◌⊎◌, inl, inr, Bool, true, false, not, nat_lt, if◌then◌else◌, List, [], ◌∷◌, ◌++◌, All, length, map, get_or, set, take, replicate, Option, Some, None, MatchOption, bytes_eq, codes, refl, sym, ap, ◌∙◌, subst, arith}
+use Rattle.std.proofs.Common.{ℕ, ◌≡◌, ◌==◌, ◌&&◌, ◌||◌, ◌<◌, ◌≤◌, ◌+◌, ◌⊎◌, inl, inr, Bool, true, false, not, nat_lt, if◌then◌else◌, List, [], ◌∷◌, ◌++◌, All}
+use Rattle.std.proofs.Common.{length, map, get_or, set, take, replicate, Option, Some, None, MatchOption, bytes_eq, codes, refl, sym, ap, ◌∙◌, subst, arith}
 use Rattle.std.specs.List.{position, position_or_len, slice_get}
 use Rattle.std.proofs.lemmas.Bool.{and_parts, cases_eq, cases_lt, cond-true, or_cases, or_left, or_right, false≢true, not-true, true≢false}
 use Rattle.std.proofs.lemmas.Bool.Decides.{Decides-eqb, nat_tests}
