@@ -6,13 +6,14 @@
 --   traced_at        == an item is traced back along the traces to its node exactly where it is along all
 --   led_into         == those of the traces that lead to one of some nodes
 --   led_at, led_nowhere == and among them those to one node
+--   reached_node, unreached_node == some trace leads to a node exactly where those to it aren't none
 --   item_nodes_stand, item_nodes_inside == the nodes at which items stand, as a set
 --   told_sorted      == what is told of traces is told of them in another order
 use Rattle.std.proofs.Common.{◌≡◌, ◌↔◌, ◌⊎◌, ℕ, zero, suc, ◌+◌, ◌<◌, ◌≤◌, Bool, true, false, ◌&&◌, ◌||◌, ◌==◌, nat_lt, nat_eq, ltb, leb, List, [], ◌∷◌}
 use Rattle.std.proofs.Common.{Option, None, Some, All, length, get_or, take, drop, map, IsTrue, inl, inr, refl, sym, ◌∙◌, subst, arith}
 use Rattle.std.specs.List.{AllWithin, list_any}
 use Rattle.std.specs.List.Sorted.{IsPartitionPoint}
-use Rattle.std.proofs.lemmas.Bool.{ltb-true, ltb-false, leb-true, leb-false, eqb-true, eq-eqb}
+use Rattle.std.proofs.lemmas.Bool.{ltb-true, ltb-false, leb-true, leb-false, eqb-true, eq-eqb, true≢false}
 use Rattle.std.proofs.lemmas.Bool.Decides.{nat_tests}
 use Rattle.std.proofs.lemmas.List.{take-append-drop, get_or-take, get_or-drop, length-take-le, length-drop}
 use Rattle.std.proofs.lemmas.List.Sorted.{IsNonDecreasingBy-from_all_adjacent}
@@ -26,7 +27,7 @@ use Rattle.ml_trace.specs.Stack as traced
 use Rattle.ml_refutation.specs.declared.refutation.Item.{Item}
 use Rattle.ml_refutation.specs.Refutation.{AreAbove, guess_before}
 use Rattle.ml_refutation.specs.Views.{item_of}
-use Rattle.ml_refute_check.specs.private.Sources.{stack_of, SourceAmong, HasSource, IsNameTraced, IsItemTraced, LeadInto, StandAmong, RiseByNode, led}
+use Rattle.ml_refute_check.specs.private.Sources.{stack_of, SourceAmong, HasSource, IsNameTraced, IsItemTraced, LeadInto, StandAmong, RiseByNode, IsReached, led}
 
 -- ---- entries with one key
 
@@ -199,6 +200,21 @@ led_nowhere next traces node none t = (
   λ m. absurd m,
   λ h. absurd (none (subst (λ n. IsMember n next) h.1 ((led_into next traces t).0 h.0).1)),
 )
+
+-- some trace leads to a node where those to it aren't none, and none where they are
+pub reached_node : (traces found : List Triple) (node : ℕ)
+    → ((t : Triple) → IsMember t found ↔ (IsMember t traces × (t.to ≡ node)))
+    → (length found == 0) ≡ false
+    → IsReached traces node
+reached_node traces [] node at some = absurd (true≢false some)
+reached_node traces (t ∷ found) node at some = (t, (at t).0 (inl refl))
+
+pub unreached_node : (traces found : List Triple) (node : ℕ)
+    → ((t : Triple) → IsMember t found ↔ (IsMember t traces × (t.to ≡ node)))
+    → (length found == 0) ≡ true
+    → ¬ (IsReached traces node)
+unreached_node traces [] node at none r = (at r.0).1 r.1
+unreached_node traces (t ∷ found) node at none r = let e = eqb-true (length (t ∷ found)) 0 none in absurd (omega arith)
 
 -- ---- the nodes of items
 

@@ -1,6 +1,8 @@
 -- What the tests of a `go` tell of its rules.
 --
 --   rows_told   == rows of heights fall exactly where the heights fall along the arc
+--   reached_targets, targets_told == nodes to which traces of a step lead are targets; all targets, where they are known, tell
+--                 exactly whether nodes are among them
 --   AtGo, at_go == leaving an entry by a step along a diamond of a spread of it, to another entry
 --   within_told, names_told, falls_told == the tests tell exactly whether the rules are kept
 use Rattle.std.proofs.Common.{◌≡◌, ◌↔◌, ℕ, ◌*◌, ◌/◌, ◌≤◌, Bool, List, [], All, get_or, IsTrue, sym, ap, ◌∙◌, subst, arith}
@@ -22,8 +24,8 @@ use Rattle.ml_refutation.specs.GoStep.{GoStep, HasTransition}
 use Rattle.ml_refutation.specs.Acceptance.{entry_at, no_entry, heights_of, LeadsWithinTargets, TracesNames, HeightsFall}
 use Rattle.ml_refute_check.specs.declared.stepping.KeptStep.{KeptStep}
 use Rattle.ml_refute_check.specs.private.Parts.{Question, Stands, IsEntryOf}
-use Rattle.ml_refute_check.specs.private.Sources.{StandAmong}
-use Rattle.ml_refute_check.specs.private.Stepping.{IsStepFrom}
+use Rattle.ml_refute_check.specs.private.Sources.{StandAmong, IsReached}
+use Rattle.ml_refute_check.specs.private.Stepping.{IsStepFrom, AreTargets}
 use Rattle.ml_refute_check.proofs.BranchesFound.{of_spread_has, of_spread_is}
 
 rows_there : (rows : List (List ℕ)) (a : Arc)
@@ -77,6 +79,29 @@ falls_told {q = q} {e = e} {f = f} here there m b {p = p} {from = from} {to = to
         (subst (λ xs. RowsFall p xs (get_or (heights_of q.refutation) f [])) (sym from_at)
         (subst (λ k. RowsFall k (get_or (heights_of q.refutation) e []) (get_or (heights_of q.refutation) f [])) (sym p_is) h))
 
+-- nodes to which traces of a step lead are targets
+pub reached_targets : {g : Graph} {C : List ℕ} {sp : SpreadList} {s : KeptStep}
+    → IsStepFrom g C sp s
+    → (nodes : List ℕ)
+    → All (IsReached s.traces.items) nodes
+    → All (IsTarget g sp s.diamond) nodes
+reached_targets {g = g} {sp = sp} {s = s} step nodes all k d low =
+    let r = all k d low in
+    let trace = ((step.traces r.0).0 r.1.0).1 in
+    subst (IsTarget g sp s.diamond) r.1.1 (record { leaving = trace.leaving; leads = trace.leads })
+
+-- where all targets are known, they tell
+pub targets_told : {g : Graph} {sp : SpreadList} {d : ℕ} {targets : List ℕ}
+    → AreTargets g sp d targets
+    → (b : Bool) (nodes : List ℕ) {values : List ℕ}
+    → values ≡ targets
+    → (IsTrue b ↔ All (λ m. IsMember m values) nodes)
+    → IsTrue b ↔ All (IsTarget g sp d) nodes
+targets_told are b nodes same told = (
+  λ h k z low. (are (get_or nodes k z)).0 (subst (IsMember (get_or nodes k z)) same (told.0 h k z low)),
+  λ all. told.1 (λ k z low. subst (IsMember (get_or nodes k z)) (sym same) ((are (get_or nodes k z)).1 (all k z low))),
+)
+
 -- leaving an entry by a step along a diamond of a spread of it, to another entry
 pub record AtGo (q : Question) (e f : ℕ) (nodes : List ℕ) (sp : SpreadList) (step : KeptStep) (behind : Entry) : Type 0 where
   pub is_graph : IsGraph q.graph
@@ -109,23 +134,18 @@ module _ {q : Question} {e f : ℕ} {nodes : List ℕ} {sp : SpreadList} {step :
   abbrev next_is : behind.sequent ≡ (entry_at q.refutation f).sequent
   next_is = sym (ap (λ (x : Entry). x.sequent) w.there.is)
 
-  pub within_told : (b : Bool) {values next : List ℕ}
-      → values ≡ step.targets
+  pub within_told : (b : Bool) {next : List ℕ}
       → next ≡ behind.sequent
-      → (IsTrue b ↔ All (λ k. IsMember k values) next)
+      → (IsTrue b ↔ All (IsTarget q.graph sp d) next)
       → IsTrue b ↔ Within
-  within_told b {values = values} {next = next} values_are next_are told = (
-    λ h. of_spread_has q e nodes sp w.is_graph w.stands (λ s. All (IsTarget q.graph s d) (entry_at q.refutation f).sequent)
-        (subst (All (IsTarget q.graph sp d)) (next_are ∙ next_is)
-        (λ k z low. (w.is_step.targets (get_or next k z)).0 (subst (IsMember (get_or next k z)) values_are (told.0 h k z low)))),
-    λ within. told.1 (λ k z low. subst (IsMember (get_or next k z)) (sym values_are)
-        ((w.is_step.targets (get_or next k z)).1 (target within k z low))),
+  within_told b next_are told = (
+    λ h. of_spread_has q e nodes sp w.is_graph w.stands Leads (subst (All (IsTarget q.graph sp d)) (next_are ∙ next_is) (told.0 h)),
+    λ within. told.1 (subst (All (IsTarget q.graph sp d)) (sym (next_are ∙ next_is))
+        (of_spread_is q e nodes sp w.is_graph w.stands Leads within)),
   )
     where
-      target : Within → All (IsTarget q.graph sp d) next
-      target within =
-          subst (All (IsTarget q.graph sp d)) (sym (next_are ∙ next_is))
-          (of_spread_is q e nodes sp w.is_graph w.stands (λ s. All (IsTarget q.graph s d) (entry_at q.refutation f).sequent) within)
+      Leads : SpreadList → Type 0
+      Leads s = All (IsTarget q.graph s d) (entry_at q.refutation f).sequent
 
   pub names_told : {entry : Entry} → IsEntryOf q e entry → (m : Mark) (b : Bool) (items : List Item) {odds next : List ℕ}
       {triples : List Triple}

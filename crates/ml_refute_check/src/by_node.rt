@@ -1,8 +1,8 @@
 // Items and local traces found by their node, in lists that rise by it.
-ghost use Rattle.std.specs.Prelude.{◌≡◌, ◌↔◌};
+ghost use Rattle.std.specs.Prelude.{◌≡◌, ◌↔◌, All, IsTrue};
 ghost use Rattle.ml_lists.specs.Member.{IsMember};
 ghost use Rattle.ml_refutation.specs.declared.refutation.Item.{Item};
-ghost use Rattle.ml_refute_check.specs.private.Sources.{RiseByNode, RiseByTarget};
+ghost use Rattle.ml_refute_check.specs.private.Sources.{RiseByNode, RiseByTarget, IsReached};
 ghost use Rattle.ml_trace.specs.declared.letters.Triple.{Triple};
 
 use ml_refutation::Item;
@@ -28,6 +28,21 @@ pub(crate) fn traces_to(traces: &[Triple], node: u32) -> &[Triple]
 {
     let rest = &traces[traces.partition_point(|trace| trace.to < node)..];
     &rest[..rest.partition_point(|trace| trace.to <= node)]
+}
+
+/// Does one of these traces lead to each of the nodes?
+///
+/// Cost: the logarithm of the traces for each node.
+pub(crate) fn lead_to_all(traces: &[Triple], nodes: &[u32]) -> bool
+    requires { RiseByTarget traces.now }
+    ensures { IsTrue result ↔ All (IsReached traces.now) nodes.now }
+{
+    for node in nodes {
+        if traces_to(traces, *node).is_empty() {
+            return false;
+        }
+    }
+    true
 }
 
 /// Sorts traces by their targets.

@@ -19,10 +19,10 @@ use std::alloc::Global;
 ///
 /// Cost: one walk over each decision. Where an entry has the sequent of the one before it, its spread isn't made anew, and
 /// where both name the same place that is told in constant time. At a split its side's nodes are added to the spread, and
-/// taken back; a clash costs what its check costs (`Branch::is_cause`). A `go` costs its targets (`Branch::targets`), which
-/// are linear in the spread of its branch, and what is reached from each node at which an item of its entry stands
-/// (`Branch::traces_from`); neither, or only the second, where the `go` before made them. Its names cost what
-/// `keeps_names` does. Calls are nested as deep as splits are.
+/// taken back; a clash costs what its check costs (`Branch::is_cause`). A `go` costs what is reached from each node at which
+/// an item of its entry stands (`Branch::traces_from`), and where it names a node to which no such trace leads, its targets
+/// (`Branch::targets`), which are linear in the spread of its branch; neither where the `go` before made them. Its names cost
+/// what `keeps_names` does. Calls are nested as deep as splits are.
 pub fn check_refutation(
     alloc: Global,
     graph: &ModalGraph,

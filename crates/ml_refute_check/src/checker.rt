@@ -2,12 +2,12 @@
 //
 // `check_entry` looks for the first bad part of an entry: its sequent and names, its items, and then the branches of its
 // decision. `check_decision` walks these with one branch (`KeptBranch`), on which a side is chosen and taken back again, so
-// that a spread is never made anew; at its leaves a clash is asked for its cause, and a go for its targets, its step, its
+// that a spread is never made anew; at its leaves a clash is asked for its cause, and a go for its step, its targets, its
 // names (`names`) and its heights. What is found is a `BadPart`, the part's place and the lowest rule that it breaks.
 ghost use Rattle.std.specs.Prelude.{◌≡◌, ◌<◌, ◌+◌, ℕ, List, [], length, map, All, IfOk, OnOk};
 ghost use Rattle.ml_graph.specs.Graph.{size};
 ghost use Rattle.ml_refutation.specs.Acceptance as acceptance;
-ghost use Rattle.ml_refutation.specs.Acceptance.{entry_at, parts};
+ghost use Rattle.ml_refutation.specs.Acceptance.{entry_at, parts, LeadsWithinTargets};
 ghost use Rattle.ml_refutation.specs.Refutation as plain;
 ghost use Rattle.ml_refutation.specs.Refutation.{IsDecided, IsMarkOf};
 ghost use Rattle.ml_sequent.specs.Choice.{with_side};
@@ -18,7 +18,7 @@ ghost use Rattle.ml_refute_check.specs.private.Sources.{StandAmong, RiseByTarget
 ghost use Rattle.ml_refute_check.specs.private.Parts.{Finds, Stands, IsEntryOf, Asks, question, plain_entry, front_parts, branch_parts, count_branches};
 ghost use Rattle.ml_refute_check.specs.private.Stepping.{IsStepFrom};
 
-use crate::branches::{heights_fall, leads_within, mark_priority};
+use crate::branches::{heights_fall, mark_priority};
 use crate::finding::BadPart;
 use crate::names::keeps_names;
 use crate::parts::{item_stands, names_stand, starts_well};
@@ -288,13 +288,18 @@ impl<'a> Checker<'a> {
         if !branch.has_diamond(diamond) {
             return Ok(Some(BadPart { part: 0, rule: 7 }));
         }
-        let step = branch.take_step(diamond, &entry.items)?;
-        let found = self.check_step(place, entry, &step, target, mark);
+        let mut step = branch.take_step(diamond, &entry.items)?;
+        let leads = branch.leads_to(&mut step, self.sequent(self.entry(target)))?;
+        let found = if leads {
+            self.check_step(place, entry, &step, target, mark)
+        } else {
+            Some(BadPart { part: 0, rule: 8 })
+        };
         branch.keep(step);
         Ok(found)
     }
 
-    /// Whether leaving the entry by this step is bad, and the lowest rule that it breaks.
+    /// Whether leaving the entry by this step, to an entry with targets of it alone, is bad, and the lowest rule that it breaks.
     fn check_step(
         &self,
         place: usize,
@@ -312,14 +317,13 @@ impl<'a> Checker<'a> {
         ensures { (nodes : List ℕ) (sp : SpreadList)
             → Stands (question self.now.graph.now self.now.refutation.now) place nodes sp
             → IsDiamondOf self.now.graph.now sp step.now.diamond
+            → LeadsWithinTargets (entry_at (question self.now.graph.now self.now.refutation.now).refutation place).sequent sp.choice
+            step.now.diamond (entry_at (question self.now.graph.now self.now.refutation.now).refutation target).sequent self.now.graph.now
             → IsStepFrom self.now.graph.now nodes sp step.now
             → Finds (question self.now.graph.now self.now.refutation.now) place
             (branch_parts sp.choice (plain.Go step.now.diamond target mark)) result }
     {
         let behind = self.entry(target);
-        if !leads_within(step.targets.values(), self.sequent(behind)) {
-            return Some(BadPart { part: 0, rule: 8 });
-        }
         if !keeps_names(
             &self.refutation.stacks,
             &self.odds,

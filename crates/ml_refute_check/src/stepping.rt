@@ -2,10 +2,10 @@
 //
 // Entries with one sequent begin at one branch, and where each choice on it was taken back it needn't begin anew: two
 // entries have one sequent where they name the same place, and else where the lists there are equal. So it is with a step
-// along a diamond, up to the next choice or sequent: its targets serve each `go` along it, and its local traces, which are
-// made from the nodes of an entry's items alone, each whose items stand at no other nodes. Contracts see the branch, and
-// the sequents.
-ghost use Rattle.std.specs.Prelude.{◌≡◌, ◌<◌, ◌↔◌, ℕ, List, [], ◌∷◌, All, IfOk, OnOk, IsTrue};
+// along a diamond, up to the next choice or sequent: its local traces, which are made from the nodes of an entry's items
+// alone, serve each `go` along it whose items stand at no other nodes. The targets are those to which traces lead, and more
+// are looked for only where a `go` names one more. Contracts see the branch, and the sequents.
+ghost use Rattle.std.specs.Prelude.{◌≡◌, ◌<◌, ◌↔◌, ℕ, List, [], ◌∷◌, All, IfOk, IfSome, OnOk, IsTrue};
 ghost use Rattle.ml_graph.specs.Graph.{size};
 ghost use Rattle.ml_lists.specs.Ascending.{IsAscending};
 ghost use Rattle.ml_refute_check.specs.private.Sources.{StandAmong};
@@ -13,9 +13,10 @@ ghost use Rattle.ml_refute_check.specs.private.Stepping.{IsBegun, IsStepOn, AreT
 ghost use Rattle.ml_sequent.specs.Branch.{undone};
 ghost use Rattle.ml_sequent.specs.Choice.{with_side};
 ghost use Rattle.ml_sequent.specs.Spread.{IsSpread, IsSpreadOf, IsCause, IsOpenOr};
-ghost use Rattle.ml_sequent.specs.Step.{IsDiamondOf};
+ghost use Rattle.ml_sequent.specs.Step.{IsDiamondOf, IsTarget};
 
-use crate::by_node::sort_by_target;
+use crate::branches::leads_within;
+use crate::by_node::{lead_to_all, sort_by_target};
 use crate::parts::stand_among;
 use ml_base::NoMemory;
 use ml_graph::ModalGraph;
@@ -25,12 +26,12 @@ use ml_trace::Triple;
 use std::alloc::Global;
 use std::marker::Model;
 
-/// The step along a diamond of a branch: its targets, and its local traces from some nodes of the sequent, sorted by their
-/// targets.
+/// The step along a diamond of a branch: its local traces from some nodes of the sequent, sorted by their targets.
 #[derive(Drop)]
 pub(crate) struct KeptStep {
     pub(crate) diamond: u32,
-    pub(crate) targets: Sequent,
+    /// All targets of the step, if they were looked for.
+    pub(crate) targets: Option<Sequent>,
     /// The nodes at which the traces begin.
     pub(crate) sources: Sequent,
     pub(crate) traces: Vec<Triple>,
@@ -175,7 +176,7 @@ impl<'a> KeptBranch<'a> {
     /// taken, or else one that is made with the traces from these nodes alone.
     ///
     /// Cost: where its diamond is kept and the items stand at its sources, the logarithm of these for each item; else that
-    /// of the traces from the nodes of the items, and linear in the spread unless the diamond is the one that is kept.
+    /// of the traces from the nodes of the items.
     pub(crate) fn take_step(&mut self, diamond: u32, items: &[Item]) -> Result<KeptStep, NoMemory>
         requires spread { IsSpreadOf self.old.on.graph self.old.on.sequent self.old.on.spread.choice self.old.on.spread }
         requires diamond { IsDiamondOf self.old.on.graph self.old.on.spread diamond }
@@ -192,31 +193,28 @@ impl<'a> KeptBranch<'a> {
                 }
                 self.make_step(diamond, last.targets, items)
             }
-            _ => {
-                let targets = self.branch.targets(diamond)?;
-                self.make_step(diamond, targets, items)
-            }
+            _ => self.make_step(diamond, None, items),
         }
     }
 
-    // the step along a diamond with these targets, and with the traces from the nodes of these items
+    // the step along a diamond with these targets, if they are known, and with the traces from the nodes of these items
     fn make_step(
         &mut self,
         diamond: u32,
-        targets: Sequent,
+        targets: Option<Sequent>,
         items: &[Item],
     ) -> Result<KeptStep, NoMemory>
         requires spread { IsSpreadOf self.old.on.graph self.old.on.sequent self.old.on.spread.choice self.old.on.spread }
         requires diamond { IsDiamondOf self.old.on.graph self.old.on.spread diamond }
-        requires targets { AreTargets self.old.on.graph self.old.on.spread diamond targets }
+        requires targets { IfSome targets (AreTargets self.old.on.graph self.old.on.spread diamond) }
         requires items { StandAmong self.old.on.sequent items.now }
         ensures same { self.new ≡ self.old }
         ensures step { IfOk result (IsStepOn self.old.on) }
         ensures diamond { IfOk result (λ step. step.diamond ≡ diamond) }
         ensures sources { IfOk result (λ step. StandAmong step.sources items.now) }
     {
-        let nodes: Vec<u32> = items.iter().map(|item| item.node).collect(self.alloc)?;
-        let sources = Sequent::of(self.alloc, &nodes)?;
+        let nodes = items.iter().map(|item| item.node).collect(self.alloc)?;
+        let sources = Sequent::of_members(nodes);
         let mut traces = self.branch.traces_from(diamond, sources.values())?;
         sort_by_target(&mut traces);
         Ok(KeptStep {
@@ -225,6 +223,42 @@ impl<'a> KeptBranch<'a> {
             sources,
             traces,
         })
+    }
+
+    /// Are all these nodes targets of a step of this branch? Its targets are looked for, and kept with it, only where no
+    /// trace leads to one of the nodes.
+    ///
+    /// Cost: the logarithm of the traces for each node; where the targets are looked for, linear in the spread.
+    pub(crate) fn leads_to(&self, step: &mut KeptStep, nodes: &[u32]) -> Result<bool, NoMemory>
+        requires spread { IsSpread self.now.on.graph self.now.on.spread }
+        requires diamond { IsDiamondOf self.now.on.graph self.now.on.spread step.old.diamond }
+        requires step { IsStepOn self.now.on step.old }
+        ensures step { OnOk result (IsStepOn self.now.on step.new) }
+        ensures diamond { OnOk result (step.new.diamond ≡ step.old.diamond) }
+        ensures sources { OnOk result (step.new.sources ≡ step.old.sources) }
+        ensures leads { IfOk result (λ b. IsTrue b
+            ↔ All (IsTarget self.now.on.graph self.now.on.spread step.old.diamond) nodes.now) }
+    {
+        if lead_to_all(&step.traces, nodes) {
+            return Ok(true);
+        }
+        let targets = self.targets(step.diamond, step.targets.take())?;
+        let leads = leads_within(targets.values(), nodes);
+        step.targets = Some(targets);
+        Ok(leads)
+    }
+
+    // the targets along a diamond, which may be known
+    fn targets(&self, diamond: u32, known: Option<Sequent>) -> Result<Sequent, NoMemory>
+        requires spread { IsSpread self.now.on.graph self.now.on.spread }
+        requires diamond { IsDiamondOf self.now.on.graph self.now.on.spread diamond }
+        requires known { IfSome known (AreTargets self.now.on.graph self.now.on.spread diamond) }
+        ensures { IfOk result (AreTargets self.now.on.graph self.now.on.spread diamond) }
+    {
+        match known {
+            Some(targets) => Ok(targets),
+            None => self.branch.targets(diamond),
+        }
     }
 
     /// Keeps a step of this branch.

@@ -15,6 +15,7 @@
 --   led next made               == those traces themselves
 --   StandAmong nodes is         == each of the items is stands at one of the nodes
 --   RiseByNode is, RiseByTarget ts == the nodes of the items is, the targets of the traces ts don't descend
+--   IsReached ts m              == one of the traces ts leads to the node m
 use Rattle.std.specs.Prelude.{ℕ, ◌≡◌, ◌⊎◌, ◌↔◌, ◌<◌, ◌≤◌, nat_eq, Bool, true, not, List, [], Option, None, Some, All, map, slice_index_or}
 use Rattle.std.specs.List.{filter, list_any}
 use Rattle.std.specs.List.Sorted.{IsNonDecreasingBy}
@@ -96,6 +97,10 @@ RiseByNode items = IsNonDecreasingBy (λ (a : Item). a.node) items
 
 abbrev pub RiseByTarget : List Triple → Type 0
 RiseByTarget traces = IsNonDecreasingBy (λ (t : Triple). t.to) traces
+
+-- one of the traces leads to the node
+abbrev pub IsReached : List Triple → ℕ → Type 0
+IsReached traces m = (t : Triple) × (IsMember t traces × (t.to ≡ m))
 
 -- the items and the names in use of an entry
 abbrev pub traces_of : List (List ℕ) → Entry → traced.Entry AutomatonState

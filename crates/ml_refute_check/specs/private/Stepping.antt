@@ -5,9 +5,9 @@
 --   IsOwn b sp        == sp is a spread of the sequent of the branch b
 --   IsBegun b qs p    == b began with the sequent at the place p of qs: its spreads, now and before each choice, are of it
 --   AreTargets g sp d ns == ns are the targets along the diamond d of the spread sp
---   IsStepFrom g C sp s == s has the targets along its diamond of the spread sp of C, and the traces from its sources
+--   IsStepFrom g C sp s == s has the traces along its diamond of the spread sp of C from its sources, and its targets if any
 --   IsStepOn b s      == s is that of the branch b, its traces sorted by target
-use Rattle.std.specs.Prelude.{◌≡◌, ◌↔◌, ℕ, List, [], All, slice_index_or}
+use Rattle.std.specs.Prelude.{◌≡◌, ◌↔◌, ℕ, List, [], All, IfSome, slice_index_or}
 use Rattle.ml_lists.specs.Member.{IsMember}
 use Rattle.ml_graph.specs.Graph.{Graph}
 use Rattle.ml_trace.specs.declared.letters.Triple.{Triple}
@@ -40,9 +40,9 @@ pub record IsBegun (b : BranchList) (sequents : List (List ℕ)) (place : ℕ) :
 abbrev pub AreTargets : Graph → SpreadList → ℕ → List ℕ → Type 0
 AreTargets g sp d targets = (m : ℕ) → IsMember m targets ↔ IsTarget g sp d m
 
--- the targets along the diamond of a step, and the local traces from its sources
+-- the local traces along the diamond of a step from its sources, and all its targets if they are kept
 pub record IsStepFrom (g : Graph) (C : List ℕ) (sp : SpreadList) (s : KeptStep) : Type 0 where
-  pub targets : AreTargets g sp s.diamond s.targets
+  pub targets : IfSome s.targets (AreTargets g sp s.diamond)
   pub traces : (t : Triple) → IsMember t s.traces.items ↔ (IsMember t.from s.sources × IsTrace g C sp s.diamond t)
 
 -- that of a branch, its traces sorted by target

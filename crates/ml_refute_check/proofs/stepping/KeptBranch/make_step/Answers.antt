@@ -14,10 +14,10 @@ traces_from-requires-clause-nodes c =
     let items = c.args.items.now in
     let C = c.self.inside.branch.sequent in
     let nodes : c.in_ok-nodes.nodes.items ≡ map (λ (a : Item). a.node) items = search rules in
-    let sources = c.in_ok-sources.ensures ∙ ap ascending (c.deref.ensures.value ∙ nodes) in
+    let sources = c.of_members-sources.ensures ∙ ap ascending nodes in
     let stand = subst (λ (b : KeptList). StandAmong b.on.sequent items) (sym c.self.view_is) c.requires.items in
     subst (All (λ n. IsMember n C)) (sym c.values.ensures.value)
-    (item_nodes_inside items C c.in_ok-sources.sources sources stand)
+    (item_nodes_inside items C c.of_members-sources.result sources stand)
 
 pub returns-clause-step : goal.returns-clause-step
 returns-clause-step c =
@@ -27,12 +27,12 @@ returns-clause-step c =
     let here = subst (λ (ns : List ℕ). (t : Triple) → IsMember t made
     ↔ (IsMember t.from ns × IsTrace c.self.inside.branch.graph c.self.inside.branch.sequent c.self.inside.branch.spread
     c.args.diamond t)) c.values.ensures.value c.in_ok-traces.ensures.traces in
-    let told = subst (λ (b : KeptList). (t : Triple) → IsMember t made ↔ P b c.in_ok-sources.sources t) c.self.view_is here in
+    let told = subst (λ (b : KeptList). (t : Triple) → IsMember t made ↔ P b c.of_members-sources.result t) c.self.view_is here in
     record {
       step = record {
         targets = c.requires.targets;
         traces =
-            told_sorted (P c.args.self.now c.in_ok-sources.sources) made c.sort_by_target.new.traces.items told
+            told_sorted (P c.args.self.now c.of_members-sources.result) made c.sort_by_target.new.traces.items told
             c.sort_by_target.ensures.same;
       };
       rise = c.sort_by_target.ensures.rise;
@@ -42,4 +42,4 @@ pub returns-clause-sources : goal.returns-clause-sources
 returns-clause-sources c =
     let items = c.args.items.now in
     let nodes : c.in_ok-nodes.nodes.items ≡ map (λ (a : Item). a.node) items = search rules in
-    item_nodes_stand items c.in_ok-sources.sources (c.in_ok-sources.ensures ∙ ap ascending (c.deref.ensures.value ∙ nodes))
+    item_nodes_stand items c.of_members-sources.result (c.of_members-sources.ensures ∙ ap ascending nodes)

@@ -1,12 +1,11 @@
 use Rattle.std.proofs.Common.{ℕ, ◌≡◌, ◌∙◌, List, Option, Some, sym, subst}
 use Rattle.std.specs.Option.{IfSome}
 use Rattle.ml_sequent.specs.Branch.{BranchList}
-use Rattle.ml_sequent.specs.Spread.{IsSpread}
-use Rattle.ml_sequent.proofs.OwnSpreads.{own_spread}
 use Rattle.ml_refute_check.specs.declared.stepping.KeptStep.{KeptStep}
 use Rattle.ml_refute_check.specs.private.Sources.{StandAmong}
 use Rattle.ml_refute_check.specs.private.Stepping.{KeptList, IsStepOn, AreTargets}
 use Rattle.ml_refute_check.proofs.stepping.KeptBranch.take_step.Goals as goal
+use Rattle.ml_refute_check.proofs.stepping.KeptBranch.take_step.Goals.{in_default-via-in-Some+else-take-diamond, in_default-via-in_default}
 
 -- the step that is kept is one of the branch
 kept : (b : BranchList) (s : KeptStep) (found last : Option KeptStep)
@@ -31,18 +30,17 @@ pub make_step-requires-clause-targets : goal.make_step-requires-clause-targets
 make_step-requires-clause-targets c =
     let b = c.self.inside.branch in
     let own = kept b c.in-Some.last c.take.result c.self.inside.last c.take.ensures.value c.in-Some.is c.self.invariant.last in
-    subst (λ d. AreTargets b.graph b.spread d c.in-Some.last.targets) c.if-take-diamond.true own.step.targets
+    subst (λ d. IfSome c.in-Some.last.targets (AreTargets b.graph b.spread d)) c.if-take-diamond.true own.step.targets
 
 pub make_step-requires-clause-items : goal.make_step-requires-clause-items
 make_step-requires-clause-items c =
     subst (λ (b : KeptList). StandAmong b.on.sequent c.args.items.now) (sym c.self.view_is) c.requires.items
 
-pub targets-requires-clause-spread : goal.targets-requires-clause-spread
-targets-requires-clause-spread c =
-    subst (λ (b : KeptList). IsSpread b.on.graph b.on.spread) (sym c.self.view_is)
-    (own_spread c.args.self.now.on.graph c.args.self.now.on.sequent c.args.self.now.on.spread.choice
-    c.args.self.now.on.spread c.requires.spread)
-
 pub make_step-requires-in_default-clause-items : goal.make_step-requires-in_default-clause-items
 make_step-requires-in_default-clause-items c =
-    subst (λ (b : KeptList). StandAmong b.on.sequent c.args.items.now) (sym c.self.view_is) c.requires.items
+    let stand =
+    subst (λ (b : KeptList). StandAmong b.on.sequent c.args.items.now) (sym c.self.view_is) c.requires.items in
+    elim c.in_default.branch [
+      | in_default-via-in-Some+else-take-diamond w ↦ subst (λ (b : KeptList). StandAmong b.on.sequent c.args.items.now) (sym w.self-is) stand
+      | in_default-via-in_default w ↦ subst (λ (b : KeptList). StandAmong b.on.sequent c.args.items.now) (sym w.self-is) stand
+    ]
