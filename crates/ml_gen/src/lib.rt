@@ -10,8 +10,6 @@
 
 mod family;
 pub mod laws;
-#[cfg(test)]
-mod tests;
 mod texts;
 
 pub use family::{Family, logic_name};

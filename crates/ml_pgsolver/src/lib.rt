@@ -23,6 +23,3 @@ pub use named::Named;
 pub use reading::read;
 pub use refusal::GameTextRefusal;
 pub use writing::write;
-
-#[cfg(test)]
-mod tests;

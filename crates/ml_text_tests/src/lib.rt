@@ -2,6 +2,7 @@
 // that they call, so that none of those is proved a second time for its tests. Texts with what they stand for, or with
 // their refusals, are rows of `ml_examples`.
 //
+//   family_tests    families of formulas, and the ends of their ranges
 //   formula_tests   formulas copied, and their occurrences counted
 //   kripke_tests    structures, and the texts of models
 //   line_tests      lines written and cut
@@ -10,6 +11,8 @@
 //   text_tests      the tokens of texts
 #![tactic(auto)]
 
+#[cfg(test)]
+mod family_tests;
 #[cfg(test)]
 mod formula_tests;
 #[cfg(test)]

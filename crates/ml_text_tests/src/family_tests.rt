@@ -1,5 +1,5 @@
-// Each family once, with its ends.
-use super::*;
+// Each family of formulas once, with its ends.
+use ml_gen::{Family, GenRefusal, formula};
 use std::test::Fail;
 
 #[test]

@@ -1,6 +1,6 @@
 // A game read, solved and written; and where texts are refused.
-use crate::{GameTextRefusal, read, write};
 use ml_parity::solve;
+use ml_pgsolver::{GameTextRefusal, read, write};
 use std::alloc::Global;
 use std::test::Fail;
 
@@ -56,6 +56,6 @@ fn first_wrong(alloc: Global, rows: &[(&[u8], GameTextRefusal)]) -> Option<usize
 #[test]
 fn texts_are_refused(rt: HostRuntime) {
     assert_eq!(rt; first_wrong(rt.alloc(), &REFUSED), None);
-    crate::laws::one_answer();
-    crate::laws::limits();
+    ml_pgsolver::laws::one_answer();
+    ml_pgsolver::laws::limits();
 }
