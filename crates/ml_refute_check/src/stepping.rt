@@ -3,8 +3,8 @@
 // Entries with one sequent begin at one branch, and where each choice on it was taken back it needn't begin anew: two
 // entries have one sequent where they name the same place, and else where the lists there are equal. So it is with a step
 // along a diamond, up to the next choice or sequent: its local traces, which are made from the nodes of an entry's items
-// alone, serve each `go` along it whose items stand at no other nodes. The targets are those to which traces lead, and more
-// are looked for only where a `go` names one more. Contracts see the branch, and the sequents.
+// alone, serve each `go` along it whose items stand at no other nodes. A node to which one of them leads is a target, so all
+// targets are looked for, once, only where a `go` asks for another node. Contracts see the branch, and the sequents.
 ghost use Rattle.std.specs.Prelude.{◌≡◌, ◌<◌, ◌↔◌, ℕ, List, [], ◌∷◌, All, IfOk, IfSome, OnOk, IsTrue};
 ghost use Rattle.ml_graph.specs.Graph.{size};
 ghost use Rattle.ml_lists.specs.Ascending.{IsAscending};
