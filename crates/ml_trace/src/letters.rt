@@ -51,7 +51,7 @@ impl LocalTraces {
     /// The triples, as they were given, to be put in another order.
     ///
     /// Cost: constant.
-    pub fn into_triples(self) -> Vec<Triple>
+    pub(crate) fn into_triples(self) -> Vec<Triple>
         ensures { result.items ≡ self }
     {
         self.triples
