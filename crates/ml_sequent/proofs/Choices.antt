@@ -3,9 +3,10 @@
 --   side_step       == the side at a node is that of the first pair, or else of a later one
 --   with_side_split == the pair of one node more stands behind all that have no greater node
 --   nodes_apart     == the nodes of a choice ascend, place by place
+--   no_greater      == where the node right before a place is no greater than another, none before it is
 --   side_found, side_missing == what a binary search for a node finds
 --   with_is_choice  == a choice with a side more is a choice
-use Rattle.std.proofs.Common.{ℕ, zero, suc, ◌≡◌, ◌<◌, ◌≤◌, ◌==◌, true, false, cond, nat_lt, List, [], ◌∷◌, ◌++◌, length, get_or, map}
+use Rattle.std.proofs.Common.{ℕ, zero, suc, ◌≡◌, ◌-◌, ◌<◌, ◌≤◌, ◌==◌, true, false, cond, nat_lt, List, [], ◌∷◌, ◌++◌, length, get_or, map}
 use Rattle.std.proofs.Common.{take, drop, Some, None, refl, sym, ap, ◌∙◌, subst, arith, ◌⊎◌, inl, inr, ⊎_elim, Ok, Err}
 use Rattle.std.proofs.lemmas.Bool.{cases_Bool, cases_lt, cond-true, cond-false}
 use Rattle.std.proofs.lemmas.Bool.Decides.{nat_tests}
@@ -99,6 +100,24 @@ nodes_apart c i j d is less low =
     let first = node_at_place c i d (omega arith) in
     let second = node_at_place c j d low in
     omega arith
+
+-- where the node right before a place is no greater than another, none before it is
+pub no_greater : (c : List (ℕ × Side)) (n i : ℕ) (d : ℕ × Side)
+    → IsChoice c
+    → i ≤ length c
+    → (0 < i → (get_or c (i - 1) d).0 ≤ n)
+    → (k : ℕ)
+    → k < i
+    → (get_or c k d).0 ≤ n
+no_greater c n i d is low last k less = ⊎_elim
+    (λ (earlier : k < i - 1).
+    let apart = nodes_apart c k (i - 1) d is earlier (omega arith) in
+    let end = last (omega arith) in
+    omega arith)
+    (λ (there : i - 1 ≤ k).
+    let same : k ≡ i - 1 = omega arith in
+    subst (λ j. (get_or c j d).0 ≤ n) (sym same) (last (omega arith)))
+    (cases_lt k (i - 1))
 
 -- the side at the place of a node, where no earlier place has it
 side_first : (c : List (ℕ × Side)) (n i : ℕ) (d : ℕ × Side) → i < length c → (get_or c i d).0 ≡ n

@@ -102,6 +102,18 @@ level_order xs i j up i_low j_low order = ⊎_elim
     (λ (more : i ≤ j). more)
     (cases_lt j i)
 
+-- a node of the lowest rank has the lowest priority
+pub lowest_rank : (g : Graph) (levels : LevelList) (n m : ℕ) → IsRanked g levels → n < size g → m < size g
+    → get_or levels.ranks n 0 ≡ 0
+    → priority_at g n ≤ priority_at g m
+lowest_rank g levels n m is n_low m_low zero =
+    let order =
+    no_later levels.priorities (get_or levels.ranks n 0) (get_or levels.ranks m 0) is.ascends (omega arith) (is.low m m_low)
+    in
+    let first = is.right n n_low in
+    let second = is.right m m_low in
+    omega arith
+
 -- where a local walk leads is a node
 pub walk_below : (g : Graph) (c : List (ℕ × Side))
     → IsGraph g
@@ -112,6 +124,20 @@ pub walk_below : (g : Graph) (c : List (ℕ × Side))
 walk_below g c ok n k m low (stays _) = low
 walk_below g c ok n k m low (goes {k = j} _ next child w) =
     walk_below g c ok next j m (children_low g c ok n next low child) w
+
+-- and its lowest priority is none below that of all nodes
+pub walk_least : (g : Graph) (c : List (ℕ × Side)) (p : ℕ)
+    → IsGraph g
+    → ((n : ℕ) → n < size g → p ≤ priority_at g n)
+    → (n k m : ℕ)
+    → n < size g
+    → LocalWalk g c n k m
+    → p ≤ k
+walk_least g c p ok least n k m low (stays _) = least n low
+walk_least g c p ok least n k m low (goes {k = j} _ next child w) =
+    let here = least n low in
+    let later = walk_least g c p ok least next j m (children_low g c ok n next low child) w in
+    omega arith
 
 -- so the nodes of a spread are nodes
 pub spread_low : (g : Graph) (ok : IsGraph g) (C : List ℕ) (low : All (λ n. n < size g) C) (c : List (ℕ × Side)) (m : ℕ)

@@ -12,7 +12,9 @@
 --   leading_more, leading_same == where the nodes of a list lead out, with one more
 --   targets_are, targets_told == the nodes to which those of the spread lead out are the targets
 --   traces_are_from, along_from == and the triples from some nodes of the sequent are the traces that begin there
-use Rattle.std.proofs.Common.{ℕ, ◌≡◌, ◌+◌, ◌<◌, ◌⊎◌, inl, inr, ⊎_elim, ◌↔◌, ◌==◌, min, true, List, [], ◌∷◌, ◌++◌, map, length}
+--   lone_traces     == where a node leads to the nodes of a list alone, and no priority is below its own, their exits are its traces
+--   lone_ok         == so they are where a sequent is one node
+use Rattle.std.proofs.Common.{ℕ, ◌≡◌, ◌+◌, ◌<◌, ◌≤◌, ◌⊎◌, inl, inr, ⊎_elim, ◌↔◌, ◌==◌, min, true, List, [], ◌∷◌, ◌++◌, map, length}
 use Rattle.std.proofs.Common.{get_or, take, Option, Some, None, refl, sym, ap, ◌∙◌, subst, arith, append_assoc, append-nil, All, Result, Ok, Err, IfOk}
 use Rattle.std.specs.Global.{Vec}
 use Rattle.std.specs.List.{flat_map, filter_map, cons_option}
@@ -35,7 +37,7 @@ use Rattle.ml_sequent.specs.declared.reach.Visit.{Visit}
 use Rattle.ml_sequent.specs.LocalWalk.{LocalWalk, stays, InSpread}
 use Rattle.ml_sequent.specs.Spread.{SpreadList, IsSpreadOf, is_diamond}
 use Rattle.ml_sequent.specs.Step.{IsDiamondOf, LeadsOut, IsTarget, IsTrace, IsStep}
-use Rattle.ml_sequent.specs.private.Exits.{exit_of, exit_at, exits, triple_to, action_of, IsTraceFrom, AreTracesFrom}
+use Rattle.ml_sequent.specs.private.Exits.{exit_of, exit_at, exits, triple_to, triples_to, action_of, IsTraceFrom, AreTracesFrom}
 use Rattle.ml_sequent.specs.private.Trails.{spread_at}
 use Rattle.ml_sequent.specs.private.Reach.{Leads, IsReached, onward, ranked, LevelList, IsRanked, HasReached}
 use Rattle.ml_sequent.proofs.LocalWalks.{walk_low}
@@ -490,3 +492,86 @@ pub along_from : {E : Type 0} → (g : Graph) (C : List ℕ) (sp : SpreadList) (
     → IfOk answer (λ traces. (t : Triple) → IsMember t traces.items ↔ (IsMember t.from nodes × IsTrace g C sp d t))
 along_from g C sp d nodes (Ok traces) of diamond inside are = traces_are_from g C sp d of diamond nodes traces.items inside are
 along_from g C sp d nodes (Err e) of diamond inside are = are
+
+-- ---- a lone node
+
+-- where a node leads to the nodes of a list alone, and no priority is below its own, the exits of these are its traces
+pub lone_traces : (g : Graph) (c : List (ℕ × Side)) (nodes : List ℕ) (from d : ℕ)
+    → IsGraph g
+    → from < size g
+    → ((n : ℕ) → n < size g → priority_at g from ≤ priority_at g n)
+    → IsSpreadOf g (from ∷ []) c (spread_at nodes c)
+    → AreTracesFrom g c d (from ∷ [])
+    (triples_to from (priority_at g from) (filter_map (exit_at g (action_of (node_at g d)) d) nodes))
+lone_traces g c nodes from d ok low least of t = (λ h. of_image (member-map_from trace t (filter_map exit nodes) h), λ h. of_walk h.0 h.1)
+  where
+    exit : ℕ → Option ℕ
+    exit = exit_at g (action_of (node_at g d)) d
+
+    trace : ℕ → Triple
+    trace to = record { from = from; lowest = priority_at g from; to = to }
+
+    only : (n : ℕ) → IsMember n (from ∷ []) → n ≡ from
+    only n (inl same) = same
+    only n (inr none) = absurd none
+
+    lowest_is : (k m : ℕ) → LocalWalk g c from k m → k ≡ priority_at g from
+    lowest_is k m w =
+        let above = walks.walk_least g c (priority_at g from) ok least from k m low w in
+        let below = walk_low g c from k m w in
+        omega arith
+
+    of_exit : (to : ℕ) → Leading exit to nodes
+        → IsMember from (from ∷ []) × IsTraceFrom g c (action_of (node_at g d)) d (trace to)
+    of_exit to l =
+        let s = (of.nodes l.from).0 (member-ascending l.from nodes l.member) in
+        let walk = subst (λ x. LocalWalk g c x s.lowest l.from) (only s.from s.member) s.walk in (
+          inl refl,
+          record {
+            leaving = l.from;
+            walk = subst (λ k. LocalWalk g c from k l.from) (lowest_is s.lowest l.from walk) walk;
+            leads = l.holds;
+          },
+        )
+
+    of_image : Image trace t (filter_map exit nodes) → IsMember t.from (from ∷ []) × IsTraceFrom g c (action_of (node_at g d)) d t
+    of_image i =
+        subst (λ (u : Triple). IsMember u.from (from ∷ []) × IsTraceFrom g c (action_of (node_at g d)) d u) (sym i.holds)
+        (of_exit i.from (leading_from exit i.from nodes i.member))
+
+    of_walk : IsMember t.from (from ∷ []) → IsTraceFrom g c (action_of (node_at g d)) d t
+        → IsMember t (map trace (filter_map exit nodes))
+    of_walk h w =
+        let same : t.from ≡ from = only t.from h in
+        let walk = subst (λ x. LocalWalk g c x t.lowest w.leaving) same w.walk in
+        let lowest : t.lowest ≡ priority_at g from = lowest_is t.lowest w.leaving walk in
+        let there = ascending-member w.leaving nodes
+        ((of.nodes w.leaving).1 (record { from = t.from; member = h; lowest = t.lowest; walk = w.walk })) in
+        let is : t ≡ trace t.to = λ i. record { from = same i; lowest = lowest i; to = t.to } in
+        subst (λ u. IsMember u (map trace (filter_map exit nodes))) (sym is)
+        (member-map trace t.to (filter_map exit nodes) (leading_to exit w.leaving t.to nodes there w.leads))
+
+-- so they are in what a call answers, where a sequent is one node, and the nodes of which the traces are asked too
+pub lone_ok : {E : Type 0} → (g : Graph) (C nodes trail : List ℕ) (c : List (ℕ × Side)) (d : ℕ) (answer : Result (Vec Triple) E)
+    → IsGraph g
+    → length C ≡ 1
+    → length nodes ≡ 1
+    → All (λ n. IsMember n C) nodes
+    → get_or nodes 0 0 < size g
+    → ((n : ℕ) → n < size g → priority_at g (get_or nodes 0 0) ≤ priority_at g n)
+    → IsSpreadOf g C c (spread_at trail c)
+    → IfOk answer (λ traces. traces.items ≡ triples_to (get_or nodes 0 0) (priority_at g (get_or nodes 0 0))
+    (filter_map (exit_at g (action_of (node_at g d)) d) trail))
+    → IfOk answer (λ traces. AreTracesFrom g c d nodes traces.items)
+lone_ok g (x ∷ []) (n ∷ []) trail c d (Ok traces) ok one single inside low least of made = by_node (inside 0 0 (omega arith))
+  where
+    by_node : IsMember n (x ∷ []) → AreTracesFrom g c d (n ∷ []) traces.items
+    by_node (inl same) =
+        subst (λ (ts : List Triple). AreTracesFrom g c d (n ∷ []) ts) (sym made)
+        (lone_traces g c trail n d ok low least (subst (λ k. IsSpreadOf g (k ∷ []) c (spread_at trail c)) (sym same) of))
+    by_node (inr none) = absurd none
+lone_ok g C nodes trail c d (Err e) ok one single inside low least of made = made
+lone_ok g [] nodes trail c d (Ok traces) ok one single inside low least of made = absurd (omega arith)
+lone_ok g (x ∷ y ∷ C) nodes trail c d (Ok traces) ok one single inside low least of made = absurd (omega arith)
+lone_ok g (x ∷ []) [] trail c d (Ok traces) ok one single inside low least of made = absurd (omega arith)
+lone_ok g (x ∷ []) (n ∷ m ∷ nodes) trail c d (Ok traces) ok one single inside low least of made = absurd (omega arith)

@@ -1,6 +1,6 @@
 // A branch of a decision: a sequent, the sides chosen so far, and its spread, which grows with each choice.
-ghost use Rattle.std.specs.Prelude.{◌≡◌, ◌<◌, ◌↔◌, ℕ, List, [], ◌∷◌, IfOk, OnOk, IsTrue, MatchOption, All, filter};
-ghost use Rattle.ml_graph.specs.Graph.{size, node_at};
+ghost use Rattle.std.specs.Prelude.{◌≡◌, ◌<◌, ◌≤◌, ◌↔◌, ℕ, List, [], ◌∷◌, IfOk, OnOk, IsTrue, MatchOption, All, filter, length};
+ghost use Rattle.ml_graph.specs.Graph.{size, node_at, priority_at};
 ghost use Rattle.ml_lists.specs.Ascending.{IsAscending};
 ghost use Rattle.ml_lists.specs.Member.{IsMember};
 ghost use Rattle.ml_sequent.specs.Branch.{undone};
@@ -23,7 +23,7 @@ use crate::phase::LocalPhase;
 use crate::questions::{diamonds_on, is_diamond, is_open};
 use crate::sequent::Sequent;
 use crate::spreads::Spread;
-use crate::stepping::targets_on;
+use crate::stepping::{targets_on, triples_on};
 use crate::taken::Taken;
 use crate::trail::Trail;
 use ml_base::NoMemory;
@@ -129,8 +129,7 @@ impl<'a> Branch<'a> {
     /// # Errors
     /// `NoMemory` alone. The branch is to begin anew then.
     ///
-    /// Cost: linear in the nodes that are new and in the sides that were chosen, among which the place of this one is looked
-    /// for, and those at greater nodes move up.
+    /// Cost: linear in the nodes that are new and in the sides that were chosen at greater nodes, which move up.
     pub fn choose(&mut self, node: u32, side: Side) -> Result<(), NoMemory>
         requires spread { IsSpread self.old.graph self.old.spread }
         requires node { IsOpenOr self.old.graph self.old.spread node }
@@ -393,7 +392,8 @@ impl<'a> Branch<'a> {
     /// `NoMemory` alone.
     ///
     /// Cost: for each of the given nodes, linear in the pairs of a node that it leads to and a lowest priority on the way,
-    /// each of which is visited once.
+    /// each of which is visited once. Where the sequent is one node of the lowest priority of the graph, no search is
+    /// made: its traces are read off the spread.
     pub fn traces_from(&mut self, diamond: u32, nodes: &[u32]) -> Result<Vec<Triple>, NoMemory>
         requires spread { IsSpreadOf self.old.graph self.old.sequent self.old.spread.choice self.old.spread }
         requires diamond { IsDiamondOf self.old.graph self.old.spread diamond }
@@ -402,6 +402,23 @@ impl<'a> Branch<'a> {
         ensures traces { IfOk result (λ traces. (t : Triple) → IsMember t traces.items
             ↔ (IsMember t.from nodes.now × IsTrace self.old.graph self.old.sequent self.old.spread diamond t)) }
     {
-        self.phase.traces_under(&self.choice, diamond, nodes)
+        let graph = self.phase.graph();
+        graph.keeps();
+        match nodes {
+            [from] if self.begins_all(*from) => {
+                triples_on(self.alloc, graph, &self.trail, diamond, *from)
+            }
+            _ => self.phase.traces_under(&self.choice, diamond, nodes),
+        }
+    }
+
+    // is the sequent one node, and does this one have the lowest priority of the graph?
+    fn begins_all(&self, node: u32) -> bool
+        requires { node < size self.now.graph }
+        ensures one { IsTrue result → length self.now.sequent ≡ 1 }
+        ensures lowest { IsTrue result → (n : ℕ) → n < size self.now.graph
+            → priority_at self.now.graph node ≤ priority_at self.now.graph n }
+    {
+        self.sequent.values().len() == 1 && self.phase.is_lowest(node)
     }
 }

@@ -172,6 +172,7 @@ fn with_pair(
     node: u32,
     side: Side,
 ) -> Result<Vec<(u32, Side)>, NoMemory>
+    requires { IsChoice pairs.now }
     ensures { IfOk result (λ longer. longer.items ≡ with_side pairs.now node side) }
 {
     let place = place_behind(pairs, node);
@@ -182,15 +183,15 @@ fn with_pair(
     Ok(longer)
 }
 
-/// How many pairs stand before the first one with a greater node.
+/// How many pairs stand before the first one with a greater node, looked for from the last one on.
 fn place_behind(pairs: &[(u32, Side)], node: u32) -> usize
+    requires { IsChoice pairs.now }
     ensures within { result ≤ length pairs.now }
     ensures split { (side : Side) → with_side pairs.now node side ≡ take result pairs.now ++ (node, side) ∷ drop result pairs.now }
 {
-    for (i, pair) in pairs.iter().enumerate() {
-        if node < pair.0 {
-            return i;
-        }
+    let mut place = pairs.len();
+    while place > 0 && node < pairs[place - 1].0 {
+        place -= 1;
     }
-    pairs.len()
+    place
 }

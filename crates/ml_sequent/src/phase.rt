@@ -1,6 +1,6 @@
 // The local phase of one graph, with memory that serves many calls.
-ghost use Rattle.std.specs.Prelude.{◌≡◌, ◌<◌, ◌↔◌, ℕ, List, IfOk, IsTrue, MatchOption, All, filter};
-ghost use Rattle.ml_graph.specs.Graph.{size, node_at};
+ghost use Rattle.std.specs.Prelude.{◌≡◌, ◌<◌, ◌≤◌, ◌↔◌, ℕ, List, IfOk, IsTrue, MatchOption, All, filter};
+ghost use Rattle.ml_graph.specs.Graph.{size, node_at, priority_at};
 ghost use Rattle.ml_sequent.specs.Choice.{with_side};
 ghost use Rattle.ml_sequent.specs.Spread.{SpreadList, IsSpread, IsSpreadOf, IsCause, IsOddCycle, IsOpenOr, IsLeastOpenOr, is_diamond};
 ghost use Rattle.ml_sequent.specs.FirstCause.{IsFirstCause};
@@ -76,6 +76,14 @@ impl<'a> LocalPhase<'a> {
         ensures { result.now ≡ self.now }
     {
         self.graph
+    }
+
+    /// Does the node have the lowest priority of the graph?
+    pub(crate) fn is_lowest(&self, node: u32) -> bool
+        requires { node < size self.now }
+        ensures { IsTrue result → (n : ℕ) → n < size self.now → priority_at self.now node ≤ priority_at self.now n }
+    {
+        self.levels.rank(node) == 0
     }
 
     /// Does the node have an odd priority, and lie on a closed local walk through nodes of no lower priority?

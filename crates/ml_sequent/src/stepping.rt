@@ -1,11 +1,11 @@
 // The step along a diamond, with its local traces, and its parts: the targets alone, and the traces from some nodes.
 ghost use Rattle.std.specs.Prelude.{◌≡◌, ◌<◌, ◌++◌, ◌↔◌, IfOk, OnOk, length, All};
 ghost use Rattle.std.specs.List.{flat_map, filter_map};
-ghost use Rattle.ml_graph.specs.Graph.{size, node_at};
+ghost use Rattle.ml_graph.specs.Graph.{size, node_at, priority_at};
 ghost use Rattle.ml_lists.specs.Ascending.{ascending};
 ghost use Rattle.ml_sequent.specs.Spread.{SpreadList, IsSpreadOf};
 ghost use Rattle.ml_sequent.specs.Step.{IsDiamondOf, IsStep};
-ghost use Rattle.ml_sequent.specs.private.Exits.{exit_of, exit_at, exits, action_of, AreTracesFrom};
+ghost use Rattle.ml_sequent.specs.private.Exits.{exit_of, exit_at, exits, triples_to, action_of, AreTracesFrom};
 ghost use Rattle.ml_sequent.specs.private.Reach.{IsRanked, HasRoom};
 
 use crate::choice::Choice;
@@ -66,6 +66,28 @@ fn push_exits(
     Ok(())
 }
 
+/// The nodes to which those of a trail lead out along a diamond, in the order of the trail.
+fn exits_on(
+    alloc: Global,
+    graph: &ModalGraph,
+    trail: &Trail,
+    diamond: u32,
+) -> Result<Vec<u32>, NoMemory>
+    requires room { trail.now.room ≡ size graph.now }
+    requires diamond { diamond < size graph.now }
+    ensures { IfOk result (λ nodes. nodes.items
+        ≡ filter_map (exit_at graph.now (action_of (node_at graph.now diamond)) diamond) trail.now.nodes) }
+{
+    let action = action_of(*graph.node(diamond));
+    let mut nodes = Vec::new(alloc);
+    for place in 0..trail.len() {
+        if let Some(to) = exit_of(graph, action, diamond, trail.node(place)) {
+            nodes.push(to)?;
+        }
+    }
+    Ok(nodes)
+}
+
 /// The nodes to which those of a trail lead out along a diamond.
 ///
 /// Cost: linear in the trail, and `n log n` in the nodes to which it leads.
@@ -80,14 +102,44 @@ pub(crate) fn targets_on(
     ensures { IfOk result (λ targets. targets
         ≡ ascending (filter_map (exit_at graph.now (action_of (node_at graph.now diamond)) diamond) trail.now.nodes)) }
 {
-    let action = action_of(*graph.node(diamond));
-    let mut targets = Vec::new(alloc);
-    for place in 0..trail.len() {
-        if let Some(to) = exit_of(graph, action, diamond, trail.node(place)) {
-            targets.push(to)?;
-        }
-    }
-    Ok(Sequent::of_members(targets))
+    let nodes = exits_on(alloc, graph, trail, diamond)?;
+    Ok(Sequent::of_members(nodes))
+}
+
+/// The triples from a node to each of these, with this lowest priority.
+fn triples_to(alloc: Global, from: u32, lowest: u32, nodes: &[u32]) -> Result<Vec<Triple>, NoMemory>
+    ensures { IfOk result (λ triples. triples.items ≡ triples_to from lowest nodes.now) }
+{
+    Ok(
+        nodes
+            .iter()
+            .map(|to| Triple {
+                from,
+                lowest,
+                to: *to,
+            })
+            .collect(alloc)?,
+    )
+}
+
+/// The triples from a node to where those of a trail lead out along a diamond, with its own priority.
+///
+/// Cost: linear in the trail.
+pub(crate) fn triples_on(
+    alloc: Global,
+    graph: &ModalGraph,
+    trail: &Trail,
+    diamond: u32,
+    from: u32,
+) -> Result<Vec<Triple>, NoMemory>
+    requires room { trail.now.room ≡ size graph.now }
+    requires diamond { diamond < size graph.now }
+    requires from { from < size graph.now }
+    ensures { IfOk result (λ triples. triples.items ≡ triples_to from (priority_at graph.now from)
+        (filter_map (exit_at graph.now (action_of (node_at graph.now diamond)) diamond) trail.now.nodes)) }
+{
+    let nodes = exits_on(alloc, graph, trail, diamond)?;
+    triples_to(alloc, from, graph.priority(from), &nodes)
 }
 
 /// The local traces from these nodes along a diamond.

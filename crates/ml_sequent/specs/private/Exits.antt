@@ -2,11 +2,12 @@
 --
 --   exit_of a d e x   == the child to which node e, which is x, leads out along the diamond d of action a, if it does
 --   exit_at g a d e   == that of the node e of the graph
+--   triples_to from lowest nodes == the triples from a node to these, with one lowest priority
 --   exits g prios a d from v == the triple that the place v gives, if its node leads out; v was reached from `from`
 --   action_of x       == the action of a Diamond
 --   IsTraceFrom g c a d t == some local walk from t.from with the lowest priority t.lowest leads out to t.to
 --   AreTracesFrom g c d nodes ts == ts are the triples of the local walks from these nodes that lead out along d
-use Rattle.std.specs.Prelude.{ℕ, ◌≡◌, ◌==◌, ◌↔◌, List, [], ◌∷◌, Option, Some, None, get_or, if◌then◌else◌}
+use Rattle.std.specs.Prelude.{ℕ, ◌≡◌, ◌==◌, ◌↔◌, List, [], ◌∷◌, Option, Some, None, get_or, if◌then◌else◌, map}
 use Rattle.ml_lists.specs.Member.{IsMember}
 use Rattle.ml_graph.specs.declared.node.Node.{Node}
 use Rattle.ml_graph.specs.declared.node.Node.TheVariants as node
@@ -34,6 +35,10 @@ exit_at g a d e = exit_of a d e (node_at g e)
 abbrev pub triple_to : (from lowest : ℕ) → Option ℕ → List Triple
 triple_to from lowest None = []
 triple_to from lowest (Some to) = record { from = from; lowest = lowest; to = to } ∷ []
+
+-- the triples from a node to these, with one lowest priority
+abbrev pub triples_to : (from lowest : ℕ) → List ℕ → List Triple
+triples_to from lowest nodes = map (λ to. record { from = from; lowest = lowest; to = to }) nodes
 
 abbrev pub exits : Graph → List ℕ → (a d from : ℕ) → Visit → List Triple
 exits g prios a d from v = triple_to from (get_or prios v.rank 0) (exit_of a d v.node (node_at g v.node))
