@@ -2,7 +2,7 @@
 // from state to state by their numbers, with ! behind those that accept.
 use ml_base::IdSet;
 use ml_graph::ModalGraph;
-use ml_trace::Transition;
+use ml_trace::{Letter, Transition};
 use ml_word_automaton::{WordAutomaton, automaton_of, letter_at};
 use std::alloc::Global;
 use std::test::Fail;
@@ -29,6 +29,25 @@ fn shown_states(alloc: Global, automaton: &WordAutomaton) -> Result<String, Fail
     Ok(out)
 }
 
+// a transition of the letter with these ends, if it has one, written behind
+fn push_transition(
+    alloc: Global,
+    letter: &Letter,
+    wanted: Transition,
+    out: &mut String,
+) -> Result<(), Fail> {
+    if letter.transitions().contains(&wanted) {
+        let Transition {
+            from,
+            to,
+            accepting,
+        } = wanted;
+        let sign = if accepting { "!" } else { "" };
+        out.push_str(format!(in alloc; "{from}>{to}{sign} ")?.as_str())?;
+    }
+    Ok(())
+}
+
 // the transitions under a letter, in order
 fn shown_letter(alloc: Global, automaton: &WordAutomaton, letters: &str) -> Result<String, Fail> {
     let letter = letter_at(automaton, &present(alloc, automaton.graph(), letters)?)?;
@@ -42,10 +61,7 @@ fn shown_letter(alloc: Global, automaton: &WordAutomaton, letters: &str) -> Resu
                     to,
                     accepting,
                 };
-                if letter.transitions().contains(&wanted) {
-                    let sign = if accepting { "!" } else { "" };
-                    out.push_str(format!(in alloc; "{from}>{to}{sign} ")?.as_str())?;
-                }
+                push_transition(alloc, &letter, wanted, &mut out)?;
             }
         }
     }
@@ -72,32 +88,55 @@ fn is_automaton(
     Ok(less.is_err() && shown_states(alloc, &automaton)?.as_str() == states)
 }
 
+// A text, is the problem negated, how many nodes its graph has at least, the states, and the transitions under letters.
+type Row = (
+    &'static str,
+    bool,
+    u32,
+    &'static str,
+    &'static [(&'static str, &'static str)],
+);
+
+const AUTOMATA: [Row; 4] = [
+    // node 0 waits for p along node 2, or p is true, and then nothing more is asked
+    (
+        "F p",
+        false,
+        5,
+        "0 4 ",
+        &[("", "0>0 1>1! "), ("p", "0>0 0>1! 1>1! ")],
+    ),
+    // node 2 is the constant, at which no walk ends, and node 3 the True that blocks share
+    ("X tt", false, 4, "0 1 3 ", &[("", "0>1! 1>2! 2>2! ")]),
+    // nothing leads past a constant that is false
+    ("ff", false, 3, "0 2 ", &[("", "1>1! ")]),
+    // where g and r differ at some place
+    (
+        "G(g <-> r)",
+        true,
+        12,
+        "0 10 ",
+        &[
+            ("", "0>0 1>1! "),
+            ("g", "0>0 0>1! 1>1! "),
+            ("r", "0>0 0>1! 1>1! "),
+            ("gr", "0>0 1>1! "),
+        ],
+    ),
+];
+
+// the place of the first problem with another automaton
+fn first_wrong(alloc: Global, rows: &[Row]) -> Result<Option<usize>, Fail> {
+    for (place, (text, negated, nodes, states, letters)) in rows.iter().enumerate() {
+        if !is_automaton(alloc, text, *negated, *nodes, states, letters)? {
+            return Ok(Some(place));
+        }
+    }
+    Ok(None)
+}
+
 #[test]
 fn states_and_letters(rt: HostRuntime) -> Result<(), Fail> {
-    let alloc = rt.alloc();
-    // node 0 waits for p along node 2, or p is true, and then nothing more is asked
-    let eventually = [("", "0>0 1>1! "), ("p", "0>0 0>1! 1>1! ")];
-    assert!(rt; is_automaton(alloc, "F p", false, 5, "0 4 ", &eventually)?);
-    // node 2 is the constant, at which no walk ends, and node 3 the True that blocks share
-    assert!(rt;
-        is_automaton(
-            alloc,
-            "X tt",
-            false,
-            4,
-            "0 1 3 ",
-            &[("", "0>1! 1>2! 2>2! ")]
-        )?
-    );
-    // nothing leads past a constant that is false
-    assert!(rt; is_automaton(alloc, "ff", false, 3, "0 2 ", &[("", "1>1! ")])?);
-    // where g and r differ at some place
-    let differ = [
-        ("", "0>0 1>1! "),
-        ("g", "0>0 0>1! 1>1! "),
-        ("r", "0>0 0>1! 1>1! "),
-        ("gr", "0>0 1>1! "),
-    ];
-    assert!(rt; is_automaton(alloc, "G(g <-> r)", true, 12, "0 10 ", &differ)?);
+    assert_eq!(rt; first_wrong(rt.alloc(), &AUTOMATA)?, None);
     Ok(())
 }

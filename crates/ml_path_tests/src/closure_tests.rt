@@ -8,6 +8,7 @@
 // Each graph begins with the root, which leads to the problem's node and to the node of which two parts say that each state
 // has an edge.
 use ml_blocks::{graph_of, ltl_graph_of};
+use ml_front::Logic;
 use ml_graph::{ModalGraph, Node};
 use std::alloc::Global;
 use std::test::Fail;
@@ -66,65 +67,90 @@ fn is_linear_graph(alloc: Global, text: &str, negated: bool, wanted: &str) -> Re
     Ok(less.is_err() && shown(alloc, &graph)?.as_str() == wanted)
 }
 
+// A logic, a text, is the problem negated, and its graph.
+type Row = (Logic, &'static str, bool, &'static str);
+
+// the place of the first problem with another graph
+fn first_wrong(alloc: Global, rows: &[Row]) -> Result<Option<usize>, Fail> {
+    for (place, (logic, text, negated, wanted)) in rows.iter().enumerate() {
+        let is_wanted = match *logic {
+            Logic::Ltl => is_linear_graph(alloc, text, *negated, wanted)?,
+            _ => is_graph(alloc, text, *negated, wanted)?,
+        };
+        if !is_wanted {
+            return Ok(Some(place));
+        }
+    }
+    Ok(None)
+}
+
+const STATE_FORMULAS: [Row; 6] = [
+    (
+        Logic::Ctl,
+        "tt",
+        false,
+        "1 & 2 (2)\ntt (2)\n3 & 4 (0)\n<> 5 (2)\n[] 2 (2)\ntt (2)\n",
+    ),
+    (
+        Logic::Ctl,
+        "p",
+        false,
+        "1 & 2 (2)\np (2)\n3 & 4 (0)\n<> 5 (2)\n[] 2 (2)\ntt (2)\n",
+    ),
+    (
+        Logic::Ctl,
+        "p",
+        true,
+        "1 & 2 (2)\n!p (2)\n3 & 4 (0)\n<> 5 (2)\n[] 2 (2)\ntt (2)\n",
+    ),
+    // both operands, or neither, and then the four literals
+    (
+        Logic::Ctl,
+        "p <-> q",
+        false,
+        "1 & 2 (2)\n3 | 4 (2)\n5 & 6 (0)\n7 & 8 (2)\n9 & 10 (2)\n<> 11 (2)\n[] 2 (2)\np (2)\nq (2)\n!p (2)\n!q (2)\ntt (2)\n",
+    ),
+    // node 3 waits for the next state, and node 6 asks p there
+    (
+        Logic::Ctl,
+        "E X p",
+        false,
+        "1 & 2 (2)\n3 & 3 (2)\n4 & 5 (0)\n<> 6 (0)\n<> 7 (2)\n[] 2 (2)\n8 & 7 (1)\ntt (2)\np (2)\n",
+    ),
+    // node 9 puts p off along each edge, which may not be done for ever
+    (
+        Logic::Ctl,
+        "A F p",
+        false,
+        "1 & 2 (2)\n3 & 3 (2)\n4 & 5 (0)\n6 | 6 (2)\n<> 7 (2)\n[] 2 (2)\n8 | 9 (2)\ntt (2)\np (2)\n[] 3 (1)\n",
+    ),
+];
+
 #[test]
 fn state_formulas(rt: HostRuntime) -> Result<(), Fail> {
-    let rows = [
-        (
-            "tt",
-            false,
-            "1 & 2 (2)\ntt (2)\n3 & 4 (0)\n<> 5 (2)\n[] 2 (2)\ntt (2)\n",
-        ),
-        (
-            "p",
-            false,
-            "1 & 2 (2)\np (2)\n3 & 4 (0)\n<> 5 (2)\n[] 2 (2)\ntt (2)\n",
-        ),
-        (
-            "p",
-            true,
-            "1 & 2 (2)\n!p (2)\n3 & 4 (0)\n<> 5 (2)\n[] 2 (2)\ntt (2)\n",
-        ),
-        // both operands, or neither, and then the four literals
-        (
-            "p <-> q",
-            false,
-            "1 & 2 (2)\n3 | 4 (2)\n5 & 6 (0)\n7 & 8 (2)\n9 & 10 (2)\n<> 11 (2)\n[] 2 (2)\np (2)\nq (2)\n!p (2)\n!q (2)\ntt (2)\n",
-        ),
-        // node 3 waits for the next state, and node 6 asks p there
-        (
-            "E X p",
-            false,
-            "1 & 2 (2)\n3 & 3 (2)\n4 & 5 (0)\n<> 6 (0)\n<> 7 (2)\n[] 2 (2)\n8 & 7 (1)\ntt (2)\np (2)\n",
-        ),
-        // node 9 puts p off along each edge, which may not be done for ever
-        (
-            "A F p",
-            false,
-            "1 & 2 (2)\n3 & 3 (2)\n4 & 5 (0)\n6 | 6 (2)\n<> 7 (2)\n[] 2 (2)\n8 | 9 (2)\ntt (2)\np (2)\n[] 3 (1)\n",
-        ),
-    ];
-    for (text, negated, wanted) in rows {
-        assert!(rt; is_graph(rt.alloc(), text, negated, wanted)?, "{text}");
-    }
+    assert_eq!(rt; first_wrong(rt.alloc(), &STATE_FORMULAS)?, None);
     Ok(())
 }
 
+const PATH_FORMULAS: [Row; 2] = [
+    // node 10 puts the whole off
+    (
+        Logic::Ltl,
+        "p U q",
+        false,
+        "1 & 2 (2)\n3 | 4 (1)\n5 & 6 (0)\n7 & 8 (1)\n9 & 10 (1)\n<> 8 (2)\n[] 2 (2)\nq (2)\ntt (2)\np (2)\n<> 1 (1)\n",
+    ),
+    // along the edge of node 10 F p came true, along that of node 7 it is put off
+    (
+        Logic::Ltl,
+        "G F p",
+        false,
+        "1 & 2 (2)\n3 & 3 (1)\n4 & 5 (0)\n6 | 7 (1)\n<> 8 (2)\n[] 2 (2)\n9 & 10 (1)\n<> 11 (1)\ntt (2)\np (2)\n<> 1 (0)\n3 & 3 (1)\n",
+    ),
+];
+
 #[test]
 fn path_formulas(rt: HostRuntime) -> Result<(), Fail> {
-    let rows = [
-        // node 10 puts the whole off
-        (
-            "p U q",
-            "1 & 2 (2)\n3 | 4 (1)\n5 & 6 (0)\n7 & 8 (1)\n9 & 10 (1)\n<> 8 (2)\n[] 2 (2)\nq (2)\ntt (2)\np (2)\n<> 1 (1)\n",
-        ),
-        // along the edge of node 10 F p came true, along that of node 7 it is put off
-        (
-            "G F p",
-            "1 & 2 (2)\n3 & 3 (1)\n4 & 5 (0)\n6 | 7 (1)\n<> 8 (2)\n[] 2 (2)\n9 & 10 (1)\n<> 11 (1)\ntt (2)\np (2)\n<> 1 (0)\n3 & 3 (1)\n",
-        ),
-    ];
-    for (text, wanted) in rows {
-        assert!(rt; is_linear_graph(rt.alloc(), text, false, wanted)?, "{text}");
-    }
+    assert_eq!(rt; first_wrong(rt.alloc(), &PATH_FORMULAS)?, None);
     Ok(())
 }

@@ -452,47 +452,53 @@ fn agree(alloc: Global, logic: Logic, world: &World, made: &Terms) -> Result<boo
     Ok(found.as_slice() == plain.as_slice())
 }
 
+// a formula that is drawn: of paths, and for CTL* below a quantifier
+fn drawn(alloc: Global, numbers: &mut Numbers, logic: Logic) -> Result<Terms, Fail> {
+    let count = numbers.below(4).saturating_add(2);
+    if logic != Logic::Ctl {
+        return Terms::random(alloc, numbers, count, 9);
+    }
+    let mut made = Terms::random(alloc, numbers, count, 11)?;
+    let last = made.terms.len().saturating_sub(1);
+    let quantifier = if numbers.below(2) == 0 { 9 } else { 10 };
+    made.add(alloc, quantifier, last, 0)?;
+    Ok(made)
+}
+
+// do they on a formula and a structure that are drawn? Where formulas are read on words, a state leads to one at most
+fn agree_on_drawn(alloc: Global, numbers: &mut Numbers, logic: Logic) -> Result<bool, Fail> {
+    let made = drawn(alloc, numbers, logic)?;
+    let is_word = logic == Logic::Word;
+    let states = numbers.below(if is_word { 3 } else { 2 }) as u32 + 1;
+    let world = World::random(alloc, numbers, states, !is_word)?;
+    agree(alloc, logic, &world, &made)
+}
+
+// the first of so many rounds in which they don't
+fn first_apart(alloc: Global, logic: Logic, seed: u64, rounds: u64) -> Result<Option<u64>, Fail> {
+    let mut numbers = Numbers::new(seed);
+    for round in 0..rounds {
+        if !agree_on_drawn(alloc, &mut numbers, logic)? {
+            return Ok(Some(round));
+        }
+    }
+    Ok(None)
+}
+
 #[test]
 fn path_formulas(rt: HostRuntime) -> Result<(), Fail> {
-    let alloc = rt.alloc();
-    let mut numbers = Numbers::new(1);
-    for round in 0_u64..30 {
-        let count = numbers.below(4).saturating_add(2);
-        let made = Terms::random(alloc, &mut numbers, count, 9)?;
-        let states = numbers.below(2) as u32 + 1;
-        let world = World::random(alloc, &mut numbers, states, true)?;
-        assert!(rt; agree(alloc, Logic::Ltl, &world, &made)?, "{round}");
-    }
+    assert_eq!(rt; first_apart(rt.alloc(), Logic::Ltl, 1, 30)?, None);
     Ok(())
 }
 
 #[test]
 fn state_formulas(rt: HostRuntime) -> Result<(), Fail> {
-    let alloc = rt.alloc();
-    let mut numbers = Numbers::new(2);
-    for round in 0_u64..30 {
-        let count = numbers.below(4).saturating_add(2);
-        let mut made = Terms::random(alloc, &mut numbers, count, 11)?;
-        let last = made.terms.len().saturating_sub(1);
-        let quantifier = if numbers.below(2) == 0 { 9 } else { 10 };
-        made.add(alloc, quantifier, last, 0)?;
-        let states = numbers.below(2) as u32 + 1;
-        let world = World::random(alloc, &mut numbers, states, true)?;
-        assert!(rt; agree(alloc, Logic::Ctl, &world, &made)?, "{round}");
-    }
+    assert_eq!(rt; first_apart(rt.alloc(), Logic::Ctl, 2, 30)?, None);
     Ok(())
 }
 
 #[test]
 fn words(rt: HostRuntime) -> Result<(), Fail> {
-    let alloc = rt.alloc();
-    let mut numbers = Numbers::new(3);
-    for round in 0_u64..60 {
-        let count = numbers.below(5).saturating_add(2);
-        let made = Terms::random(alloc, &mut numbers, count, 9)?;
-        let states = numbers.below(3) as u32 + 1;
-        let world = World::random(alloc, &mut numbers, states, false)?;
-        assert!(rt; agree(alloc, Logic::Word, &world, &made)?, "{round}");
-    }
+    assert_eq!(rt; first_apart(rt.alloc(), Logic::Word, 3, 60)?, None);
     Ok(())
 }

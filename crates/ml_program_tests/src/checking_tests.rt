@@ -63,33 +63,44 @@ fn agree_on(
     }
 }
 
-#[test]
-fn meaning_and_game_agree(rt: HostRuntime) -> Result<(), Fail> {
-    let alloc = rt.alloc();
+// do they on a formula and a structure that are drawn?
+fn agree_on_drawn(
+    alloc: Global,
+    numbers: &mut Numbers,
+    logic: Logic,
+) -> Result<Option<bool>, Fail> {
+    let text = match logic {
+        Logic::Pdl => of_pdl(alloc, numbers)?,
+        _ => of_the_mu_calculus(alloc, numbers)?,
+    };
+    let structure = random_structure(alloc, numbers)?;
+    agree_on(alloc, numbers, logic, &text, &structure)
+}
+
+// how many of so many texts are those of formulas, if they agree on all of these
+fn agreeing(alloc: Global, logic: Logic, texts: u32) -> Result<Option<u32>, Fail> {
     let mut numbers = Numbers::new(1);
     let mut formulas = 0_u32;
-    for _ in 0..800 {
-        let text = of_the_mu_calculus(alloc, &mut numbers)?;
-        let structure = random_structure(alloc, &mut numbers)?;
-        if let Some(agree) = agree_on(alloc, &mut numbers, Logic::Mu, &text, &structure)? {
-            assert!(rt; agree, "{text:?}");
-            formulas = formulas.saturating_add(1);
+    for _ in 0..texts {
+        match agree_on_drawn(alloc, &mut numbers, logic)? {
+            Some(true) => formulas = formulas.saturating_add(1),
+            Some(false) => return Ok(None),
+            None => {}
         }
     }
-    assert!(rt; formulas > 300, "{formulas}");
+    Ok(Some(formulas))
+}
+
+#[test]
+fn meaning_and_game_agree(rt: HostRuntime) -> Result<(), Fail> {
+    let formulas = agreeing(rt.alloc(), Logic::Mu, 800)?;
+    assert!(rt; formulas > Some(300), "{formulas:?}");
     Ok(())
 }
 
 #[test]
 fn meaning_and_game_of_pdl_agree(rt: HostRuntime) -> Result<(), Fail> {
-    let alloc = rt.alloc();
-    let mut numbers = Numbers::new(1);
-    for _ in 0..400 {
-        let text = of_pdl(alloc, &mut numbers)?;
-        let structure = random_structure(alloc, &mut numbers)?;
-        let agree = agree_on(alloc, &mut numbers, Logic::Pdl, &text, &structure)?;
-        assert_eq!(rt; agree, Some(true), "{text:?}");
-    }
+    assert_eq!(rt; agreeing(rt.alloc(), Logic::Pdl, 400)?, Some(400));
     Ok(())
 }
 

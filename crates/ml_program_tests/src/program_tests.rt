@@ -7,8 +7,8 @@ use ml_driver::{Status, run};
 use std::alloc::{AllocError, Global};
 use std::test::Fail;
 
-const LITERALS: &str =
-    "mlsolver 2\nanswer satisfiable\nlogic mu\nsense plain\nformula (p & !q)\nstates 1\nstart 0\nstate 0 p\nend\n";
+const LITERALS: &'static [u8] =
+    b"mlsolver 2\nanswer satisfiable\nlogic mu\nsense plain\nformula (p & !q)\nstates 1\nstart 0\nstate 0 p\nend\n";
 
 fn words_of(alloc: Global, line: &str) -> Result<Vec<String>, AllocError> {
     let mut words = Vec::new(alloc);
@@ -40,60 +40,99 @@ fn answer(
     Ok((status.code(), Vec::from_slice(alloc, sink.taken())?))
 }
 
-#[test]
-fn single_bytes(rt: HostRuntime) -> Result<(), Fail> {
-    let (code, taken) = answer(rt.alloc(), "decide mu", b"p & !q", 1, &[], &[])?;
-    assert_eq!(rt; code, 0);
-    assert_eq!(rt; taken.as_slice(), LITERALS.as_bytes());
-    let (code, taken) = answer(rt.alloc(), "check-model", LITERALS.as_bytes(), 1, &[], &[])?;
-    assert_eq!(rt; code, 0);
-    assert_eq!(rt; taken.as_slice(), b"holds\n".as_slice());
-    Ok(())
+// The words of a call, its input, the size of the pieces, which of its reads and writes fail, and its status and output.
+type Call = (
+    &'static str,
+    &'static [u8],
+    u32,
+    &'static [u64],
+    &'static [u64],
+    u8,
+    &'static [u8],
+);
+
+const CALLS: [Call; 6] = [
+    ("decide mu", b"p & !q", 1, &[], &[], 0, LITERALS),
+    ("check-model", LITERALS, 1, &[], &[], 0, b"holds\n"),
+    ("decide mu", b"p & !q", 10, &[2], &[], 5, b""),
+    ("decide mu", b"p & !q", 10, &[], &[2], 6, b"mlsolver 2"),
+    ("decide", b"p & !q", 10, &[1], &[1], 6, b""),
+    ("gen and 1", b"p & !q", 10, &[1], &[], 0, b"p1\n"),
+];
+
+// Is the call answered so?
+fn is_answered(alloc: Global, call: &Call) -> Result<bool, Fail> {
+    let (words, text, piece, read_fails, write_fails, status, output) = *call;
+    if piece == 0 {
+        return Ok(false);
+    }
+    let (code, taken) = answer(alloc, words, text, piece, read_fails, write_fails)?;
+    Ok(code == status && taken.as_slice() == output)
+}
+
+// The place of the first call that isn't.
+fn first_wrong(alloc: Global, calls: &[Call]) -> Result<Option<usize>, Fail> {
+    for (place, call) in calls.iter().enumerate() {
+        if !is_answered(alloc, call)? {
+            return Ok(Some(place));
+        }
+    }
+    Ok(None)
 }
 
 #[test]
-fn faults(rt: HostRuntime) -> Result<(), Fail> {
-    let text = b"p & !q";
-    let (code, taken) = answer(rt.alloc(), "decide mu", text, 10, &[2], &[])?;
-    assert_eq!(rt; code, 5);
-    assert_eq!(rt; taken.len(), 0);
-    let (code, taken) = answer(rt.alloc(), "decide mu", text, 10, &[], &[2])?;
-    assert_eq!(rt; code, 6);
-    assert_eq!(rt; taken.as_slice(), b"mlsolver 2".as_slice());
-    let (code, taken) = answer(rt.alloc(), "decide", text, 10, &[1], &[1])?;
-    assert_eq!(rt; code, 6);
-    assert_eq!(rt; taken.len(), 0);
-    let (code, taken) = answer(rt.alloc(), "gen and 1", text, 10, &[1], &[])?;
-    assert_eq!(rt; code, 0);
-    assert_eq!(rt; taken.as_slice(), b"p1\n".as_slice());
+fn pieces_and_faults(rt: HostRuntime) -> Result<(), Fail> {
+    assert_eq!(rt; first_wrong(rt.alloc(), &CALLS)?, None);
     assert_eq!(rt; Status::NoMemory.code(), 7);
     Ok(())
 }
 
-// the six bytes of the text come one by one, and the seventh call gives the end
-#[test]
-fn each_read_fails(rt: HostRuntime) -> Result<(), Fail> {
-    for k in 1..9_u64 {
-        let (code, taken) = answer(rt.alloc(), "decide mu", b"p & !q", 1, &[k], &[])?;
-        if k <= 7 {
-            assert_eq!(rt; code, 5);
-            assert_eq!(rt; taken.len(), 0);
-        } else {
-            assert_eq!(rt; code, 0);
-            assert_eq!(rt; taken.as_slice(), LITERALS.as_bytes());
+// Is it right where the read of this number fails? The six bytes of the text come one by one, and the seventh call gives
+// the end.
+fn is_right_read(alloc: Global, k: u64) -> Result<bool, Fail> {
+    let (code, taken) = answer(alloc, "decide mu", b"p & !q", 1, &[k], &[])?;
+    if k <= 7 {
+        Ok(code == 5 && taken.is_empty())
+    } else {
+        Ok(code == 0 && taken.as_slice() == LITERALS)
+    }
+}
+
+// The first read below a bound where it isn't.
+fn first_wrong_read(alloc: Global, bound: u64) -> Result<Option<u64>, Fail> {
+    for k in 1..bound {
+        if !is_right_read(alloc, k)? {
+            return Ok(Some(k));
         }
     }
+    Ok(None)
+}
+
+#[test]
+fn each_read_fails(rt: HostRuntime) -> Result<(), Fail> {
+    assert_eq!(rt; first_wrong_read(rt.alloc(), 9)?, None);
     Ok(())
 }
 
-// the document's 99 bytes are taken one by one
+// Is it right where the write of this number fails? The document's 99 bytes are taken one by one.
+fn is_right_write(alloc: Global, k: u64) -> Result<bool, Fail> {
+    let (code, taken) = answer(alloc, "decide mu", b"p & !q", 1, &[], &[k])?;
+    let status = if k <= 99 { 6 } else { 0 };
+    Ok(code == status && taken.len() as u64 == k.saturating_sub(1) && LITERALS.starts_with(&taken))
+}
+
+// The first write below a bound where it isn't.
+fn first_wrong_write(alloc: Global, bound: u64) -> Result<Option<u64>, Fail> {
+    for k in 1..bound {
+        if !is_right_write(alloc, k)? {
+            return Ok(Some(k));
+        }
+    }
+    Ok(None)
+}
+
 #[test]
 fn each_write_fails(rt: HostRuntime) -> Result<(), Fail> {
-    for k in 1..101_u64 {
-        let (code, taken) = answer(rt.alloc(), "decide mu", b"p & !q", 1, &[], &[k])?;
-        assert_eq!(rt; code, if k <= 99 { 6 } else { 0 });
-        assert_eq!(rt; taken.len() as u64, k - 1);
-        assert!(rt; LITERALS.as_bytes().starts_with(&taken));
-    }
+    assert_eq!(rt; first_wrong_write(rt.alloc(), 101)?, None);
     Ok(())
 }

@@ -15,6 +15,31 @@ fn transition(from: u32, to: u32, accepting: bool) -> Transition {
     }
 }
 
+// The transitions of the letter of one triple.
+const OF_ONE_TRIPLE: [Transition; 3] = [
+    Transition {
+        from: 0,
+        to: 8,
+        accepting: false,
+    },
+    Transition {
+        from: 0,
+        to: 9,
+        accepting: false,
+    },
+    Transition {
+        from: 1,
+        to: 9,
+        accepting: true,
+    },
+];
+
+// Are these all transitions of the letter, in any order?
+fn are_these(letter: &Letter, wanted: &[Transition]) -> bool {
+    let transitions = letter.transitions();
+    transitions.len() == wanted.len() && wanted.iter().all(|one| transitions.contains(one))
+}
+
 #[test]
 fn letter_of_one_triple(rt: HostRuntime) -> Result<(), Fail> {
     let triple = Triple {
@@ -25,37 +50,31 @@ fn letter_of_one_triple(rt: HostRuntime) -> Result<(), Fail> {
     let traces = LocalTraces::new([triple].to_vec(rt.alloc())?);
     assert_eq!(rt; traces.triples().len(), 1);
     let letter = letter_of(rt.alloc(), traces, &[1])?;
-    let rows = [
-        (transition(0, 8, false), true),
-        (transition(0, 9, false), true),
-        (transition(1, 9, true), true),
-        (transition(1, 9, false), false),
-        (transition(1, 8, false), false),
-    ];
-    for (wanted, is_there) in rows {
-        assert_eq!(rt;
-            letter.transitions().contains(&wanted),
-            is_there,
-            "{wanted:?}"
-        );
-    }
-    assert_eq!(rt; letter.transitions().len(), 3);
+    assert!(rt; are_these(&letter, &OF_ONE_TRIPLE));
     Ok(())
+}
+
+// A node, an odd priority that was guessed there, and the number of this state where the odd priorities are 1 and 5.
+const NUMBERS: [(u32, Option<u32>, u32); 5] = [
+    (0, None, 0),
+    (0, Some(1), 1),
+    (0, Some(5), 2),
+    (4, None, 12),
+    (4, Some(5), 14),
+];
+
+// Is this the state with each of the numbers?
+fn are_states(rows: &[(u32, Option<u32>, u32)]) -> bool {
+    rows.iter().all(|(node, odd, number)| state_of(*number, &[1, 5])
+        == AutomatonState {
+            node: *node,
+            odd: *odd,
+        })
 }
 
 #[test]
 fn states_have_numbers(rt: HostRuntime) {
-    let rows = [
-        (0, None, 0),
-        (0, Some(1), 1),
-        (0, Some(5), 2),
-        (4, None, 12),
-        (4, Some(5), 14),
-    ];
-    for (node, odd, wanted) in rows {
-        let state = AutomatonState { node, odd };
-        assert!(rt; state_of(wanted, &[1, 5]) == state, "{state:?}");
-    }
+    assert!(rt; are_states(&NUMBERS));
     let state = AutomatonState {
         node: 4,
         odd: Some(5),
