@@ -46,6 +46,8 @@ fn a_line_and_its_words(rt: HostRuntime) -> Result<(), Fail> {
     assert!(rt; is_split(b"edge 0 _ 1\nend", b"edge 0 _ 1", b"end"));
     assert!(rt; are_words(b"edge 0 _ 1", [b"edge", b"0", b"_", b"1"]));
     let (_, behind) = more_words(b"edge 0 _ 1").ok_or("more words")?;
-    assert!(rt; behind == b"0 _ 1" && one_word(b"end").is_some() && split_line(b"end").is_none());
+    assert!(rt;
+        behind == b"0 _ 1".as_slice() && one_word(b"end").is_some() && split_line(b"end").is_none()
+    );
     Ok(())
 }
