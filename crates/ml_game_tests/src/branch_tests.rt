@@ -6,56 +6,10 @@ ghost use Rattle.ml_sequent.specs.Spread.{IsSpread, IsOpenOr};
 use crate::random_graphs::random_graph;
 use crate::sequent_tests::sequent_of;
 use ml_graph::ModalGraph;
-use ml_sequent::{Branch, Sequent, Side, Spread, clash, diamonds, open_or, spread};
+use ml_sequent::{Branch, Sequent, Side, clash, diamonds, open_or, spread};
 use ml_tests::numbers::Numbers;
 use std::alloc::Global;
 use std::test::Fail;
-
-// Does it clash as the spread does?
-fn clashes_alike(
-    alloc: Global,
-    graph: &ModalGraph,
-    branch: &mut Branch,
-    wanted: &Spread,
-) -> Result<bool, Fail>
-    requires spread { IsSpread branch.old.graph branch.old.spread }
-    requires wanted { IsSpread graph.now wanted.now }
-    ensures { OnOk result (branch.new ≡ branch.old) }
-{
-    let cause = clash(alloc, graph, wanted)?;
-    Ok(branch.clash()? == cause && branch.is_clashing()? == cause.is_some())
-}
-
-// Do diamonds lead on as in the spread?
-fn leads_alike(
-    alloc: Global,
-    graph: &ModalGraph,
-    branch: &Branch,
-    wanted: &Spread,
-) -> Result<bool, Fail>
-    requires spread { IsSpread branch.now.graph branch.now.spread }
-    requires wanted { IsSpread graph.now wanted.now }
-{
-    let found = branch.diamonds()?;
-    Ok(found == diamonds(alloc, graph, wanted)?)
-}
-
-// Does the branch answer as this spread does?
-fn answers_as(
-    alloc: Global,
-    graph: &ModalGraph,
-    branch: &mut Branch,
-    wanted: &Spread,
-) -> Result<bool, Fail>
-    requires spread { IsSpread branch.old.graph branch.old.spread }
-    requires wanted { IsSpread graph.now wanted.now }
-    ensures { OnOk result (branch.new ≡ branch.old) }
-{
-    if branch.open_or() != open_or(graph, wanted) || !clashes_alike(alloc, graph, branch, wanted)? {
-        return Ok(false);
-    }
-    Ok(leads_alike(alloc, graph, branch, wanted)? && branch.spread()?.nodes() == wanted.nodes())
-}
 
 // Does the branch answer as the functions do of the spread that they make?
 fn answers_alike(alloc: Global, graph: &ModalGraph, branch: &mut Branch) -> Result<bool, Fail>
@@ -66,7 +20,17 @@ fn answers_alike(alloc: Global, graph: &ModalGraph, branch: &mut Branch) -> Resu
         return Err(Fail::new("no such node"));
     };
     let wanted = spread(alloc, graph, &sequent, branch.choice())?;
-    answers_as(alloc, graph, branch, &wanted)
+    let cause = clash(alloc, graph, &wanted)?;
+    if branch.clash()? != cause || branch.is_clashing()? != cause.is_some() {
+        return Ok(false);
+    }
+    if branch.open_or() != open_or(graph, &wanted) {
+        return Ok(false);
+    }
+    if branch.diamonds()? != diamonds(alloc, graph, &wanted)? {
+        return Ok(false);
+    }
+    Ok(branch.spread()?.nodes() == wanted.nodes())
 }
 
 // Does it answer so here, and with sides more at or-nodes that are drawn?
