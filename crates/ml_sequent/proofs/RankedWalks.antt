@@ -9,7 +9,7 @@
 --   looked_up, never_missed == a binary search finds a member of an ascending list
 --   Traced, traced   == a way of the search is a local walk, of which it keeps the rank of the lowest priority
 --   Ranked, ranked   == a local walk is a way of the search
-use Rattle.std.proofs.Common.{ℕ, ◌≡◌, ◌<◌, ◌≤◌, inl, inr, ⊎_elim, min, List, [], ◌∷◌, length, get_or, Option, Some, None, refl}
+use Rattle.std.proofs.Common.{ℕ, ◌≡◌, ◌<◌, ◌≤◌, ◌↔◌, inl, inr, ⊎_elim, min, List, [], ◌∷◌, length, get_or, Option, Some, None, refl}
 use Rattle.std.proofs.Common.{sym, ap, ◌∙◌, subst, arith, All, Ok, Err}
 use Rattle.std.proofs.lemmas.Bool.{cases_eq, cases_lt}
 use Rattle.std.proofs.lemmas.List.Elements.{All-nil, All-cons}
@@ -20,7 +20,7 @@ use Rattle.ml_base.proofs.IdSets.{search_member}
 use Rattle.ml_lists.specs.Ascending.{IsAscending}
 use Rattle.ml_lists.specs.Member.{IsMember}
 use Rattle.ml_lists.proofs.Ascending.{ascending-apart}
-use Rattle.ml_lists.proofs.Member.{Image, member-map, member-map_from, All-member}
+use Rattle.ml_lists.proofs.Member.{Image, member-map, member-map_from, All-member, member-place, place-member}
 use Rattle.ml_graph.specs.declared.node.Node.{Node}
 use Rattle.ml_graph.specs.declared.node.Node.TheVariants as node
 use Rattle.ml_graph.specs.Graph.{Graph, IsGraph, size, node_at, priority_at}
@@ -102,17 +102,29 @@ level_order xs i j up i_low j_low order = ⊎_elim
     (λ (more : i ≤ j). more)
     (cases_lt j i)
 
--- a node of the lowest rank has the lowest priority
-pub lowest_rank : (g : Graph) (levels : LevelList) (n m : ℕ) → IsRanked g levels → n < size g → m < size g
-    → get_or levels.ranks n 0 ≡ 0
-    → priority_at g n ≤ priority_at g m
-lowest_rank g levels n m is n_low m_low zero =
-    let order =
-    no_later levels.priorities (get_or levels.ranks n 0) (get_or levels.ranks m 0) is.ascends (omega arith) (is.low m m_low)
-    in
-    let first = is.right n n_low in
-    let second = is.right m m_low in
-    omega arith
+-- the nodes of the lowest rank are those of the lowest priority
+pub lowest_rank : (g : Graph) (levels : LevelList) (n : ℕ) → IsRanked g levels → length g.priorities ≡ size g → n < size g
+    → (get_or levels.ranks n 0 ≡ 0) ↔ ((m : ℕ) → m < size g → priority_at g n ≤ priority_at g m)
+lowest_rank g levels n is all n_low = (
+  λ none m m_low.
+      let order =
+      no_later levels.priorities (get_or levels.ranks n 0) (get_or levels.ranks m 0) is.ascends (omega arith) (is.low m m_low)
+      in
+      let first = is.right n n_low in
+      let second = is.right m m_low in
+      omega arith,
+  λ least.
+      let low = is.low n n_low in
+      let first = get_or levels.priorities 0 0 in
+      let at = member-place first g.priorities (is.occur first (place-member levels.priorities 0 0 (omega arith))) in
+      let here = at.holds 0 in
+      let least_here = least at.place (omega (arith, at.below)) in
+      let own = is.right n n_low in
+      let none =
+      level_order levels.priorities (get_or levels.ranks n 0) 0 is.ascends low (omega arith) (omega (arith, here, least_here))
+      in
+      omega arith,
+)
 
 -- where a local walk leads is a node
 pub walk_below : (g : Graph) (c : List (ℕ × Side))

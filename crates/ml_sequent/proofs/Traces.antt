@@ -6,12 +6,12 @@
 --   exit_leads, leads_exit == to lead out along a diamond, as the program tells it and as the step says it
 --   sequent_low     == the nodes of a sequent that has a spread are nodes
 --   diamond_of      == a node that passes the test is a diamond
---   along_ok        == a step of each spread under a choice is one of the spread in hand
 --   trace_told, told_trace == a local walk from a node of the sequent that leads out is a trace, and the other way round
 --   step_is         == such triples and their targets are a step
 --   leading_more, leading_same == where the nodes of a list lead out, with one more
 --   targets_are, targets_told == the nodes to which those of the spread lead out are the targets
 --   traces_are_from, along_from == and the triples from some nodes of the sequent are the traces that begin there
+--   step_of         == the targets, with the traces from all nodes of the sequent, are a step
 --   lone_traces     == where a node leads to the nodes of a list alone, and no priority is below its own, their exits are its traces
 --   lone_ok         == so they are where a sequent is one node
 use Rattle.std.proofs.Common.{ℕ, ◌≡◌, ◌+◌, ◌<◌, ◌≤◌, ◌⊎◌, inl, inr, ⊎_elim, ◌↔◌, ◌==◌, min, true, List, [], ◌∷◌, ◌++◌, map, length}
@@ -470,17 +470,17 @@ pub sequent_low : (g : Graph) (C : List ℕ) (sp : SpreadList) (n : ℕ)
 sequent_low g C sp n of h =
     of.low n ((of.nodes n).1 (record { from = n; member = h; lowest = priority_at g n; walk = stays n }))
 
--- a step of each spread under a choice is one of the spread in hand
-pub along_ok : {E : Type 0} → (g : Graph) (C : List ℕ) (c : List (ℕ × Side)) (d : ℕ) (sp : SpreadList)
-    (answer : Result (List ℕ × List Triple) E)
-    → c ≡ sp.choice
-    → IsSpreadOf g C sp.choice sp
-    → IsDiamondOf g sp d
-    → IfOk answer (λ made. (sp2 : SpreadList) → c ≡ sp2.choice → IsSpreadOf g C sp2.choice sp2 → IsDiamondOf g sp2 d
-    → IsStep g C sp2 d made.0 made.1)
-    → IfOk answer (λ made. IsStep g C sp d made.0 made.1)
-along_ok g C c d sp (Ok made) same of diamond all = all sp same of diamond
-along_ok g C c d sp (Err e) same of diamond all = all
+-- the targets, with the traces from all nodes of the sequent, are a step
+pub step_of : (g : Graph) (C : List ℕ) (sp : SpreadList) (d : ℕ) (targets : List ℕ) (traces : List Triple)
+    → IsAscending targets
+    → ((m : ℕ) → IsMember m targets ↔ IsTarget g sp d m)
+    → ((t : Triple) → IsMember t traces ↔ (IsMember t.from C × IsTrace g C sp d t))
+    → IsStep g C sp d targets traces
+step_of g C sp d targets traces ascends leads begins = record {
+  ascends = ascends;
+  targets = leads;
+  traces = λ t. (λ h. ((begins t).0 h).1, λ w. (begins t).1 (w.from, w));
+}
 
 -- and the triples that a call answers from some nodes of the sequent are the traces that begin there
 pub along_from : {E : Type 0} → (g : Graph) (C : List ℕ) (sp : SpreadList) (d : ℕ) (nodes : List ℕ)

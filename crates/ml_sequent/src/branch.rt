@@ -1,6 +1,6 @@
 // A branch of a decision: a sequent, the sides chosen so far, and its spread, which grows with each choice.
-ghost use Rattle.std.specs.Prelude.{◌≡◌, ◌<◌, ◌≤◌, ◌↔◌, ℕ, List, [], ◌∷◌, IfOk, OnOk, IsTrue, MatchOption, All, filter, length};
-ghost use Rattle.ml_graph.specs.Graph.{size, node_at, priority_at};
+ghost use Rattle.std.specs.Prelude.{◌≡◌, ◌<◌, ◌↔◌, ℕ, List, [], ◌∷◌, IfOk, OnOk, IsTrue, MatchOption, All, filter};
+ghost use Rattle.ml_graph.specs.Graph.{size, node_at};
 ghost use Rattle.ml_lists.specs.Ascending.{IsAscending};
 ghost use Rattle.ml_lists.specs.Member.{IsMember};
 ghost use Rattle.ml_sequent.specs.Branch.{undone};
@@ -23,7 +23,7 @@ use crate::phase::LocalPhase;
 use crate::questions::{diamonds_on, is_diamond, is_open};
 use crate::sequent::Sequent;
 use crate::spreads::Spread;
-use crate::stepping::{targets_on, triples_on};
+use crate::stepping::targets_on;
 use crate::taken::Taken;
 use crate::trail::Trail;
 use ml_base::NoMemory;
@@ -359,15 +359,22 @@ impl<'a> Branch<'a> {
     /// # Errors
     /// `NoMemory` alone.
     ///
-    /// Cost: for each node of the sequent, linear in the pairs of a node of the spread and a lowest priority, each of which
-    /// is visited once.
+    /// Cost: that of `targets` and of `traces_from` for the nodes of the sequent.
     pub fn step(&mut self, diamond: u32) -> Result<(Sequent, LocalTraces), NoMemory>
         requires spread { IsSpreadOf self.old.graph self.old.sequent self.old.spread.choice self.old.spread }
         requires diamond { IsDiamondOf self.old.graph self.old.spread diamond }
         ensures same { self.new ≡ self.old }
         ensures step { IfOk result (λ made. IsStep self.old.graph self.old.sequent self.old.spread diamond made.0 made.1) }
     {
-        self.phase.step_under(&self.sequent, &self.choice, diamond)
+        let targets = self.targets(diamond)?;
+        let traces = self.phase.traces_on(
+            &self.sequent,
+            &self.choice,
+            &self.trail,
+            diamond,
+            self.sequent.values(),
+        )?;
+        Ok((targets, LocalTraces::new(traces)))
     }
 
     /// The nodes that have to hold behind a diamond of the spread: the targets of the step along it.
@@ -402,23 +409,7 @@ impl<'a> Branch<'a> {
         ensures traces { IfOk result (λ traces. (t : Triple) → IsMember t traces.items
             ↔ (IsMember t.from nodes.now × IsTrace self.old.graph self.old.sequent self.old.spread diamond t)) }
     {
-        let graph = self.phase.graph();
-        graph.keeps();
-        match nodes {
-            [from] if self.begins_all(*from) => {
-                triples_on(self.alloc, graph, &self.trail, diamond, *from)
-            }
-            _ => self.phase.traces_under(&self.choice, diamond, nodes),
-        }
-    }
-
-    // is the sequent one node, and does this one have the lowest priority of the graph?
-    fn begins_all(&self, node: u32) -> bool
-        requires { node < size self.now.graph }
-        ensures one { IsTrue result → length self.now.sequent ≡ 1 }
-        ensures lowest { IsTrue result → (n : ℕ) → n < size self.now.graph
-            → priority_at self.now.graph node ≤ priority_at self.now.graph n }
-    {
-        self.sequent.values().len() == 1 && self.phase.is_lowest(node)
+        self.phase
+            .traces_on(&self.sequent, &self.choice, &self.trail, diamond, nodes)
     }
 }

@@ -1,6 +1,6 @@
 // The priorities of a graph, ranked.
 ghost use Rattle.std.specs.Prelude.{◌≡◌, ◌<◌, ◌^◌, IfOk, length, get_or};
-ghost use Rattle.ml_graph.specs.Graph.{size, priority_at};
+ghost use Rattle.ml_graph.specs.Graph.{size};
 ghost use Rattle.ml_lists.specs.Ascending.{IsAscending, ascending};
 ghost use Rattle.ml_lists.specs.Member.{IsMember};
 ghost use Rattle.ml_sequent.specs.private.Reach.{IsRanked};

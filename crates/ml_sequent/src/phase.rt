@@ -1,12 +1,14 @@
 // The local phase of one graph, with memory that serves many calls.
-ghost use Rattle.std.specs.Prelude.{◌≡◌, ◌<◌, ◌≤◌, ◌↔◌, ℕ, List, IfOk, IsTrue, MatchOption, All, filter};
-ghost use Rattle.ml_graph.specs.Graph.{size, node_at, priority_at};
+ghost use Rattle.std.specs.Prelude.{◌≡◌, ◌<◌, ◌↔◌, ℕ, List, IfOk, IsTrue, MatchOption, All, filter};
+ghost use Rattle.ml_graph.specs.Graph.{size, node_at};
+ghost use Rattle.ml_lists.specs.Member.{IsMember};
 ghost use Rattle.ml_sequent.specs.Choice.{with_side};
-ghost use Rattle.ml_sequent.specs.Spread.{SpreadList, IsSpread, IsSpreadOf, IsCause, IsOddCycle, IsOpenOr, IsLeastOpenOr, is_diamond};
+ghost use Rattle.ml_sequent.specs.Spread.{IsSpread, IsSpreadOf, IsCause, IsOddCycle, IsOpenOr, IsLeastOpenOr, is_diamond};
 ghost use Rattle.ml_sequent.specs.FirstCause.{IsFirstCause};
 ghost use Rattle.ml_sequent.specs.declared.clashes.ClashCause.{ClashCause};
 ghost use Rattle.ml_sequent.specs.Step.{IsDiamondOf, IsStep};
 ghost use Rattle.ml_sequent.specs.private.Exits.{AreTracesFrom};
+ghost use Rattle.ml_sequent.specs.private.Trails.{spread_at};
 
 use crate::checking::is_cause_by;
 use crate::choice::{Choice, Side};
@@ -19,7 +21,8 @@ use crate::questions::{diamonds, open_or};
 use crate::reach::Reach;
 use crate::sequent::Sequent;
 use crate::spreads::Spread;
-use crate::stepping::{step_along, step_by, traces_along};
+use crate::stepping::{begins_all, step_by, traces_along, triples_on};
+use crate::trail::Trail;
 use ml_base::NoMemory;
 use ml_graph::ModalGraph;
 use ml_trace::{LocalTraces, Triple};
@@ -78,14 +81,6 @@ impl<'a> LocalPhase<'a> {
         self.graph
     }
 
-    /// Does the node have the lowest priority of the graph?
-    pub(crate) fn is_lowest(&self, node: u32) -> bool
-        requires { node < size self.now }
-        ensures { IsTrue result → (n : ℕ) → n < size self.now → priority_at self.now node ≤ priority_at self.now n }
-    {
-        self.levels.rank(node) == 0
-    }
-
     /// Does the node have an odd priority, and lie on a closed local walk through nodes of no lower priority?
     pub(crate) fn on_odd_cycle(&mut self, choice: &Choice, node: u32) -> Result<bool, NoMemory>
         requires { node < size self.old }
@@ -95,53 +90,38 @@ impl<'a> LocalPhase<'a> {
         on_odd_cycle(self.graph, choice, &self.levels, node, &mut self.reach)
     }
 
-    /// As `step`, where the choice of the spread is given.
-    pub(crate) fn step_under(
+    /// The local traces along a diamond that begin at these nodes of a sequent, of which the trail holds the spread.
+    pub(crate) fn traces_on(
         &mut self,
         sequent: &Sequent,
         choice: &Choice,
-        diamond: u32,
-    ) -> Result<(Sequent, LocalTraces), NoMemory>
-        requires low { All (λ n. n < size self.old) sequent.now }
-        requires diamond { diamond < size self.old }
-        ensures graph { self.new ≡ self.old }
-        ensures step { IfOk result (λ made. (sp : SpreadList) → choice.now ≡ sp.choice
-            → IsSpreadOf self.old sequent.now sp.choice sp
-            → IsDiamondOf self.old sp diamond
-            → IsStep self.old sequent.now sp diamond made.0 made.1) }
-    {
-        step_along(
-            self.alloc,
-            self.graph,
-            &self.levels,
-            &mut self.reach,
-            sequent,
-            choice,
-            diamond,
-        )
-    }
-
-    /// The local traces along a diamond from these nodes, where the choice of the spread is given.
-    pub(crate) fn traces_under(
-        &mut self,
-        choice: &Choice,
+        trail: &Trail,
         diamond: u32,
         nodes: &[u32],
     ) -> Result<Vec<Triple>, NoMemory>
-        requires nodes { All (λ n. n < size self.old) nodes.now }
+        requires trail { trail.now.room ≡ size self.old }
+        requires spread { IsSpreadOf self.old sequent.now choice.now (spread_at trail.now.nodes choice.now) }
+        requires nodes { All (λ n. IsMember n sequent.now) nodes.now }
         requires diamond { diamond < size self.old }
         ensures graph { self.new ≡ self.old }
         ensures traces { IfOk result (λ traces. AreTracesFrom self.old choice.now diamond nodes.now traces.items) }
     {
-        traces_along(
-            self.alloc,
-            self.graph,
-            &self.levels,
-            &mut self.reach,
-            choice,
-            diamond,
-            nodes,
-        )
+        let graph = self.graph;
+        graph.keeps();
+        match nodes {
+            [from] if begins_all(graph, &self.levels, sequent, *from) => {
+                triples_on(self.alloc, graph, trail, diamond, *from)
+            }
+            _ => traces_along(
+                self.alloc,
+                graph,
+                &self.levels,
+                &mut self.reach,
+                choice,
+                diamond,
+                nodes,
+            ),
+        }
     }
 
     /// As the function `spread`.

@@ -1,9 +1,9 @@
 // The step along a diamond, with its local traces, and its parts: the targets alone, and the traces from some nodes.
-ghost use Rattle.std.specs.Prelude.{◌≡◌, ◌<◌, ◌++◌, ◌↔◌, IfOk, OnOk, length, All};
+ghost use Rattle.std.specs.Prelude.{◌≡◌, ◌<◌, ◌≤◌, ◌++◌, ◌↔◌, ℕ, IfOk, OnOk, IsTrue, length, All};
 ghost use Rattle.std.specs.List.{flat_map, filter_map};
 ghost use Rattle.ml_graph.specs.Graph.{size, node_at, priority_at};
 ghost use Rattle.ml_lists.specs.Ascending.{ascending};
-ghost use Rattle.ml_sequent.specs.Spread.{SpreadList, IsSpreadOf};
+ghost use Rattle.ml_sequent.specs.Spread.{IsSpreadOf};
 ghost use Rattle.ml_sequent.specs.Step.{IsDiamondOf, IsStep};
 ghost use Rattle.ml_sequent.specs.private.Exits.{exit_of, exit_at, exits, triples_to, action_of, AreTracesFrom};
 ghost use Rattle.ml_sequent.specs.private.Reach.{IsRanked, HasRoom};
@@ -177,37 +177,15 @@ pub(crate) fn traces_along(
     Ok(traces)
 }
 
-/// The step along a diamond of each spread of the sequent under the choice.
-pub(crate) fn step_along(
-    alloc: Global,
-    graph: &ModalGraph,
-    levels: &Levels,
-    reach: &mut Reach,
-    sequent: &Sequent,
-    choice: &Choice,
-    diamond: u32,
-) -> Result<(Sequent, LocalTraces), NoMemory>
-    requires low { All (λ n. n < size graph.now) sequent.now }
-    requires diamond { diamond < size graph.now }
+/// Is the sequent one node, and does this node have the lowest priority of the graph?
+pub(crate) fn begins_all(graph: &ModalGraph, levels: &Levels, sequent: &Sequent, node: u32) -> bool
+    requires node { node < size graph.now }
     requires ranked { IsRanked graph.now levels.now }
-    requires room { HasRoom graph.now levels.now reach.old }
-    ensures room { HasRoom graph.now levels.now reach.new }
-    ensures step { IfOk result (λ made. (sp : SpreadList) → choice.now ≡ sp.choice
-        → IsSpreadOf graph.now sequent.now sp.choice sp
-        → IsDiamondOf graph.now sp diamond
-        → IsStep graph.now sequent.now sp diamond made.0 made.1) }
+    ensures { IsTrue result ↔ ((length sequent.now ≡ 1)
+        × ((n : ℕ) → n < size graph.now → priority_at graph.now node ≤ priority_at graph.now n)) }
 {
-    let traces = traces_along(
-        alloc,
-        graph,
-        levels,
-        reach,
-        choice,
-        diamond,
-        sequent.values(),
-    )?;
-    let targets = traces.iter().map(|t| t.to).collect(alloc)?;
-    Ok((Sequent::of_members(targets), LocalTraces::new(traces)))
+    graph.keeps();
+    sequent.values().len() == 1 && levels.rank(node) == 0
 }
 
 /// The step along a diamond.
@@ -227,6 +205,15 @@ pub(crate) fn step_by(
     ensures room { HasRoom graph.now levels.now reach.new }
     ensures step { IfOk result (λ made. IsStep graph.now sequent.now spread.now diamond made.0 made.1) }
 {
-    let choice = spread.choice();
-    step_along(alloc, graph, levels, reach, sequent, choice, diamond)
+    let traces = traces_along(
+        alloc,
+        graph,
+        levels,
+        reach,
+        spread.choice(),
+        diamond,
+        sequent.values(),
+    )?;
+    let targets = traces.iter().map(|t| t.to).collect(alloc)?;
+    Ok((Sequent::of_members(targets), LocalTraces::new(traces)))
 }

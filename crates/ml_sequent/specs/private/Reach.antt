@@ -18,7 +18,7 @@
 --   IsVisited ks found found2 == found2 is found with what of ks is new
 --   IsSearch next C i found == the search from C is under way: the first i places that were found went on
 --   HasReached next C found == found has exactly what is reached from C
---   IsRanked g levels     == levels has the priorities of g, ascending, and the rank of each node
+--   IsRanked g levels     == levels has the priorities that occur in g, ascending, and the rank of each node
 --   HasRoom g levels r    == a search has room for all places of g
 use Rattle.std.specs.Prelude.{ℕ, zero, suc, ◌≡◌, ◌+◌, ◌*◌, ◌<◌, ◌≤◌, ◌↔◌, min, Bool, true, false, not, cond, List, [], ◌∷◌, ◌++◌, map, filter, length, get_or, nat_le}
 use Rattle.ml_lists.specs.Ascending.{IsAscending}
@@ -126,13 +126,14 @@ HasReached next C found = (w : Visit) → IsMember w found ↔ IsReached next C 
 
 -- ---- ranks
 
--- the priorities of a graph, ascending, and the rank of each node
+-- priorities, ascending, and the rank of each node
 pub record LevelList : Type 0 where
   pub priorities : List ℕ
   pub ranks : List ℕ
 
 pub record IsRanked (g : Graph) (levels : LevelList) : Type 0 where
   pub ascends : IsAscending levels.priorities
+  pub occur : (p : ℕ) → IsMember p levels.priorities → IsMember p g.priorities
   pub sizes : length levels.ranks ≡ size g
   pub low : (n : ℕ) → n < size g → get_or levels.ranks n 0 < length levels.priorities
   pub right : (n : ℕ) → n < size g → get_or levels.priorities (get_or levels.ranks n 0) 0 ≡ priority_at g n

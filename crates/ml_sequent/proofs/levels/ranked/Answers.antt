@@ -1,7 +1,7 @@
 use Rattle.std.proofs.Common.{◌∙◌, length, get_or, sym, ap, subst, arith}
 use Rattle.ml_lists.specs.Ascending.{IsAscending}
 use Rattle.ml_lists.specs.Member.{IsMember}
-use Rattle.ml_lists.proofs.Ascending.{ascending-is, member-ascending, length-ascending}
+use Rattle.ml_lists.proofs.Ascending.{ascending-is, ascending-member, member-ascending, length-ascending}
 use Rattle.ml_lists.proofs.Member.{place-member}
 use Rattle.ml_sequent.proofs.levels.ranked.Goals as goal
 
@@ -36,6 +36,8 @@ returns-clause-ranked c =
     let all = c.ascending-priorities.ensures in
     record {
       ascends = subst IsAscending (sym all) (ascending-is c.in_ok-from_slice.field-0.items);
+      occur = λ p h. subst (IsMember p) (c.in_ok-from_slice.ensures.items ∙ c.priorities.ensures)
+          (ascending-member p c.in_ok-from_slice.field-0.items (subst (IsMember p) all h));
       sizes = omega (arith, before.sized, c.requires.priorities, c.requires.size);
       low = λ n low. before.low n (omega (arith, c.requires.priorities, c.requires.size));
       right = λ n low. before.right n (omega (arith, c.requires.priorities, c.requires.size));

@@ -1,29 +1,41 @@
-use Rattle.std.proofs.Common.{ℕ, ◌<◌, List, All, IfOk, refl, sym, subst}
-use Rattle.ml_graph.specs.Graph.{size}
-use Rattle.ml_lists.proofs.Member.{member-All}
+use Rattle.std.proofs.Common.{ℕ, ◌↔◌, List, get_or, sym, subst}
+use Rattle.ml_lists.specs.Member.{IsMember}
+use Rattle.ml_lists.proofs.Member.{place-member}
 use Rattle.ml_trace.specs.declared.letters.Triple.{Triple}
 use Rattle.ml_sequent.specs.Branch.{BranchList}
 use Rattle.ml_sequent.specs.Spread.{IsSpreadOf}
-use Rattle.ml_sequent.specs.Step.{IsDiamondOf, IsStep}
+use Rattle.ml_sequent.specs.Step.{IsDiamondOf, IsTrace, IsStep}
+use Rattle.ml_sequent.specs.private.Exits.{AreTracesFrom}
 use Rattle.ml_sequent.specs.private.Trails.{spread_at}
-use Rattle.ml_sequent.proofs.Traces.{sequent_low, along_ok}
+use Rattle.ml_sequent.proofs.OwnSpreads.{own_spread}
+use Rattle.ml_sequent.proofs.Traces.{traces_are_from, step_of}
 use Rattle.ml_sequent.proofs.branch.Branch.step.Goals as goal
 
-pub step_under-requires-clause-low : goal.step_under-requires-clause-low
-step_under-requires-clause-low c =
-    subst (λ (b : BranchList). All (λ n. n < size b.graph) b.sequent) (sym c.self.view_is)
-    (member-All (λ n. n < size c.args.self.now.graph) c.args.self.now.sequent
-    (λ n h. sequent_low c.args.self.now.graph c.args.self.now.sequent c.args.self.now.spread n c.requires.spread h))
+pub targets-requires-clause-spread : goal.targets-requires-clause-spread
+targets-requires-clause-spread c =
+    let b = c.args.self.now in
+    own_spread b.graph b.sequent b.spread.choice b.spread c.requires.spread
+
+pub traces_on-requires-clause-nodes : goal.traces_on-requires-clause-nodes
+traces_on-requires-clause-nodes c = λ k d low.
+    subst (λ (C : List ℕ). IsMember (get_or c.values.result.now k d) C) c.values.ensures.value
+    (place-member c.values.result.now k d low)
 
 pub returns-clause-step : goal.returns-clause-step
-returns-clause-step c = all c.requires.spread c.requires.diamond
-  where
-    all : IsSpreadOf c.args.self.now.graph c.args.self.now.sequent c.args.self.now.spread.choice c.args.self.now.spread
-        → IsDiamondOf c.args.self.now.graph c.args.self.now.spread c.args.diamond
-        → IfOk c.step_under.result (λ (made : List ℕ × List Triple). IsStep c.args.self.now.graph c.args.self.now.sequent c.args.self.now.spread c.args.diamond made.0 made.1)
-    all = subst (λ (b : BranchList). IsSpreadOf b.graph b.sequent b.spread.choice b.spread
-        → IsDiamondOf b.graph b.spread c.args.diamond
-        → IfOk c.step_under.result (λ (made : List ℕ × List Triple). IsStep b.graph b.sequent b.spread c.args.diamond made.0 made.1))
-        c.self.view_is
-        (λ of diamond. along_ok c.self.inside.phase c.self.inside.sequent c.self.inside.choice c.args.diamond
-        (spread_at c.self.inside.trail.nodes c.self.inside.choice) c.step_under.result refl of diamond c.step_under.ensures.step)
+returns-clause-step c =
+    let b = c.args.self.now in
+    let inside = c.self.inside in
+    let traces = c.in_ok-traces.traces.items in
+    let are = subst (λ (C : List ℕ). AreTracesFrom inside.phase inside.choice c.args.diamond C traces)
+    c.values.ensures.value c.in_ok-traces.ensures.traces in
+    subst (IsStep b.graph b.sequent b.spread c.args.diamond c.in_ok-targets.targets) (sym c.new.ensures)
+    (step_of b.graph b.sequent b.spread c.args.diamond c.in_ok-targets.targets traces
+    c.in_ok-targets.ensures.ascends c.in_ok-targets.ensures.targets
+    (subst (λ (b : BranchList). IsSpreadOf b.graph b.sequent b.spread.choice b.spread
+    → IsDiamondOf b.graph b.spread c.args.diamond
+    → (t : Triple)
+    → IsMember t traces ↔ (IsMember t.from b.sequent × IsTrace b.graph b.sequent b.spread c.args.diamond t))
+    c.self.view_is
+    (λ of diamond. traces_are_from inside.phase inside.sequent (spread_at inside.trail.nodes inside.choice) c.args.diamond of
+    diamond inside.sequent traces (place-member inside.sequent) are)
+    c.requires.spread c.requires.diamond))
