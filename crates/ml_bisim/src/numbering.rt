@@ -1,5 +1,5 @@
 // Keys that are numbered in the order in which they come: equal keys have one number.
-ghost use Rattle.std.specs.Prelude.{IfOk};
+ghost use Rattle.std.specs.Prelude.{◌≡◌, [], IfOk};
 ghost use Rattle.ml_bisim.specs.private.Numbers.{AreNumbers};
 
 use indexmap::IndexSet;
@@ -27,6 +27,18 @@ pub(crate) fn numbered<K: Eq + Hash + Drop>(
     ensures { IfOk result (λ numbering. AreNumbers K.eq keys.items numbering.numbers.items numbering.count) }
 {
     let mut table = IndexSet::new(alloc);
+    numbered_by(alloc, &mut table, keys)
+}
+
+// the places of the keys in a table, into which they are put; it is empty at first
+fn numbered_by<K: Eq + Hash + Drop>(
+    alloc: Global,
+    table: &mut IndexSet<K>,
+    keys: Vec<K>,
+) -> Result<Numbering, NoMemory>
+    requires { table.old.keys ≡ [] }
+    ensures { IfOk result (λ numbering. AreNumbers K.eq keys.items numbering.numbers.items numbering.count) }
+{
     let mut numbers = Vec::with_capacity(alloc, keys.len())?;
     for key in keys {
         let (number, _) = table.insert_full(key)?;

@@ -3,12 +3,12 @@ use Rattle.std.specs.Vec.Iter.{into_iter_items}
 use Rattle.ml_bisim.specs.private.Numbers.{AreNumbers}
 use Rattle.ml_bisim.proofs.Passed.{all_seen, further}
 use Rattle.ml_bisim.proofs.Tables.{are_numbers, table_more, table_none, IsTable}
-use Rattle.ml_bisim.proofs.numbering.numbered.Goals as goal
+use Rattle.ml_bisim.proofs.numbering.numbered_by.Goals as goal
 
 pub loop-key-init : goal.loop-key-init
 loop-key-init g c = (
   refl,
-  table_none g.K.PartialEq.eq g.met.K.Eq.laws c.new-table.result.keys c.in_ok-numbers.numbers.items (search rules)
+  table_none g.K.PartialEq.eq g.met.K.Eq.laws c.args.table.now.keys c.in_ok-numbers.numbers.items c.requires
       c.in_ok-numbers.ensures.items,
   search rules,
 )

@@ -1,7 +1,7 @@
 use Rattle.std.proofs.Common.{◌≡◌, ◌++◌, length}
 use Rattle.std.specs.Vec.Iter.{into_iter_items, into_iter_len}
 use Rattle.ml_bisim.proofs.Tables.{IsTable}
-use Rattle.ml_bisim.proofs.numbering.numbered.Given as goal
+use Rattle.ml_bisim.proofs.numbering.numbered_by.Given as goal
 
 abbrev pub invariant-loop-key : goal.invariant-loop-key
 invariant-loop-key g l = (l.yielded ++ into_iter_items l.key-iterator ≡ into_iter_items l.initial.key-iterator)
