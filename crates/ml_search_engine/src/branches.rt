@@ -4,7 +4,6 @@ use crate::terms::{Terms, sides};
 use ml_base::NoMemory;
 use ml_graph::Node;
 use ml_sequent::{ClashCause, Side};
-use std::alloc::Global;
 
 /// What is taken back.
 #[derive(Clone, Copy)]
@@ -42,10 +41,10 @@ pub(crate) struct Branch {
 }
 
 impl Branch {
-    /// The empty spread.
-    pub(crate) fn new(terms: &Terms) -> Result<Branch, NoMemory> {
+    /// The empty spread, where nothing is known.
+    fn empty(terms: &Terms) -> Result<Branch, NoMemory> {
         let alloc = terms.alloc;
-        let mut branch = Branch {
+        Ok(Branch {
             stands: vec![in alloc; false; terms.size]?,
             dead: vec![in alloc; false; terms.size]?,
             met: vec![in alloc; false; terms.size]?,
@@ -58,7 +57,12 @@ impl Branch {
             work: Vec::new(alloc),
             near: Vec::new(alloc),
             cause: None,
-        };
+        })
+    }
+
+    /// The empty spread.
+    pub(crate) fn new(terms: &Terms) -> Result<Branch, NoMemory> {
+        let mut branch = Branch::empty(terms)?;
         for (n, node) in terms.graph.nodes().iter().enumerate() {
             match node {
                 Node::True => branch.meet(terms, n)?,
@@ -229,18 +233,34 @@ impl Branch {
             set_flag(&mut self.met, n, true);
             self.trail.push(Change::Met(n))?;
             for p in row(&terms.parents, n) {
-                match terms.node(*p) {
-                    Node::Or { .. } => self.near.push(*p)?,
-                    Node::And { left, right } => {
-                        if flag(&self.met, left as usize) && flag(&self.met, right as usize) {
-                            self.near.push(*p)?;
-                        }
-                    }
-                    _ => {}
+                if self.is_met(terms.node(*p)) {
+                    self.near.push(*p)?;
                 }
             }
         }
         Ok(())
+    }
+
+    /// Does a node hold, one side of which does?
+    fn is_met(&self, node: Node) -> bool {
+        match node {
+            Node::Or { .. } => true,
+            Node::And { left, right } => {
+                flag(&self.met, left as usize) && flag(&self.met, right as usize)
+            }
+            _ => false,
+        }
+    }
+
+    /// Can a node not hold, one side of which can't?
+    fn is_killed(&self, node: Node) -> bool {
+        match node {
+            Node::And { .. } => true,
+            Node::Or { left, right } => {
+                flag(&self.dead, left as usize) && flag(&self.dead, right as usize)
+            }
+            _ => false,
+        }
     }
 
     /// A node can't hold, and so can't others because of it.
@@ -256,14 +276,8 @@ impl Branch {
             set_flag(&mut self.dead, n, true);
             self.trail.push(Change::Dead(n))?;
             for p in row(&terms.parents, n) {
-                match terms.node(*p) {
-                    Node::And { .. } => self.near.push(*p)?,
-                    Node::Or { left, right } => {
-                        if flag(&self.dead, left as usize) && flag(&self.dead, right as usize) {
-                            self.near.push(*p)?;
-                        }
-                    }
-                    _ => {}
+                if self.is_killed(terms.node(*p)) {
+                    self.near.push(*p)?;
                 }
             }
         }
@@ -374,25 +388,38 @@ impl Branch {
         let least = terms.priority(n);
         let mut seen = vec![in terms.alloc; false; terms.size]?;
         let mut work = Vec::new(terms.alloc);
-        let (left, right) = self.children(terms, n);
-        work.push(left)?;
-        work.push(right)?;
+        self.push_children(terms, n, &mut work)?;
         for _ in 0..u64::MAX {
             let Some(m) = work.pop() else {
                 break;
             };
-            if m == NONE || terms.priority(m) < least || flag(&seen, m) {
+            if terms.priority(m) < least || flag(&seen, m) {
                 continue;
             }
             if m == n {
                 return Ok(true);
             }
             set_flag(&mut seen, m, true);
-            let (left, right) = self.children(terms, m);
-            work.push(left)?;
-            work.push(right)?;
+            self.push_children(terms, m, &mut work)?;
         }
         Ok(false)
+    }
+
+    /// Adds the nodes to which a node leads under the choices.
+    fn push_children(
+        &self,
+        terms: &Terms,
+        n: usize,
+        work: &mut Vec<usize>,
+    ) -> Result<(), NoMemory> {
+        let (left, right) = self.children(terms, n);
+        if left != NONE {
+            work.push(left)?;
+        }
+        if right != NONE {
+            work.push(right)?;
+        }
+        Ok(())
     }
 
     /// A node of an odd priority on a closed walk through nodes of no lower priority, noted as the cause of a clash.

@@ -30,6 +30,14 @@ fn level_of(terms: &Terms, priority: u32) -> usize {
     }
 }
 
+/// The priority at a place.
+fn priority_at(terms: &Terms, level: usize) -> u32 {
+    match terms.levels.get(level) {
+        Some(priority) => *priority,
+        None => 0,
+    }
+}
+
 impl Walks {
     /// Memory for walks over a graph.
     pub(crate) fn new(terms: &Terms) -> Result<Walks, NoMemory> {
@@ -68,27 +76,32 @@ impl Walks {
             self.visited.push(place)?;
             match terms.node(n) {
                 Node::Diamond { .. } | Node::Square { .. } => {
-                    let lowest = match terms.levels.get(level) {
-                        Some(priority) => *priority,
-                        None => 0,
-                    };
+                    let lowest = priority_at(terms, level);
                     exits.push(Exit {
                         from,
                         lowest,
                         leaving: n,
                     })?;
                 }
-                _ => {
-                    let (left, right) = branch.children(terms, n);
-                    self.work.push((left, level))?;
-                    self.work.push((right, level))?;
-                }
+                _ => self.go_on(branch.children(terms, n), level)?,
             }
         }
+        self.forget();
+        Ok(())
+    }
+
+    /// Goes on to the nodes to which one leads.
+    fn go_on(&mut self, children: (usize, usize), level: usize) -> Result<(), NoMemory> {
+        self.work.push((children.0, level))?;
+        self.work.push((children.1, level))?;
+        Ok(())
+    }
+
+    /// No place is seen any more.
+    fn forget(&mut self) {
         for place in &self.visited {
             set_flag(&mut self.seen, *place, false);
         }
-        Ok(())
     }
 
     /// The walks from the nodes of a sequent.

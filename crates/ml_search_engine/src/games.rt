@@ -1,11 +1,12 @@
 // Parity games on what was made.
 use crate::arrays::{NONE, number, set_number};
-use crate::positions::Positions;
+use crate::positions::{Next, Positions};
 use crate::terms::Terms;
 use crate::trees::Trees;
 use ml_base::NoMemory;
 use ml_parity::{Game, Player, Solution, solve};
 use ml_trace::Mark;
+use std::alloc::Global;
 
 /// A vertex of the game.
 #[derive(Clone, Copy, PartialEq, Eq)]
@@ -64,6 +65,19 @@ fn priority_of(terms: &Terms, mark: Mark) -> u32 {
 }
 
 impl Making {
+    /// The two ends, and the start.
+    fn start(alloc: Global, positions: &Positions) -> Result<Making, NoMemory> {
+        let mut making = Making {
+            vertices: vec![in alloc; Vertex::Won, Vertex::Lost]?,
+            at: vec![in alloc; NONE; positions.all.len()]?,
+            owner: Vec::new(alloc),
+            priority: Vec::new(alloc),
+            successors: Vec::new(alloc),
+        };
+        making.position(0)?;
+        Ok(making)
+    }
+
     /// The number of a new vertex.
     fn vertex(&mut self, vertex: Vertex) -> Result<u64, NoMemory> {
         let number = self.vertices.len();
@@ -82,6 +96,23 @@ impl Making {
     }
 }
 
+/// Adds the moves along the links of a position: those to weak leaves, or those to others.
+fn push_links(
+    trees: &Trees,
+    positions: &Positions,
+    p: usize,
+    weak: bool,
+    making: &mut Making,
+    moves: &mut Vec<u64>,
+) -> Result<(), NoMemory> {
+    for (link, found) in positions.links(p).iter().enumerate() {
+        if trees.counts(found.leaf, weak) {
+            moves.push(making.vertex(Vertex::Link { position: p, link })?)?;
+        }
+    }
+    Ok(())
+}
+
 /// What Even may take at a position.
 fn options(
     terms: &Terms,
@@ -92,35 +123,11 @@ fn options(
     making: &mut Making,
 ) -> Result<Vec<u64>, NoMemory> {
     let mut moves = Vec::new(terms.alloc);
-    let Some(position) = positions.all.get(p) else {
-        return Ok(moves);
-    };
-    let mut weak = Vec::new(terms.alloc);
-    for (k, link) in position.links.iter().enumerate() {
-        let Some(leaf) = trees.leaves.get(link.leaf) else {
-            continue;
-        };
-        if leaf.gone {
-            continue;
-        }
-        if leaf.weak {
-            weak.push(k)?;
-            continue;
-        }
-        moves.push(making.vertex(Vertex::Link {
-            position: p,
-            link: k,
-        })?)?;
-    }
-    if mood == Mood::Careful || (!moves.is_empty() && !position.hopes) {
+    push_links(trees, positions, p, false, making, &mut moves)?;
+    if mood == Mood::Careful || (!moves.is_empty() && !positions.hopes(p)) {
         return Ok(moves);
     }
-    for k in weak {
-        moves.push(making.vertex(Vertex::Link {
-            position: p,
-            link: k,
-        })?)?;
-    }
+    push_links(trees, positions, p, true, making, &mut moves)?;
     if waits(trees, positions, p) {
         moves.push(0)?;
     }
@@ -135,6 +142,90 @@ pub(crate) fn waits(trees: &Trees, positions: &Positions, p: usize) -> bool {
     trees.waits(position.sequent) || position.looked < trees.leaves_of(position.sequent).len()
 }
 
+/// Where Odd may go along a link.
+fn gos(
+    terms: &Terms,
+    positions: &Positions,
+    making: &mut Making,
+    position: usize,
+    link: usize,
+) -> Result<Vec<u64>, NoMemory> {
+    let mut moves = Vec::new(terms.alloc);
+    if let Some(found) = positions.links(position).get(link) {
+        for next in 0..found.nexts.len() {
+            moves.push(making.vertex(Vertex::Go {
+                position,
+                link,
+                next,
+            })?)?;
+        }
+    }
+    Ok(moves)
+}
+
+/// Where a step of a link leads.
+fn goes_to(terms: &Terms, making: &mut Making, next: Option<Next>) -> Result<Vec<u64>, NoMemory> {
+    let mut moves = Vec::new(terms.alloc);
+    if let Some(next) = next {
+        moves.push(making.position(next.to)?)?;
+    }
+    Ok(moves)
+}
+
+/// Where the moves of a vertex lead, if it has any beside the one to its end.
+fn moves_of(
+    terms: &Terms,
+    trees: &Trees,
+    positions: &Positions,
+    mood: Mood,
+    making: &mut Making,
+    vertex: Vertex,
+) -> Result<Vec<u64>, NoMemory> {
+    match vertex {
+        Vertex::Won | Vertex::Lost => Ok(Vec::new(terms.alloc)),
+        Vertex::At(p) => options(terms, trees, positions, mood, p, making),
+        Vertex::Link { position, link } => gos(terms, positions, making, position, link),
+        Vertex::Go {
+            position,
+            link,
+            next,
+        } => goes_to(terms, making, positions.next_at(position, link, next)),
+    }
+}
+
+/// Who moves at a vertex.
+fn owner_of(vertex: Vertex) -> Player {
+    match vertex {
+        Vertex::Link { .. } => Player::Odd,
+        _ => Player::Even,
+    }
+}
+
+/// The end of a vertex with no moves: who should move there has lost.
+fn end_of(vertex: Vertex) -> u64 {
+    match vertex {
+        Vertex::Won | Vertex::Link { .. } => 0,
+        _ => 1,
+    }
+}
+
+/// The priority of a vertex.
+fn priority_at(terms: &Terms, positions: &Positions, vertex: Vertex) -> u32 {
+    match vertex {
+        Vertex::Won => 0,
+        Vertex::Lost => 1,
+        Vertex::At(_) | Vertex::Link { .. } => terms.neutral,
+        Vertex::Go {
+            position,
+            link,
+            next,
+        } => match positions.next_at(position, link, next) {
+            Some(next) => priority_of(terms, next.mark),
+            None => terms.neutral,
+        },
+    }
+}
+
 /// Makes a vertex: who moves there, its priority, and where its moves lead.
 fn make(
     terms: &Terms,
@@ -144,56 +235,32 @@ fn make(
     making: &mut Making,
     vertex: Vertex,
 ) -> Result<(), NoMemory> {
-    let alloc = terms.alloc;
-    let (owner, priority, moves) = match vertex {
-        Vertex::Won => (Player::Even, 0, vec![in alloc; 0]?),
-        Vertex::Lost => (Player::Even, 1, vec![in alloc; 1]?),
-        Vertex::At(p) => {
-            let mut moves = options(terms, trees, positions, mood, p, making)?;
-            if moves.is_empty() {
-                moves.push(1)?;
-            }
-            (Player::Even, terms.neutral, moves)
-        }
-        Vertex::Link { position, link } => {
-            let mut moves = Vec::new(alloc);
-            if let Some(found) = positions.links(position).get(link) {
-                for next in 0..found.nexts.len() {
-                    moves.push(making.vertex(Vertex::Go {
-                        position,
-                        link,
-                        next,
-                    })?)?;
-                }
-            }
-            if moves.is_empty() {
-                moves.push(0)?;
-            }
-            (Player::Odd, terms.neutral, moves)
-        }
-        Vertex::Go {
-            position,
-            link,
-            next,
-        } => {
-            let mut moves = Vec::new(alloc);
-            let mut priority = terms.neutral;
-            if let Some(found) = positions.links(position).get(link) {
-                if let Some(next) = found.nexts.get(next) {
-                    moves.push(making.position(next.to)?)?;
-                    priority = priority_of(terms, next.mark);
-                }
-            }
-            if moves.is_empty() {
-                moves.push(1)?;
-            }
-            (Player::Even, priority, moves)
-        }
-    };
-    making.owner.push(owner)?;
-    making.priority.push(priority)?;
+    let mut moves = moves_of(terms, trees, positions, mood, making, vertex)?;
+    if moves.is_empty() {
+        moves.push(end_of(vertex))?;
+    }
     making.successors.push(moves)?;
+    making.owner.push(owner_of(vertex))?;
+    making.priority.push(priority_at(terms, positions, vertex))?;
     Ok(())
+}
+
+/// The vertices that are reached from the start.
+fn made(
+    terms: &Terms,
+    trees: &Trees,
+    positions: &Positions,
+    mood: Mood,
+) -> Result<Making, NoMemory> {
+    let mut making = Making::start(terms.alloc, positions)?;
+    for i in 0..u64::MAX {
+        let Some(vertex) = making.vertices.get(i as usize) else {
+            break;
+        };
+        let vertex = *vertex;
+        make(terms, trees, positions, mood, &mut making, vertex)?;
+    }
+    Ok(making)
 }
 
 /// The game on what is reached from the start, solved; `None` where it is none, which doesn't come.
@@ -203,38 +270,20 @@ pub(crate) fn play(
     positions: &Positions,
     mood: Mood,
 ) -> Result<Option<Solved>, NoMemory> {
-    let alloc = terms.alloc;
-    let mut making = Making {
-        vertices: Vec::new(alloc),
-        at: vec![in alloc; NONE; positions.all.len()]?,
-        owner: Vec::new(alloc),
-        priority: Vec::new(alloc),
-        successors: Vec::new(alloc),
-    };
-    making.vertex(Vertex::Won)?;
-    making.vertex(Vertex::Lost)?;
-    making.position(0)?;
-    for i in 0..u64::MAX {
-        let Some(vertex) = making.vertices.get(i as usize) else {
-            break;
-        };
-        let vertex = *vertex;
-        make(terms, trees, positions, mood, &mut making, vertex)?;
-    }
     let Making {
         vertices,
         at,
         owner,
         priority,
         successors,
-    } = making;
+    } = made(terms, trees, positions, mood)?;
     if priority.len() != owner.len() || successors.len() != owner.len() {
         return Ok(None);
     }
     let Ok(game) = Game::build(owner, priority, successors) else {
         return Ok(None);
     };
-    let solution = solve(alloc, &game)?;
+    let solution = solve(terms.alloc, &game)?;
     Ok(Some(Solved {
         vertices,
         at,

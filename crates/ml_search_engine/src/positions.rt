@@ -87,6 +87,22 @@ impl Positions {
         }
     }
 
+    /// Where a way of a link of a position leads, if it is there.
+    pub(crate) fn next_at(&self, p: usize, link: usize, way: usize) -> Option<Next> {
+        match self.links(p).get(link) {
+            Some(found) => found.nexts.get(way).copied(),
+            None => None,
+        }
+    }
+
+    /// May what waits at a position be hoped for, also where leaves were made?
+    pub(crate) fn hopes(&self, p: usize) -> bool {
+        match self.all.get(p) {
+            Some(position) => position.hopes,
+            None => false,
+        }
+    }
+
     /// The step of a position's history along a way of a leaf.
     fn next(
         &mut self,

@@ -250,6 +250,16 @@ fn one_sided(size: u64, top: u32, arcs: Vec<Arc>) -> Option<OneSided> {
     None
 }
 
+/// The item of a state of the trace automaton, with the place of its stack.
+fn item_of(terms: &Terms, state: u32, stack: usize) -> Item {
+    let state = state_of(state, &terms.odds);
+    Item {
+        node: state.node,
+        odd: state.odd,
+        stack,
+    }
+}
+
 impl Tables {
     fn new(terms: &Terms, trees: &Trees, positions: &Positions) -> Result<Tables, NoMemory> {
         let alloc = terms.alloc;
@@ -273,6 +283,17 @@ impl Tables {
         Ok(place)
     }
 
+    /// The place of a history's first stack, and whether its stacks are still to be added there.
+    fn first_stack(&mut self, history: usize) -> (usize, bool) {
+        let known = number(&self.stacks_at, history);
+        if known != NONE {
+            return (known, false);
+        }
+        let first = self.stacks.len();
+        set_number(&mut self.stacks_at, history, first);
+        (first, true)
+    }
+
     /// The names in use and the items of a history.
     fn items(
         &mut self,
@@ -281,26 +302,15 @@ impl Tables {
         history: usize,
     ) -> Result<(u32, Vec<Item>), NoMemory> {
         let mut items = Vec::new(terms.alloc);
-        let known = number(&self.stacks_at, history);
-        let first = if known == NONE {
-            self.stacks.len()
-        } else {
-            known
-        };
-        set_number(&mut self.stacks_at, history, first);
+        let (first, is_new) = self.first_stack(history);
         let Some(history) = positions.histories.as_slice().get(history) else {
             return Ok((0, items));
         };
         for (i, (state, stack)) in history.stacks()?.iter().enumerate() {
-            if known == NONE {
+            if is_new {
                 self.stacks.push(stack)?;
             }
-            let state = state_of(*state, &terms.odds);
-            items.push(Item {
-                node: state.node,
-                odd: state.odd,
-                stack: first.saturating_add(i),
-            })?;
+            items.push(item_of(terms, *state, first.saturating_add(i)))?;
         }
         Ok((history.live(), items))
     }

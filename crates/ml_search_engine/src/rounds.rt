@@ -47,22 +47,31 @@ impl<'a> Engine<'a> {
         limit: u32,
     ) -> Result<Engine<'a>, NoMemory> {
         let terms = Terms::new(alloc, graph)?;
-        let mut trees = Trees::new(&terms)?;
-        let mut positions = Positions::new(&terms);
-        let root = graph.root();
-        let state = small(terms.state(root as usize, 0));
-        if state < 1 << 30 {
-            let sequent = trees.sequent(&terms, Sequent::of(alloc, &[root])?)?;
-            let history = History::start(alloc, state)?;
-            positions.number(&terms, sequent, history)?;
-        }
-        Ok(Engine {
+        let trees = Trees::new(&terms)?;
+        let positions = Positions::new(&terms);
+        let mut engine = Engine {
             terms,
             trees,
             positions,
             solved: 0,
             most: (limit as usize).saturating_mul(WORK),
-        })
+        };
+        engine.begin()?;
+        Ok(engine)
+    }
+
+    /// Makes the start, where its state has a number that histories take.
+    fn begin(&mut self) -> Result<(), NoMemory> {
+        let alloc = self.terms.alloc;
+        let root = self.terms.graph.root();
+        let state = small(self.terms.state(root as usize, 0));
+        if state < 1 << 30 {
+            let sequent = Sequent::of(alloc, &[root])?;
+            let sequent = self.trees.sequent(&self.terms, sequent)?;
+            let history = History::start(alloc, state)?;
+            self.positions.number(&self.terms, sequent, history)?;
+        }
+        Ok(())
     }
 
     /// How much was made.
@@ -151,10 +160,8 @@ impl<'a> Engine<'a> {
             return true;
         }
         for link in self.positions.links(p) {
-            if let Some(leaf) = self.trees.leaves.get(link.leaf) {
-                if leaf.weak && !leaf.gone {
-                    return true;
-                }
+            if self.trees.counts(link.leaf, true) {
+                return true;
             }
         }
         false

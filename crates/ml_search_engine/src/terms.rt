@@ -120,41 +120,46 @@ fn cyclic(
     Ok(left)
 }
 
+/// Of each node the Ands and Ors of which it is a side.
+fn parents_of(alloc: Global, graph: &ModalGraph) -> Result<Vec<Vec<usize>>, NoMemory> {
+    let mut parents = rows(alloc, graph.size() as usize)?;
+    for (n, node) in graph.nodes().iter().enumerate() {
+        if let Some((left, right)) = sides(*node) {
+            push_at(&mut parents, left, n)?;
+            push_at(&mut parents, right, n)?;
+        }
+    }
+    Ok(parents)
+}
+
+/// Of each proposition the literals with this sign.
+fn literals_of(alloc: Global, graph: &ModalGraph, sign: bool) -> Result<Vec<Vec<usize>>, NoMemory> {
+    let mut literals = rows(alloc, graph.props().len())?;
+    for (n, node) in graph.nodes().iter().enumerate() {
+        if let Node::Lit { prop, positive } = *node {
+            if positive == sign {
+                push_at(&mut literals, prop as usize, n)?;
+            }
+        }
+    }
+    Ok(literals)
+}
+
 impl<'a> Terms<'a> {
     /// What depends on the graph alone.
     pub(crate) fn new(alloc: Global, graph: &'a ModalGraph) -> Result<Terms<'a>, NoMemory> {
         let size = graph.size() as usize;
         let odds = graph.odd_priorities()?;
-        let mut parents = rows(alloc, size)?;
-        let mut positive = rows(alloc, graph.props().len())?;
-        let mut negative = rows(alloc, graph.props().len())?;
-        for (n, node) in graph.nodes().iter().enumerate() {
-            if let Some((left, right)) = sides(*node) {
-                push_at(&mut parents, left, n)?;
-                push_at(&mut parents, right, n)?;
-            }
-            if let Node::Lit {
-                prop,
-                positive: sign,
-            } = *node
-            {
-                if sign {
-                    push_at(&mut positive, prop as usize, n)?;
-                } else {
-                    push_at(&mut negative, prop as usize, n)?;
-                }
-            }
-        }
         let states = size.saturating_mul(odds.len().saturating_add(1));
-        let neutral = small(states.saturating_add(1).saturating_mul(2));
+        let parents = parents_of(alloc, graph)?;
         Ok(Terms {
             graph,
             alloc,
             size,
             levels: levels(alloc, graph)?,
-            neutral,
-            positive,
-            negative,
+            neutral: small(states.saturating_add(1).saturating_mul(2)),
+            positive: literals_of(alloc, graph, true)?,
+            negative: literals_of(alloc, graph, false)?,
             rank: depth_first(alloc, graph)?,
             cyclic: cyclic(alloc, graph, &parents)?,
             odds,

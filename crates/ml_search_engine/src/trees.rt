@@ -1,7 +1,7 @@
 // Trees of choices, one for each sequent, which grow on demand.
 use crate::arrays::NONE;
 use crate::branches::Branch;
-use crate::exits::{Walks, letter, targets};
+use crate::exits::{Exit, Walks, letter, targets};
 use crate::terms::{Terms, sides};
 use indexmap::IndexSet;
 use ml_base::NoMemory;
@@ -78,6 +78,17 @@ struct Descent {
     knot: usize,
     mark: usize,
     modals: usize,
+}
+
+/// Where a tree is grown.
+#[derive(Drop)]
+struct Growth {
+    /// A node of the tree.
+    at: usize,
+    /// How many Diamonds and Squares stood at the node above.
+    modals: usize,
+    /// The steps from the root.
+    path: Vec<Descent>,
 }
 
 /// The sequents with their trees.
@@ -206,6 +217,14 @@ impl Trees {
         }
     }
 
+    /// Does a leaf that is weak, or one that isn't, stand here?
+    pub(crate) fn counts(&self, leaf: usize, weak: bool) -> bool {
+        match self.leaves.get(leaf) {
+            Some(leaf) => leaf.weak == weak && !leaf.gone,
+            None => false,
+        }
+    }
+
     /// A weak leaf is taken back: what it asks for itself is made.
     pub(crate) fn strengthen(&mut self, leaf: usize) {
         let Some(place) = self.leaves.get_mut(leaf) else {
@@ -234,58 +253,77 @@ impl Trees {
         count: usize,
         most: usize,
     ) -> Result<(), NoMemory> {
-        let mut nodes = Vec::new(terms.alloc);
-        if let Some(nodes_of) = self.sequents.as_slice().get(sequent) {
-            nodes.extend_from_slice(nodes_of.values())?;
-        }
+        let nodes = Vec::from_slice(terms.alloc, self.nodes_of(sequent))?;
         self.branch.start(terms, &nodes)?;
-        let mut path: Vec<Descent> = Vec::new(terms.alloc);
-        let mut at = self.root(sequent);
-        let mut modals = NONE;
+        let mut growth = Growth {
+            at: self.root(sequent),
+            modals: NONE,
+            path: Vec::new(terms.alloc),
+        };
         let mut made: usize = 0;
         for _ in 0..u64::MAX {
             if made >= count || self.spent >= most {
                 break;
             }
-            if let Kind::Waits = self.kind(at) {
-                if self.expand(terms, sequent, at, &nodes, modals)? {
-                    made = made.saturating_add(1);
-                }
+            if self.expand(terms, sequent, &growth, &nodes)? {
+                made = made.saturating_add(1);
             }
-            match self.kind(at) {
-                Kind::Split { node, left, right } if self.is_open(at) => {
-                    let side = self.first_side(terms, node, left, right);
-                    path.push(Descent {
-                        knot: at,
-                        mark: self.branch.mark(),
-                        modals,
-                    })?;
-                    modals = self.branch.modals().len();
-                    self.branch.choose(terms, node, side)?;
-                    at = match side {
-                        Side::Left => left,
-                        Side::Right => right,
-                    };
-                }
-                _ => {
-                    let Some(descent) = path.pop() else {
-                        break;
-                    };
-                    self.branch.undo(terms, descent.mark);
-                    modals = descent.modals;
-                    at = descent.knot;
-                    self.settle(terms, at)?;
-                }
+            if !self.turn(terms, &mut growth)? {
+                break;
             }
         }
         for _ in 0..u64::MAX {
-            let Some(descent) = path.pop() else {
+            if !self.ascend(terms, &mut growth)? {
                 break;
-            };
-            self.branch.undo(terms, descent.mark);
-            self.settle(terms, descent.knot)?;
+            }
         }
         Ok(())
+    }
+
+    /// Goes on, to a side of a split where something waits below, or back; false where all was seen.
+    fn turn(&mut self, terms: &Terms, growth: &mut Growth) -> Result<bool, NoMemory> {
+        match self.kind(growth.at) {
+            Kind::Split { node, left, right } if self.is_open(growth.at) => {
+                self.descend(terms, growth, node, left, right)?;
+                Ok(true)
+            }
+            _ => self.ascend(terms, growth),
+        }
+    }
+
+    /// Goes on to the side of a split that is looked at next.
+    fn descend(
+        &mut self,
+        terms: &Terms,
+        growth: &mut Growth,
+        node: usize,
+        left: usize,
+        right: usize,
+    ) -> Result<(), NoMemory> {
+        let side = self.first_side(terms, node, left, right);
+        growth.path.push(Descent {
+            knot: growth.at,
+            mark: self.branch.mark(),
+            modals: growth.modals,
+        })?;
+        growth.modals = self.branch.modals().len();
+        growth.at = match side {
+            Side::Left => left,
+            Side::Right => right,
+        };
+        self.branch.choose(terms, node, side)
+    }
+
+    /// Goes back to the split above, and settles what stands there; false at the root.
+    fn ascend(&mut self, terms: &Terms, growth: &mut Growth) -> Result<bool, NoMemory> {
+        let Some(descent) = growth.path.pop() else {
+            return Ok(false);
+        };
+        self.branch.undo(terms, descent.mark);
+        growth.modals = descent.modals;
+        growth.at = descent.knot;
+        self.settle(terms, descent.knot)?;
+        Ok(true)
     }
 
     /// The side of a split that is looked at next: one that can't hold before the other, and left before right.
@@ -371,15 +409,18 @@ impl Trees {
         Ok(needs)
     }
 
-    /// Makes what stands at a node that waits; true if it is a leaf.
+    /// Makes what stands at a node, if it waits; true if that is a leaf.
     fn expand(
         &mut self,
         terms: &Terms,
         sequent: usize,
-        at: usize,
+        growth: &Growth,
         nodes: &[u32],
-        modals: usize,
     ) -> Result<bool, NoMemory> {
+        let at = growth.at;
+        let Kind::Waits = self.kind(at) else {
+            return Ok(false);
+        };
         self.spent = self.spent.saturating_add(1);
         if !terms.cyclic.is_empty() {
             self.branch.look_for_cycles(terms)?;
@@ -390,7 +431,7 @@ impl Trees {
             return Ok(false);
         }
         let next = self.branch.next_or(terms);
-        if !self.is_plain(at) && (next.is_none() || self.branch.modals().len() != modals) {
+        if !self.is_plain(at) && (next.is_none() || self.branch.modals().len() != growth.modals) {
             let looked = self.leaves_of(sequent).len() / LEAVES;
             self.spent = self.spent.saturating_add(looked);
             if let Some(less) = self.less(terms, sequent)? {
@@ -453,6 +494,17 @@ impl Trees {
         nodes: &[u32],
     ) -> Result<(), NoMemory> {
         let exits = self.walks.exits(terms, &self.branch, nodes)?;
+        let mut ways = Vec::new(terms.alloc);
+        for (diamond, action) in self.diamonds(terms)? {
+            if let Some(way) = self.way(terms, &exits, diamond, action)? {
+                ways.push(way)?;
+            }
+        }
+        self.push_leaf(terms, sequent, at, ways, false)
+    }
+
+    /// The Diamonds that stand, ascending, with their actions.
+    fn diamonds(&self, terms: &Terms) -> Result<Vec<(usize, u32)>, NoMemory> {
         let mut diamonds = Vec::new(terms.alloc);
         for n in self.branch.modals() {
             if let Node::Diamond { action, .. } = terms.node(*n) {
@@ -460,20 +512,28 @@ impl Trees {
             }
         }
         diamonds.sort_unstable();
-        let mut ways = Vec::new(terms.alloc);
-        for (diamond, action) in diamonds {
-            let into = targets(terms, &self.branch, diamond, action)?;
-            if let Some(letter) = letter(terms, &exits, diamond, action, &into)? {
-                let next = self.sequent(terms, Sequent::of(terms.alloc, &into)?)?;
-                ways.push(Way {
-                    diamond,
-                    action,
-                    next,
-                    letter,
-                })?;
-            }
-        }
-        self.push_leaf(terms, sequent, at, ways, false)
+        Ok(diamonds)
+    }
+
+    /// The way on along a Diamond; `None` where the numbers of its letter are too large.
+    fn way(
+        &mut self,
+        terms: &Terms,
+        exits: &[Exit],
+        diamond: usize,
+        action: u32,
+    ) -> Result<Option<Way>, NoMemory> {
+        let into = targets(terms, &self.branch, diamond, action)?;
+        let Some(letter) = letter(terms, exits, diamond, action, &into)? else {
+            return Ok(None);
+        };
+        let next = self.sequent(terms, Sequent::of(terms.alloc, &into)?)?;
+        Ok(Some(Way {
+            diamond,
+            action,
+            next,
+            letter,
+        }))
     }
 
     /// The nodes of a sequent.
@@ -519,18 +579,10 @@ impl Trees {
         }
         let mut found = Vec::new(terms.alloc);
         for way in &leaf.ways {
-            let nodes = self.nodes_of(way.next);
-            let mut diamond = NONE;
-            for row in rows {
-                if lies_within(nodes, &row.1) {
-                    diamond = row.0;
-                    break;
-                }
+            match diamond_over(rows, self.nodes_of(way.next)) {
+                Some(diamond) => found.push((diamond, way.next))?,
+                None => return Ok(None),
             }
-            if diamond == NONE {
-                return Ok(None);
-            }
-            found.push((diamond, way.next))?;
         }
         Ok(Some(found))
     }
@@ -561,6 +613,16 @@ impl Trees {
         }
         self.push_leaf(terms, sequent, at, ways, true)
     }
+}
+
+/// The first Diamond within whose targets these nodes lie.
+fn diamond_over(rows: &[(usize, Vec<u32>)], nodes: &[u32]) -> Option<usize> {
+    for row in rows {
+        if lies_within(nodes, &row.1) {
+            return Some(row.0);
+        }
+    }
+    None
 }
 
 /// Are all numbers among the others? Both ascend.
