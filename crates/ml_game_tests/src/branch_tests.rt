@@ -1,36 +1,73 @@
 // Branches of random graphs against the functions that make each spread anew.
-ghost use Rattle.std.specs.Prelude.{◌≡◌, ◌<◌, OnOk, All};
+ghost use Rattle.std.specs.Prelude.{◌≡◌, ◌<◌, IfOk, OnOk, All};
 ghost use Rattle.ml_graph.specs.Graph.{size};
 ghost use Rattle.ml_sequent.specs.Spread.{IsSpread, IsOpenOr};
 
 use crate::random_graphs::random_graph;
 use crate::sequent_tests::sequent_of;
 use ml_graph::ModalGraph;
-use ml_sequent::{Branch, Sequent, Side, clash, diamonds, open_or, spread};
+use ml_sequent::{Branch, Sequent, Side, Spread, clash, diamonds, open_or, spread};
 use ml_tests::numbers::Numbers;
 use std::alloc::Global;
 use std::test::Fail;
+
+// The spread that the branch should have, made anew.
+fn made_anew(alloc: Global, graph: &ModalGraph, branch: &Branch) -> Result<Spread, Fail>
+    ensures { IfOk result (IsSpread graph.now) }
+{
+    match sequent_of(alloc, graph, branch.sequent().values())? {
+        Some(sequent) => Ok(spread(alloc, graph, &sequent, branch.choice())?),
+        None => Err(Fail::new("no such node")),
+    }
+}
+
+// Does the branch say of clashes what the function does?
+fn clashes_alike(
+    alloc: Global,
+    graph: &ModalGraph,
+    branch: &mut Branch,
+    wanted: &Spread,
+) -> Result<bool, Fail>
+    requires branch { IsSpread branch.old.graph branch.old.spread }
+    requires wanted { IsSpread graph.now wanted.now }
+    ensures { branch.new ≡ branch.old }
+{
+    let cause = clash(alloc, graph, wanted)?;
+    Ok(branch.clash()? == cause && branch.is_clashing()? == cause.is_some())
+}
+
+// Has it the diamonds that the function finds?
+fn diamonds_alike(
+    alloc: Global,
+    graph: &ModalGraph,
+    branch: &Branch,
+    wanted: &Spread,
+) -> Result<bool, Fail>
+    requires branch { IsSpread branch.now.graph branch.now.spread }
+    requires wanted { IsSpread graph.now wanted.now }
+{
+    Ok(branch.diamonds()? == diamonds(alloc, graph, wanted)?)
+}
+
+// Has its spread these nodes?
+fn has_nodes(branch: &Branch, nodes: &[u32]) -> Result<bool, Fail> {
+    Ok(branch.spread()?.nodes() == nodes)
+}
 
 // Does the branch answer as the functions do of the spread that they make?
 fn answers_alike(alloc: Global, graph: &ModalGraph, branch: &mut Branch) -> Result<bool, Fail>
     requires { IsSpread branch.old.graph branch.old.spread }
     ensures { OnOk result (branch.new ≡ branch.old) }
 {
-    let Some(sequent) = sequent_of(alloc, graph, branch.sequent().values())? else {
-        return Err(Fail::new("no such node"));
-    };
-    let wanted = spread(alloc, graph, &sequent, branch.choice())?;
-    let cause = clash(alloc, graph, &wanted)?;
-    if branch.clash()? != cause || branch.is_clashing()? != cause.is_some() {
-        return Ok(false);
-    }
+    let wanted = made_anew(alloc, graph, branch)?;
     if branch.open_or() != open_or(graph, &wanted) {
         return Ok(false);
     }
-    if branch.diamonds()? != diamonds(alloc, graph, &wanted)? {
-        return Ok(false);
-    }
-    Ok(branch.spread()?.nodes() == wanted.nodes())
+    Ok(
+        clashes_alike(alloc, graph, branch, &wanted)?
+            && diamonds_alike(alloc, graph, branch, &wanted)?
+            && has_nodes(branch, wanted.nodes())?,
+    )
 }
 
 // Does it answer so here, and with sides more at or-nodes that are drawn?
@@ -97,15 +134,29 @@ fn drawn_node(graph: &ModalGraph, numbers: &mut Numbers) -> u32 {
 fn begun_alike(
     alloc: Global,
     graph: &ModalGraph,
+    branch: &mut Branch,
     numbers: &mut Numbers,
     sequent: Sequent,
     draws: u32,
 ) -> Result<bool, Fail>
-    requires { All (λ n. n < size graph.now) sequent }
+    requires { All (λ n. n < size branch.old.graph) sequent }
 {
-    let mut branch = Branch::new(alloc, graph)?;
     branch.begin(sequent)?;
-    alike(alloc, graph, &mut branch, numbers, draws)
+    alike(alloc, graph, branch, numbers, draws)
+}
+
+// Is it so from the root of the graph on?
+fn rooted_alike(
+    alloc: Global,
+    graph: &ModalGraph,
+    numbers: &mut Numbers,
+    draws: u32,
+) -> Result<bool, Fail> {
+    let Some(sequent) = sequent_of(alloc, graph, &[graph.root()])? else {
+        return Err(Fail::new("no root"));
+    };
+    let mut branch = Branch::new(alloc, graph)?;
+    begun_alike(alloc, graph, &mut branch, numbers, sequent, draws)
 }
 
 // Is it so of a random graph, from its root?
@@ -114,10 +165,7 @@ fn is_alike(alloc: Global, seed: u64, size: u32, draws: u32) -> Result<bool, Fai
 {
     let mut numbers = Numbers::new(seed);
     let graph = random_graph(alloc, &mut numbers, size, 0, 0)?;
-    match sequent_of(alloc, &graph, &[graph.root()])? {
-        Some(sequent) => begun_alike(alloc, &graph, &mut numbers, sequent, draws),
-        None => Err(Fail::new("no root")),
-    }
+    rooted_alike(alloc, &graph, &mut numbers, draws)
 }
 
 // The first of so many seeds of which it isn't.
