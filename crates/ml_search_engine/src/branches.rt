@@ -5,15 +5,21 @@ use ml_base::NoMemory;
 use ml_graph::Node;
 use ml_sequent::{ClashCause, Side};
 
+/// What is known of a node, whatever is chosen.
+#[derive(Clone, Copy)]
+enum Fact {
+    Holds,
+    /// It can't hold.
+    Fails,
+}
+
 /// What is taken back.
 #[derive(Clone, Copy)]
 enum Change {
     /// The node stands in the spread.
     Stands(usize),
-    /// The node can't hold.
-    Dead(usize),
-    /// The node holds, whatever is chosen.
-    Met(usize),
+    /// This is known of the node.
+    Known(usize, Fact),
     /// A side of the node was chosen.
     Chosen(usize),
 }
@@ -22,8 +28,9 @@ enum Change {
 #[derive(Drop)]
 pub(crate) struct Branch {
     stands: Vec<bool>,
-    dead: Vec<bool>,
+    /// The nodes that hold, and those that can't, whatever is chosen.
     met: Vec<bool>,
+    dead: Vec<bool>,
     side: Vec<Option<Side>>,
     /// The node because of which a node stands.
     why: Vec<usize>,
@@ -35,7 +42,7 @@ pub(crate) struct Branch {
     literals: Vec<usize>,
     trail: Vec<Change>,
     work: Vec<(usize, usize)>,
-    /// Memory for what is met or killed next; empty in between.
+    /// Memory for the nodes of which something is known next; empty in between.
     near: Vec<usize>,
     cause: Option<ClashCause>,
 }
@@ -46,8 +53,8 @@ impl Branch {
         let alloc = terms.alloc;
         Ok(Branch {
             stands: vec![in alloc; false; terms.size]?,
-            dead: vec![in alloc; false; terms.size]?,
             met: vec![in alloc; false; terms.size]?,
+            dead: vec![in alloc; false; terms.size]?,
             side: vec![in alloc; None; terms.size]?,
             why: vec![in alloc; NONE; terms.size]?,
             ors: Vec::new(alloc),
@@ -65,8 +72,8 @@ impl Branch {
         let mut branch = Branch::empty(terms)?;
         for (n, node) in terms.graph.nodes().iter().enumerate() {
             match node {
-                Node::True => branch.meet(terms, n)?,
-                Node::False => branch.kill(terms, n)?,
+                Node::True => branch.learn(terms, n, Fact::Holds)?,
+                Node::False => branch.learn(terms, n, Fact::Fails)?,
                 _ => {}
             }
         }
@@ -92,8 +99,7 @@ impl Branch {
             };
             match change {
                 Change::Stands(n) => self.fall(terms, n),
-                Change::Dead(n) => set_flag(&mut self.dead, n, false),
-                Change::Met(n) => set_flag(&mut self.met, n, false),
+                Change::Known(n, fact) => self.set_known(n, fact, false),
                 Change::Chosen(n) => self.set_side(n, None),
             }
         }
@@ -212,28 +218,43 @@ impl Branch {
             }
         }
         for m in same {
-            self.meet(terms, *m)?;
+            self.learn(terms, *m, Fact::Holds)?;
         }
         for m in other {
-            self.kill(terms, *m)?;
+            self.learn(terms, *m, Fact::Fails)?;
         }
         Ok(())
     }
 
-    /// A node holds whatever is chosen, and so do others because of it.
-    fn meet(&mut self, terms: &Terms, first: usize) -> Result<(), NoMemory> {
+    /// Is this known of a node?
+    fn is_known(&self, n: usize, fact: Fact) -> bool {
+        match fact {
+            Fact::Holds => flag(&self.met, n),
+            Fact::Fails => flag(&self.dead, n),
+        }
+    }
+
+    fn set_known(&mut self, n: usize, fact: Fact, known: bool) {
+        match fact {
+            Fact::Holds => set_flag(&mut self.met, n, known),
+            Fact::Fails => set_flag(&mut self.dead, n, known),
+        }
+    }
+
+    /// This is known of a node, and so of others because of it.
+    fn learn(&mut self, terms: &Terms, first: usize, fact: Fact) -> Result<(), NoMemory> {
         self.near.push(first)?;
         for _ in 0..u64::MAX {
             let Some(n) = self.near.pop() else {
                 break;
             };
-            if flag(&self.met, n) {
+            if self.is_known(n, fact) {
                 continue;
             }
-            set_flag(&mut self.met, n, true);
-            self.trail.push(Change::Met(n))?;
+            self.set_known(n, fact, true);
+            self.trail.push(Change::Known(n, fact))?;
             for p in row(&terms.parents, n) {
-                if self.is_met(terms.node(*p)) {
+                if self.follows(terms.node(*p), fact) {
                     self.near.push(*p)?;
                 }
             }
@@ -241,47 +262,15 @@ impl Branch {
         Ok(())
     }
 
-    /// Does a node hold, one side of which does?
-    fn is_met(&self, node: Node) -> bool {
-        match node {
-            Node::Or { .. } => true,
-            Node::And { left, right } => {
-                flag(&self.met, left as usize) && flag(&self.met, right as usize)
+    /// Is this so of a node because it is known of one of its sides, or of both where one isn't enough?
+    fn follows(&self, node: Node, fact: Fact) -> bool {
+        match (node, fact) {
+            (Node::Or { .. }, Fact::Holds) | (Node::And { .. }, Fact::Fails) => true,
+            (Node::And { left, right }, _) | (Node::Or { left, right }, _) => {
+                self.is_known(left as usize, fact) && self.is_known(right as usize, fact)
             }
             _ => false,
         }
-    }
-
-    /// Can a node not hold, one side of which can't?
-    fn is_killed(&self, node: Node) -> bool {
-        match node {
-            Node::And { .. } => true,
-            Node::Or { left, right } => {
-                flag(&self.dead, left as usize) && flag(&self.dead, right as usize)
-            }
-            _ => false,
-        }
-    }
-
-    /// A node can't hold, and so can't others because of it.
-    fn kill(&mut self, terms: &Terms, first: usize) -> Result<(), NoMemory> {
-        self.near.push(first)?;
-        for _ in 0..u64::MAX {
-            let Some(n) = self.near.pop() else {
-                break;
-            };
-            if flag(&self.dead, n) {
-                continue;
-            }
-            set_flag(&mut self.dead, n, true);
-            self.trail.push(Change::Dead(n))?;
-            for p in row(&terms.parents, n) {
-                if self.is_killed(terms.node(*p)) {
-                    self.near.push(*p)?;
-                }
-            }
-        }
-        Ok(())
     }
 
     /// Why the spread clashes, if it does.

@@ -2,7 +2,7 @@
 use crate::arrays::{NONE, number, set_number};
 use crate::positions::{Next, Positions};
 use crate::terms::Terms;
-use crate::trees::Trees;
+use crate::trees::{Standing, Trees};
 use ml_base::NoMemory;
 use ml_parity::{Game, Player, Solution, solve};
 use ml_trace::Mark;
@@ -96,17 +96,17 @@ impl Making {
     }
 }
 
-/// Adds the moves along the links of a position: those to weak leaves, or those to others.
+/// Adds the moves along the links of a position to leaves that stand so.
 fn push_links(
     trees: &Trees,
     positions: &Positions,
     p: usize,
-    weak: bool,
+    standing: Standing,
     making: &mut Making,
     moves: &mut Vec<u64>,
 ) -> Result<(), NoMemory> {
     for (link, found) in positions.links(p).iter().enumerate() {
-        if trees.counts(found.leaf, weak) {
+        if trees.standing(found.leaf) == standing {
             moves.push(making.vertex(Vertex::Link { position: p, link })?)?;
         }
     }
@@ -123,11 +123,11 @@ fn options(
     making: &mut Making,
 ) -> Result<Vec<u64>, NoMemory> {
     let mut moves = Vec::new(terms.alloc);
-    push_links(trees, positions, p, false, making, &mut moves)?;
+    push_links(trees, positions, p, Standing::Full, making, &mut moves)?;
     if mood == Mood::Careful || (!moves.is_empty() && !positions.hopes(p)) {
         return Ok(moves);
     }
-    push_links(trees, positions, p, true, making, &mut moves)?;
+    push_links(trees, positions, p, Standing::Weak, making, &mut moves)?;
     if waits(trees, positions, p) {
         moves.push(0)?;
     }
@@ -163,6 +163,18 @@ fn gos(
     Ok(moves)
 }
 
+/// The step of a vertex, if it is one.
+fn step_of(positions: &Positions, vertex: Vertex) -> Option<Next> {
+    match vertex {
+        Vertex::Go {
+            position,
+            link,
+            next,
+        } => positions.next_at(position, link, next),
+        _ => None,
+    }
+}
+
 /// Where a step of a link leads.
 fn goes_to(terms: &Terms, making: &mut Making, next: Option<Next>) -> Result<Vec<u64>, NoMemory> {
     let mut moves = Vec::new(terms.alloc);
@@ -185,11 +197,7 @@ fn moves_of(
         Vertex::Won | Vertex::Lost => Ok(Vec::new(terms.alloc)),
         Vertex::At(p) => options(terms, trees, positions, mood, p, making),
         Vertex::Link { position, link } => gos(terms, positions, making, position, link),
-        Vertex::Go {
-            position,
-            link,
-            next,
-        } => goes_to(terms, making, positions.next_at(position, link, next)),
+        Vertex::Go { .. } => goes_to(terms, making, step_of(positions, vertex)),
     }
 }
 
@@ -215,11 +223,7 @@ fn priority_at(terms: &Terms, positions: &Positions, vertex: Vertex) -> u32 {
         Vertex::Won => 0,
         Vertex::Lost => 1,
         Vertex::At(_) | Vertex::Link { .. } => terms.neutral,
-        Vertex::Go {
-            position,
-            link,
-            next,
-        } => match positions.next_at(position, link, next) {
+        Vertex::Go { .. } => match step_of(positions, vertex) {
             Some(next) => priority_of(terms, next.mark),
             None => terms.neutral,
         },

@@ -6,7 +6,7 @@ use crate::models::model;
 use crate::positions::Positions;
 use crate::refutations::refutation;
 use crate::terms::Terms;
-use crate::trees::Trees;
+use crate::trees::{Standing, Trees};
 use ml_base::NoMemory;
 use ml_graph::ModalGraph;
 use ml_history::History;
@@ -28,6 +28,15 @@ pub(crate) struct Engine<'a> {
     /// How many vertices the games had that were solved.
     solved: usize,
     most: usize,
+}
+
+/// What a round came to.
+#[derive(Drop)]
+enum Round {
+    /// A candidate was found, or nothing more is made.
+    Over(Option<Candidate>),
+    /// More was made.
+    GoesOn,
 }
 
 /// What is on Even's way.
@@ -96,32 +105,52 @@ impl<'a> Engine<'a> {
         }
         let _ = self.advance(vec![in self.terms.alloc; 0]?)?;
         for _ in 0..u64::MAX {
-            let Some(careful) = self.play(Mood::Careful)? else {
-                return Ok(None);
-            };
-            if careful.is_won(0) {
-                return model(&self.terms, &self.trees, &self.positions, &careful);
+            if let Round::Over(found) = self.round()? {
+                return Ok(found);
             }
-            let Some(hopeful) = self.hopeful()? else {
-                return Ok(None);
-            };
-            if !hopeful.is_won(0) {
-                return refutation(&self.terms, &self.trees, &self.positions, &hopeful);
-            }
-            if self.spent() >= self.most {
-                break;
-            }
-            let way = self.way(&hopeful)?;
-            if way.waiting.is_empty() {
-                for leaf in way.weak {
-                    self.trees.strengthen(leaf);
-                }
-                continue;
-            }
-            let made = self.advance(way.waiting)?;
-            self.widen(&hopeful, made)?;
         }
         Ok(None)
+    }
+
+    /// A round: the careful game, where Even's win is a model, and then the hopeful one.
+    fn round(&mut self) -> Result<Round, NoMemory> {
+        let Some(careful) = self.play(Mood::Careful)? else {
+            return Ok(Round::Over(None));
+        };
+        if careful.is_won(0) {
+            let found = model(&self.terms, &self.trees, &self.positions, &careful)?;
+            return Ok(Round::Over(found));
+        }
+        self.hopeful_round()
+    }
+
+    /// The hopeful game, where Odd's win is a refutation, and else more on Even's way, unless enough was made.
+    fn hopeful_round(&mut self) -> Result<Round, NoMemory> {
+        let Some(hopeful) = self.hopeful()? else {
+            return Ok(Round::Over(None));
+        };
+        if !hopeful.is_won(0) {
+            let found = refutation(&self.terms, &self.trees, &self.positions, &hopeful)?;
+            return Ok(Round::Over(found));
+        }
+        if self.spent() >= self.most {
+            return Ok(Round::Over(None));
+        }
+        self.more(&hopeful)?;
+        Ok(Round::GoesOn)
+    }
+
+    /// Makes what waits on Even's way; where nothing does, takes back the weak leaves there.
+    fn more(&mut self, hopeful: &Solved) -> Result<(), NoMemory> {
+        let Way { waiting, weak } = self.way(hopeful)?;
+        if waiting.is_empty() {
+            for leaf in weak {
+                self.trees.strengthen(leaf);
+            }
+            return Ok(());
+        }
+        let made = self.advance(waiting)?;
+        self.widen(hopeful, made)
     }
 
     /// The hopeful game, where Even may hope at more positions until it is won, or there are none.
@@ -160,7 +189,7 @@ impl<'a> Engine<'a> {
             return true;
         }
         for link in self.positions.links(p) {
-            if self.trees.counts(link.leaf, true) {
+            if self.trees.standing(link.leaf) == Standing::Weak {
                 return true;
             }
         }
@@ -187,10 +216,8 @@ impl<'a> Engine<'a> {
             match game.taken(p) {
                 Vertex::Link { link, .. } => {
                     if let Some(found) = self.positions.links(p).get(link) {
-                        if let Some(leaf) = self.trees.leaves.get(found.leaf) {
-                            if leaf.weak {
-                                way.weak.push(found.leaf)?;
-                            }
+                        if self.trees.standing(found.leaf) == Standing::Weak {
+                            way.weak.push(found.leaf)?;
                         }
                         for next in &found.nexts {
                             work.push(next.to)?;
@@ -262,7 +289,7 @@ impl<'a> Engine<'a> {
                 break;
             };
             let leaf = *leaf;
-            if !self.trees.is_gone(leaf) {
+            if self.trees.standing(leaf) != Standing::Gone {
                 self.positions.link(&self.terms, &self.trees, p, leaf)?;
             }
         }

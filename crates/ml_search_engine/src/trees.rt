@@ -52,6 +52,17 @@ pub(crate) struct Way {
     pub letter: Letter,
 }
 
+/// For whom a leaf counts.
+#[derive(Clone, Copy, PartialEq, Eq)]
+pub(crate) enum Standing {
+    /// For both players.
+    Full,
+    /// For Odd alone: its ways ask for less than the leaf does.
+    Weak,
+    /// For none: it was weak, and was taken back.
+    Gone,
+}
+
 /// A leaf from which diamonds lead on.
 #[derive(Drop)]
 pub(crate) struct Leaf {
@@ -59,10 +70,7 @@ pub(crate) struct Leaf {
     /// The positive literals.
     pub literals: Vec<usize>,
     pub ways: Vec<Way>,
-    /// The ways ask for less than the leaf does: it counts for Odd alone.
-    pub weak: bool,
-    /// It was taken back.
-    pub gone: bool,
+    pub standing: Standing,
 }
 
 /// The tree of a sequent.
@@ -209,19 +217,11 @@ impl Trees {
         }
     }
 
-    /// Was the leaf taken back?
-    pub(crate) fn is_gone(&self, leaf: usize) -> bool {
+    /// For whom a leaf counts.
+    pub(crate) fn standing(&self, leaf: usize) -> Standing {
         match self.leaves.get(leaf) {
-            Some(leaf) => leaf.gone,
-            None => true,
-        }
-    }
-
-    /// Does a leaf that is weak, or one that isn't, stand here?
-    pub(crate) fn counts(&self, leaf: usize, weak: bool) -> bool {
-        match self.leaves.get(leaf) {
-            Some(leaf) => leaf.weak == weak && !leaf.gone,
-            None => false,
+            Some(leaf) => leaf.standing,
+            None => Standing::Gone,
         }
     }
 
@@ -230,7 +230,7 @@ impl Trees {
         let Some(place) = self.leaves.get_mut(leaf) else {
             return;
         };
-        place.gone = true;
+        place.standing = Standing::Gone;
         let mut at = place.knot;
         if let Some(knot) = self.knots.get_mut(at) {
             knot.kind = Kind::Waits;
@@ -441,7 +441,7 @@ impl Trees {
         }
         match next {
             Some(node) => {
-                self.split(terms, at, node)?;
+                self.split(at, node)?;
                 Ok(false)
             }
             None => {
@@ -452,9 +452,8 @@ impl Trees {
     }
 
     /// Splits at an or-node.
-    fn split(&mut self, terms: &Terms, at: usize, node: usize) -> Result<(), NoMemory> {
+    fn split(&mut self, at: usize, node: usize) -> Result<(), NoMemory> {
         let plain = self.is_plain(at);
-        let _ = terms;
         let left = self.knot(at, plain)?;
         let right = self.knot(at, plain)?;
         self.set(at, Kind::Split { node, left, right }, true, None);
@@ -468,15 +467,14 @@ impl Trees {
         sequent: usize,
         at: usize,
         ways: Vec<Way>,
-        weak: bool,
+        standing: Standing,
     ) -> Result<(), NoMemory> {
         let number = self.leaves.len();
         self.leaves.push(Leaf {
             knot: at,
             literals: Vec::from_slice(terms.alloc, self.branch.literals())?,
             ways,
-            weak,
-            gone: false,
+            standing,
         })?;
         if let Some(tree) = self.trees.get_mut(sequent) {
             tree.leaves.push(number)?;
@@ -500,7 +498,7 @@ impl Trees {
                 ways.push(way)?;
             }
         }
-        self.push_leaf(terms, sequent, at, ways, false)
+        self.push_leaf(terms, sequent, at, ways, Standing::Full)
     }
 
     /// The Diamonds that stand, ascending, with their actions.
@@ -574,7 +572,7 @@ impl Trees {
         let Some(leaf) = self.leaves.get(leaf) else {
             return Ok(None);
         };
-        if leaf.weak || leaf.gone {
+        if leaf.standing != Standing::Full {
             return Ok(None);
         }
         let mut found = Vec::new(terms.alloc);
@@ -611,7 +609,7 @@ impl Trees {
                 }
             }
         }
-        self.push_leaf(terms, sequent, at, ways, true)
+        self.push_leaf(terms, sequent, at, ways, Standing::Weak)
     }
 }
 
