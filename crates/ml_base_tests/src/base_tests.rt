@@ -71,29 +71,37 @@ fn hash_of<T: Hash>(value: &T) -> u64 {
     state.finish()
 }
 
-#[test]
-fn names_compare_by_bytes(rt: HostRuntime) -> Result<(), Fail> {
-    let (p, q) = (Name::new(rt.alloc(), b"p")?, Name::new(rt.alloc(), b"p_1")?);
-    assert!(rt; p != q && p < q && q.cmp(&p) == Ordering::Greater);
-    Ok(())
+// Are the two equal, with equal hashes?
+fn are_equal<T: Eq + Hash>(one: &T, other: &T) -> bool {
+    one == other && hash_of(one) == hash_of(other)
+}
+
+// Does the first stand before the second, with another hash?
+fn are_apart<T: Ord + Hash>(first: &T, second: &T) -> bool {
+    first != second
+        && first < second
+        && second.cmp(first) == Ordering::Greater
+        && hash_of(first) != hash_of(second)
+}
+
+// Do the names of these bytes stand apart, and is the first one as its copy?
+fn are_names_apart(alloc: Global, first: &[u8], second: &[u8]) -> Result<bool, NameRefusal> {
+    let first = Name::new(alloc, first)?;
+    let second = Name::new(alloc, second)?;
+    Ok(are_apart(&first, &second) && are_equal(&first, &first.copy()?))
+}
+
+// The same of actions.
+fn are_actions_apart(alloc: Global, first: &[u8], second: &[u8]) -> Result<bool, NameRefusal> {
+    let first = Action::new(alloc, first)?;
+    let second = Action::new(alloc, second)?;
+    Ok(are_apart(&first, &second) && are_equal(&first, &first.copy()?))
 }
 
 #[test]
-fn names_are_hashed_by_bytes(rt: HostRuntime) -> Result<(), Fail> {
-    let (p, q) = (Name::new(rt.alloc(), b"p")?, Name::new(rt.alloc(), b"p_1")?);
-    let copy = p.copy()?;
-    assert!(rt; p == copy && hash_of(&p) == hash_of(&copy) && hash_of(&p) != hash_of(&q));
-    Ok(())
-}
-
-#[test]
-fn actions_compare_by_bytes(rt: HostRuntime) -> Result<(), Fail> {
-    let (any, a) = (
-        Action::new(rt.alloc(), b"_")?,
-        Action::new(rt.alloc(), b"a")?,
-    );
-    let copy = any.copy()?;
-    assert!(rt; any == copy && hash_of(&any) == hash_of(&copy) && any != a && any < a);
+fn names_and_actions_by_bytes(rt: HostRuntime) -> Result<(), Fail> {
+    assert!(rt; are_names_apart(rt.alloc(), b"p", b"p_1")?);
+    assert!(rt; are_actions_apart(rt.alloc(), b"_", b"a")?);
     Ok(())
 }
 
@@ -152,19 +160,47 @@ fn whole_reads(rt: HostRuntime) -> Result<(), Fail> {
     Ok(())
 }
 
+// How many bytes are asked for, and those that are given; none where the call fails.
+const PIECES: [(usize, Option<&'static [u8]>); 6] = [
+    (8, Some(b"he")),
+    (8, None),
+    (1, Some(b"l")),
+    (8, Some(b"lo")),
+    (8, Some(b"")),
+    (8, Some(b"")),
+];
+
+// Is this given?
+fn is_given(source: &mut MemSource, many: usize, wanted: Option<&[u8]>) -> bool {
+    let mut room = [0u8; 8];
+    let Some(buf) = room.get_mut(..many) else {
+        return false;
+    };
+    if buf.is_empty() {
+        return false;
+    }
+    match source.read(buf) {
+        Ok(count) => wanted.is_some() && buf.get(..count) == wanted,
+        Err(Failed) => wanted.is_none(),
+    }
+}
+
+// Are these given one after the other?
+fn are_given(source: &mut MemSource, pieces: &[(usize, Option<&'static [u8]>)]) -> bool {
+    for (many, wanted) in pieces {
+        if !is_given(source, *many, *wanted) {
+            return false;
+        }
+    }
+    true
+}
+
 // A chosen call fails, and the bytes before and after it are the same.
 #[test]
 fn pieces_given(rt: HostRuntime) -> Result<(), Fail> {
     let fails = Vec::from_slice(rt.alloc(), &[2])?;
     let mut source = MemSource::new(Vec::from_slice(rt.alloc(), b"hello")?, 2, fails);
-    let mut buf = [0u8; 8];
-    assert_eq!(rt; source.read(&mut buf), Ok(2));
-    assert!(rt; &buf[..2] == b"he".as_slice());
-    assert_eq!(rt; source.read(&mut buf), Err(Failed));
-    assert_eq!(rt; source.read(&mut buf[..1]), Ok(1));
-    assert_eq!(rt; source.read(&mut buf), Ok(2));
-    assert!(rt; &buf[..2] == b"lo".as_slice());
-    assert_eq!(rt; source.read(&mut buf), Ok(0));
+    assert!(rt; are_given(&mut source, &PIECES));
     Ok(())
 }
 
@@ -259,6 +295,12 @@ fn a_reader(rt: HostRuntime) -> Result<(), Fail> {
     let mut whole: &[u8] = b"hello";
     let bytes = read_all(rt.alloc(), &mut StdSource::new(&mut whole), 100)?;
     assert!(rt; bytes.as_slice() == b"hello".as_slice());
+    Ok(())
+}
+
+// What was read before a failure isn't given, and the next read begins behind it.
+#[test]
+fn a_reader_that_fails(rt: HostRuntime) -> Result<(), Fail> {
     let mut source = StdSource::new(Flaky { calls: 0 });
     let refusal = read_all(rt.alloc(), &mut source, 100).err();
     assert_eq!(rt; refusal, Some(ReadRefusal::ReadFault));
@@ -305,13 +347,25 @@ fn a_writer(rt: HostRuntime) -> Result<(), Fail> {
     let mut taken = Vec::new(rt.alloc());
     write_all(&mut StdSink::new(&mut taken), b"hello")?;
     assert!(rt; taken.as_slice() == b"hello".as_slice());
+    Ok(())
+}
+
+// Does each of so many writes fail?
+fn fail_to_write(sink: &mut StdSink<Flaky>, count: u32) -> bool {
+    for _ in 0..count {
+        if sink.write(b"hi").is_ok() {
+            return false;
+        }
+    }
+    true
+}
+
+#[test]
+fn a_writer_that_fails(rt: HostRuntime) {
     let mut sink = StdSink::new(Flaky { calls: 0 });
     assert_eq!(rt; sink.write(b"hi"), Ok(1));
-    assert_eq!(rt; sink.write(b"hi"), Err(Failed));
-    assert_eq!(rt; sink.write(b"hi"), Err(Failed));
-    assert_eq!(rt; sink.write(b"hi"), Err(Failed));
+    assert!(rt; fail_to_write(&mut sink, 3));
     assert_eq!(rt; write_all(&mut sink, b"hi"), Ok(()));
-    Ok(())
 }
 
 // No vector has so much room.
@@ -321,16 +375,51 @@ fn too_much_room(rt: HostRuntime) {
     assert_eq!(rt; sink.err(), Some(NoMemory));
 }
 
+// Numbers that are inserted one after the other; is each of them new?
+const INSERTED: [(u32, bool); 3] = [(3, true), (1, true), (3, false)];
+
+// Are those numbers new to the set that should be?
+fn are_new(set: &mut IdSet, numbers: &[(u32, bool)]) -> Result<bool, NoMemory> {
+    for (number, is_new) in numbers {
+        if set.insert(*number)? != *is_new {
+            return Ok(false);
+        }
+    }
+    Ok(true)
+}
+
+// Has the set these numbers, and its copy too?
+fn are_values(set: &IdSet, numbers: &[u32]) -> Result<bool, NoMemory> {
+    Ok(set.values() == numbers && set.copy()?.values() == numbers)
+}
+
 #[test]
 fn sets_of_numbers(rt: HostRuntime) -> Result<(), Fail> {
     let mut set = IdSet::new(rt.alloc());
-    assert!(rt; set.insert(3)? && set.insert(1)? && !set.insert(3)?);
-    assert_eq!(rt; set.values(), [1, 3].as_slice());
+    assert!(rt; are_new(&mut set, &INSERTED)?);
+    assert!(rt; are_values(&set, &[1, 3])?);
     assert!(rt; set.contains(3) && !set.contains(2));
-    let mut two = IdSet::new(rt.alloc());
-    two.insert(2)?;
-    assert_eq!(rt; set.union(&two)?.values(), [1, 2, 3].as_slice());
-    assert_eq!(rt; set.copy()?.values(), [1, 3].as_slice());
-    assert_eq!(rt; set.union(&set)?.values(), [1, 3].as_slice());
+    Ok(())
+}
+
+fn set_of(alloc: Global, numbers: &[u32]) -> Result<IdSet, NoMemory> {
+    let mut set = IdSet::new(alloc);
+    for number in numbers {
+        set.insert(*number)?;
+    }
+    Ok(set)
+}
+
+// Has the union of the set with these numbers those?
+fn is_union(alloc: Global, set: &IdSet, numbers: &[u32], wanted: &[u32]) -> Result<bool, NoMemory> {
+    let other = set_of(alloc, numbers)?;
+    Ok(set.union(&other)?.values() == wanted)
+}
+
+#[test]
+fn unions_of_sets(rt: HostRuntime) -> Result<(), Fail> {
+    let set = set_of(rt.alloc(), &[3, 1])?;
+    assert!(rt; is_union(rt.alloc(), &set, &[2], &[1, 2, 3])?);
+    assert!(rt; is_union(rt.alloc(), &set, &[1, 3], &[1, 3])?);
     Ok(())
 }

@@ -81,17 +81,24 @@ fn has_edges(structure: &Structure, quotient: &Quotient) -> bool {
     true
 }
 
-// is the quotient of the structure as the definition says, and has its own quotient as many states?
+// has the structure's quotient as many states?
+fn is_least(alloc: Global, structure: &Structure) -> Result<bool, Fail> {
+    let found = quotient(alloc, structure)?;
+    Ok(found.structure.states() == structure.states())
+}
+
+// is the quotient of the structure as the definition says, with these pairs of bisimilar states?
+fn is_quotient(structure: &Structure, found: &Quotient, pairs: &Pairs) -> bool {
+    joins_bisimilar(structure, found, pairs)
+        && has_classes(structure, found)
+        && has_edges(structure, found)
+}
+
+// is it, and has its own quotient as many states?
 fn is_right(alloc: Global, structure: &Structure) -> Result<bool, Fail> {
     let pairs = bisimilar(alloc, structure)?;
     let found = quotient(alloc, structure)?;
-    let again = quotient(alloc, &found.structure)?;
-    Ok(
-        joins_bisimilar(structure, &found, &pairs)
-            && has_classes(structure, &found)
-            && has_edges(structure, &found)
-            && again.structure.states() == found.structure.states(),
-    )
+    Ok(is_quotient(structure, &found, &pairs) && is_least(alloc, &found.structure)?)
 }
 
 // the number of the first structure whose quotient is another

@@ -1,9 +1,9 @@
 // Structures that look random.
 ghost use Rattle.std.specs.Prelude.{◌<◌};
 
-use ml_base::{Action, Edge, Name};
+use ml_base::NameRefusal;
 use ml_kripke::Structure;
-use ml_tests::Numbers;
+use ml_tests::{Draft, Numbers};
 use std::alloc::Global;
 use std::test::Fail;
 
@@ -22,29 +22,14 @@ pub(crate) enum Shape {
 fn push_labels(
     alloc: Global,
     numbers: &mut Numbers,
-    labels: &mut Vec<(u32, Name)>,
     state: u32,
-) -> Result<(), Fail> {
+    draft: &mut Draft,
+) -> Result<(), NameRefusal> {
     for name in [b"p", b"q"] {
         if numbers.below(3) == 0 {
-            labels.push((state, Name::new(alloc, name.as_slice())?))?;
+            draft.add_label(alloc, state, name.as_slice())?;
         }
     }
-    Ok(())
-}
-
-fn push_edge(
-    alloc: Global,
-    edges: &mut Vec<Edge>,
-    source: u32,
-    action: &[u8],
-    target: u32,
-) -> Result<(), Fail> {
-    edges.push(Edge {
-        source,
-        action: Action::new(alloc, action)?,
-        target,
-    })?;
     Ok(())
 }
 
@@ -54,20 +39,20 @@ fn push_edges(
     numbers: &mut Numbers,
     shape: Shape,
     states: u32,
-    edges: &mut Vec<Edge>,
     source: u32,
-) -> Result<(), Fail>
+    draft: &mut Draft,
+) -> Result<(), NameRefusal>
     requires { 0 < states }
 {
     if shape != Shape::Any {
         let target = numbers.below(u64::from(states)) as u32;
-        push_edge(alloc, edges, source, b"_", target)?;
+        draft.add_edge(alloc, source, b"_", target)?;
     }
     if shape != Shape::Word {
         for target in 0..states {
             for action in [b"_", b"a", b"b"] {
                 if numbers.below(5) == 0 {
-                    push_edge(alloc, edges, source, action.as_slice(), target)?;
+                    draft.add_edge(alloc, source, action.as_slice(), target)?;
                 }
             }
         }
@@ -82,11 +67,10 @@ pub(crate) fn random_structure(
     shape: Shape,
 ) -> Result<Structure, Fail> {
     let states = numbers.below(6) as u32 + 1;
-    let mut labels = Vec::new(alloc);
-    let mut edges = Vec::new(alloc);
+    let mut draft = Draft::new(alloc);
     for state in 0..states {
-        push_labels(alloc, numbers, &mut labels, state)?;
-        push_edges(alloc, numbers, shape, states, &mut edges, state)?;
+        push_labels(alloc, numbers, state, &mut draft)?;
+        push_edges(alloc, numbers, shape, states, state, &mut draft)?;
     }
-    Ok(Structure::build(alloc, states, labels, edges)?)
+    Ok(draft.structure(alloc, states)?)
 }

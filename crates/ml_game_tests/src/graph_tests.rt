@@ -1,10 +1,11 @@
 // Modal graphs: what `build` refuses, and checking games of small graphs, worked out by hand.
 ghost use Rattle.std.specs.Prelude.{◌≡◌, ◌<◌, length};
 
-use ml_base::{Action, Edge, Name};
+use ml_base::{Action, Name};
 use ml_graph::{GraphRefusal, ModalGraph, Node, checking_game};
 use ml_kripke::Structure;
 use ml_parity::{Player, solve};
+use ml_tests::draft_of;
 use std::alloc::Global;
 use std::test::Fail;
 
@@ -76,17 +77,12 @@ pub(crate) fn large_graph(
 
 // Three states: an edge from 0 to 1, from 1 to 1 and from 0 to 2; p is true at 1 alone.
 fn three_states(alloc: Global) -> Result<Structure, Fail> {
-    let mut edges = Vec::new(alloc);
-    for (source, target) in [(0, 1), (1, 1), (0, 2)] {
-        let action = Action::new(alloc, b"_")?;
-        edges.push(Edge {
-            source,
-            action,
-            target,
-        })?;
-    }
-    let labels = vec![in alloc; (1, Name::new(alloc, b"p")?)]?;
-    Ok(Structure::build(alloc, 3, labels, edges)?)
+    let draft = draft_of(
+        alloc,
+        &[(1, b"p")],
+        &[(0, b"_", 1), (1, b"_", 1), (0, b"_", 2)],
+    )?;
+    Ok(draft.structure(alloc, 3)?)
 }
 
 // Does the graph hold at the state, by its checking game?

@@ -19,7 +19,10 @@ const TEXTS: [Row; 4] = [
     // from some moment on p
     (
         b"HOA: v1 States: 2 Start: 0 AP: 1 \"p\" Acceptance: 1 Inf(0) --BODY-- State: 0 [t] 0 [0] 1 State: 1 [0] 1 {0} --END--",
-        b"HOA: v1\nStates: 3\nStart: 0\nAP: 1 \"p\"\nAcceptance: 7 Fin(0)&(Inf(1)|(Fin(2)&(Inf(3)|(Fin(4)&(Inf(5)|Fin(6))))))\n--BODY--\nState: 0\n[!0] 0 {6}\n[0] 1 {6}\nState: 1\n[!0] 0 {6}\n[0] 2 {6}\nState: 2\n[!0] 0 {2}\n[0] 2 {3}\n--END--\n",
+        b"HOA: v1\nStates: 3\nStart: 0\nAP: 1 \"p\"\n\
+           Acceptance: 7 Fin(0)&(Inf(1)|(Fin(2)&(Inf(3)|(Fin(4)&(Inf(5)|Fin(6))))))\n--BODY--\n\
+           State: 0\n[!0] 0 {6}\n[0] 1 {6}\nState: 1\n[!0] 0 {6}\n[0] 2 {6}\nState: 2\n[!0] 0 {2}\n\
+           [0] 2 {3}\n--END--\n",
     ),
     // no proposition
     (
@@ -29,7 +32,10 @@ const TEXTS: [Row; 4] = [
     // always both, where the names of the propositions are written as they stand
     (
         b"HOA: v1 States: 1 Start: 0 AP: 2 \"a b\" \"\\\"\" Acceptance: 0 t --BODY-- State: 0 [0&1] 0 --END--",
-        b"HOA: v1\nStates: 2\nStart: 0\nAP: 2 \"a b\" \"\\\"\"\nAcceptance: 5 Fin(0)&(Inf(1)|(Fin(2)&(Inf(3)|Fin(4))))\n--BODY--\nState: 0\n[!0&!1] 1 {0}\n[0&!1] 1 {0}\n[!0&1] 1 {0}\n[0&1] 0 {1}\nState: 1\n[!0&!1] 1 {4}\n[0&!1] 1 {4}\n[!0&1] 1 {4}\n[0&1] 1 {4}\n--END--\n",
+        b"HOA: v1\nStates: 2\nStart: 0\nAP: 2 \"a b\" \"\\\"\"\n\
+           Acceptance: 5 Fin(0)&(Inf(1)|(Fin(2)&(Inf(3)|Fin(4))))\n--BODY--\nState: 0\n\
+           [!0&!1] 1 {0}\n[0&!1] 1 {0}\n[!0&1] 1 {0}\n[0&1] 0 {1}\nState: 1\n[!0&!1] 1 {4}\n\
+           [0&!1] 1 {4}\n[!0&1] 1 {4}\n[0&1] 1 {4}\n--END--\n",
     ),
 ];
 

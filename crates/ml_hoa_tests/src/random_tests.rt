@@ -134,11 +134,7 @@ impl Reached {
     fn none(alloc: Global, states: u32, places: usize) -> Result<Reached, Fail> {
         let mut rows = Vec::new(alloc);
         for _ in 0..states {
-            let mut row = Vec::new(alloc);
-            for _ in 0..places {
-                row.push(false)?;
-            }
-            rows.push(row)?;
+            rows.push(vec![in alloc; false; places]?)?;
         }
         Ok(Reached { rows })
     }
@@ -277,10 +273,14 @@ fn agree_on_words(
     Ok(true)
 }
 
-fn agree(alloc: Global, automaton: &PlainAutomaton) -> Result<bool, Fail> {
+fn determinised(alloc: Global, automaton: &PlainAutomaton) -> Result<Deterministic, Fail> {
     let text = text_of(alloc, automaton)?;
     let buchi = read(alloc, text.as_bytes())?;
-    let deterministic = determinise(alloc, &buchi, 100_000)?;
+    Ok(determinise(alloc, &buchi, 100_000)?)
+}
+
+fn agree(alloc: Global, automaton: &PlainAutomaton) -> Result<bool, Fail> {
+    let deterministic = determinised(alloc, automaton)?;
     for (length, words) in [(1, 4), (2, 16), (3, 64)] {
         if !agree_on_words(alloc, automaton, &deterministic, length, words)? {
             return Ok(false);

@@ -170,10 +170,17 @@ fn shown_with(alloc: Global, guard: &[u8]) -> Result<Vec<u8>, AllocError> {
     Ok(wanted)
 }
 
+// Is this the guard of the label?
+fn is_guard(alloc: Global, label: &[u8], guard: &[u8]) -> Result<bool, Fail> {
+    let text = text_with(alloc, label)?;
+    let wanted = shown_with(alloc, guard)?;
+    is_read(alloc, &text, &wanted)
+}
+
 // The place of the first label that has another guard.
 fn first_wrong_label(alloc: Global, rows: &[Row]) -> Result<Option<usize>, Fail> {
     for (place, (label, guard)) in rows.iter().enumerate() {
-        if !is_read(alloc, &text_with(alloc, label)?, &shown_with(alloc, guard)?)? {
+        if !is_guard(alloc, label, guard)? {
             return Ok(Some(place));
         }
     }

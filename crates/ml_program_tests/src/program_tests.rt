@@ -18,6 +18,29 @@ fn words_of(alloc: Global, line: &str) -> Result<Vec<String>, AllocError> {
     Ok(words)
 }
 
+fn source_of(alloc: Global, text: &[u8], piece: u32, fails: &[u64]) -> Result<MemSource, AllocError>
+    requires { 1 ≤ piece }
+{
+    let text = Vec::from_slice(alloc, text)?;
+    let fails = Vec::from_slice(alloc, fails)?;
+    Ok(MemSource::new(text, piece, fails))
+}
+
+// the status of a call that reads there, with its output
+fn answer_to(
+    alloc: Global,
+    words: &[String],
+    source: &mut MemSource,
+    piece: u32,
+    fails: &[u64],
+) -> Result<(u8, Vec<u8>), Fail>
+    requires { 1 ≤ piece }
+{
+    let mut sink = MemSink::new(alloc, piece, Vec::from_slice(alloc, fails)?, 4096)?;
+    let status = run(alloc, words, source, &mut sink);
+    Ok((status.code(), Vec::from_slice(alloc, sink.taken())?))
+}
+
 // the status of a call, with its output
 fn answer(
     alloc: Global,
@@ -30,14 +53,8 @@ fn answer(
     requires { 1 ≤ piece }
 {
     let words = words_of(alloc, words)?;
-    let mut source = MemSource::new(
-        Vec::from_slice(alloc, text)?,
-        piece,
-        Vec::from_slice(alloc, read_fails)?,
-    );
-    let mut sink = MemSink::new(alloc, piece, Vec::from_slice(alloc, write_fails)?, 4096)?;
-    let status = run(alloc, &words, &mut source, &mut sink);
-    Ok((status.code(), Vec::from_slice(alloc, sink.taken())?))
+    let mut source = source_of(alloc, text, piece, read_fails)?;
+    answer_to(alloc, &words, &mut source, piece, write_fails)
 }
 
 // The words of a call, its input, the size of the pieces, which of its reads and writes fail, and its status and output.

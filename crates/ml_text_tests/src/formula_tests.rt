@@ -11,33 +11,56 @@ enum Logic {
     Ltl,
 }
 
-// Has the formula of a text in this logic so many occurrences, and its copy its text?
+// The canonical text of a formula's copy.
+macro_rules! text_of_copy {
+    ($logic:ident, $alloc:ident, $formula:ident) => {{
+        let copied = $logic::copy($alloc, $formula)?;
+        Ok($logic::print($alloc, &copied)?)
+    }};
+}
+
+fn copied_mu(alloc: Global, formula: &ml_mu::Formula) -> Result<Vec<u8>, Fail> {
+    text_of_copy!(ml_mu, alloc, formula)
+}
+
+fn copied_pdl(alloc: Global, formula: &ml_pdl::Formula) -> Result<Vec<u8>, Fail> {
+    text_of_copy!(ml_pdl, alloc, formula)
+}
+
+fn copied_ctl(alloc: Global, formula: &ml_ctl::Formula) -> Result<Vec<u8>, Fail> {
+    text_of_copy!(ml_ctl, alloc, formula)
+}
+
+fn copied_ltl(alloc: Global, formula: &ml_ltl::Formula) -> Result<Vec<u8>, Fail> {
+    text_of_copy!(ml_ltl, alloc, formula)
+}
+
+// Has the formula of a canonical text so many occurrences, and its copy the same text?
 macro_rules! is_counted {
-    ($logic:ident, $alloc:ident, $text:ident, $count:ident) => {{
+    ($logic:ident, $copied:ident, $alloc:ident, $text:ident, $count:ident) => {{
         let formula = $logic::parse($alloc, $text)?;
-        let copied = $logic::copy($alloc, &formula)?;
-        let same = $logic::print($alloc, &copied)? == $logic::print($alloc, &formula)?;
-        Ok(same && $logic::occurrences(&formula) == $count)
+        let copied = $copied($alloc, &formula)?;
+        Ok(copied.as_slice() == $text && $logic::occurrences(&formula) == $count)
     }};
 }
 
 fn counts_mu(alloc: Global, text: &[u8], count: u32) -> Result<bool, Fail> {
-    is_counted!(ml_mu, alloc, text, count)
+    is_counted!(ml_mu, copied_mu, alloc, text, count)
 }
 
 fn counts_pdl(alloc: Global, text: &[u8], count: u32) -> Result<bool, Fail> {
-    is_counted!(ml_pdl, alloc, text, count)
+    is_counted!(ml_pdl, copied_pdl, alloc, text, count)
 }
 
 fn counts_ctl(alloc: Global, text: &[u8], count: u32) -> Result<bool, Fail> {
-    is_counted!(ml_ctl, alloc, text, count)
+    is_counted!(ml_ctl, copied_ctl, alloc, text, count)
 }
 
 fn counts_ltl(alloc: Global, text: &[u8], count: u32) -> Result<bool, Fail> {
-    is_counted!(ml_ltl, alloc, text, count)
+    is_counted!(ml_ltl, copied_ltl, alloc, text, count)
 }
 
-// A logic, a text, and how many occurrences its formula has.
+// A logic, a canonical text, and how many occurrences its formula has.
 type Row = (Logic, &'static [u8], u32);
 
 // The place of the first row that is told otherwise.
@@ -59,30 +82,30 @@ fn first_wrong(alloc: Global, rows: &[Row]) -> Result<Option<usize>, Fail> {
 const FORMULAS: [Row; 26] = [
     (Logic::Mu, b"p", 1),
     (Logic::Mu, b"!p", 2),
-    (Logic::Mu, b"p & q", 3),
-    (Logic::Mu, b"p <-> q", 5),
+    (Logic::Mu, b"(p & q)", 3),
+    (Logic::Mu, b"(p <-> q)", 5),
     (Logic::Mu, b"<a>p", 2),
-    (Logic::Mu, b"mu X. X", 2),
-    (Logic::Mu, b"p & !q", 4),
-    (Logic::Mu, b"nu X. mu Y. <a>X | [b](Y & p)", 9),
+    (Logic::Mu, b"(mu X. X)", 2),
+    (Logic::Mu, b"(p & !q)", 4),
+    (Logic::Mu, b"(nu X. (mu Y. (<a>X | [b](Y & p))))", 9),
     (Logic::Pdl, b"p", 1),
-    (Logic::Pdl, b"p <-> q", 5),
+    (Logic::Pdl, b"(p <-> q)", 5),
     (Logic::Pdl, b"<a>p", 3),
     (Logic::Pdl, b"<>p", 3),
-    (Logic::Pdl, b"<p?>q", 4),
+    (Logic::Pdl, b"<(p)?>q", 4),
     (Logic::Pdl, b"[(a;b)*]p", 6),
-    (Logic::Pdl, b"repeat(a + b)", 4),
-    (Logic::Pdl, b"<(a;p?)*>!p & [a]p", 12),
+    (Logic::Pdl, b"repeat((a+b))", 4),
+    (Logic::Pdl, b"(<(a;(p)?)*>!p & [a]p)", 12),
     (Logic::Ctl, b"p", 1),
-    (Logic::Ctl, b"p <-> q", 5),
+    (Logic::Ctl, b"(p <-> q)", 5),
     (Logic::Ctl, b"!tt", 2),
     (Logic::Ctl, b"E X p", 3),
     (Logic::Ctl, b"A (p U q)", 4),
-    (Logic::Ctl, b"E (p W q) -> A (q R p)", 9),
+    (Logic::Ctl, b"(E (p W q) -> A (q R p))", 9),
     (Logic::Ltl, b"p", 1),
     (Logic::Ltl, b"X p", 2),
-    (Logic::Ltl, b"p <-> G q", 6),
-    (Logic::Ltl, b"(p U q) W r", 5),
+    (Logic::Ltl, b"(p <-> G q)", 6),
+    (Logic::Ltl, b"((p U q) W r)", 5),
 ];
 
 #[test]

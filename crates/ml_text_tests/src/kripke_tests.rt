@@ -1,83 +1,105 @@
 // Structures built, and models read from their texts.
-use ml_base::{Action, Edge, Name};
+use ml_base::{Action, Name, NameRefusal};
 use ml_kripke::{Model, Structure, StructureRefusal, read_model, write_model};
+use ml_tests::{Arrow, Label, draft_of};
 use std::alloc::Global;
 use std::test::Fail;
 
+// Two states, of which the second one leads to both.
+const TEXT: &'static [u8] =
+    b"states 2\nstart 1\nstate 0 p\nstate 1 p q\nedge 0 _ 1\nedge 1 a 1\nedge 1 b 0\nend\n";
+
+// Is the model of the text written as it was?
+fn is_written_again(alloc: Global, text: &[u8]) -> Result<bool, Fail> {
+    let model = read_model(alloc, text, 6)?;
+    Ok(write_model(alloc, &model)?.as_slice() == text)
+}
+
 #[test]
 fn what_is_written_is_read(rt: HostRuntime) -> Result<(), Fail> {
-    let alloc = rt.alloc();
-    let text =
-        b"states 2\nstart 1\nstate 0 p\nstate 1 p q\nedge 0 _ 1\nedge 1 a 1\nedge 1 b 0\nend\n";
-    let model = read_model(alloc, text, 6)?;
-    assert_eq!(rt; model.start, 1);
-    assert_eq!(rt; model.structure.states(), 2);
-    assert_eq!(rt; model.structure.edge_count(), 3);
-    let again = write_model(alloc, &model)?;
-    assert_eq!(rt; again.as_slice(), text.as_slice());
+    assert!(rt; is_written_again(rt.alloc(), TEXT)?);
+    let model = read_model(rt.alloc(), TEXT, 6)?;
+    assert_eq!(rt;
+        (
+            model.start,
+            model.structure.states(),
+            model.structure.edge_count()
+        ),
+        (1, 2, 3)
+    );
     Ok(())
 }
 
-fn edge(alloc: Global, source: u32, action: &[u8], target: u32) -> Result<Edge, Fail> {
-    let action = Action::new(alloc, action)?;
-    Ok(Edge {
-        source,
-        action,
-        target,
-    })
+// Why so many states with this edge are no structure, if they aren't.
+fn refusal(
+    alloc: Global,
+    states: u32,
+    edge: Arrow,
+) -> Result<Option<StructureRefusal>, NameRefusal> {
+    let draft = draft_of(alloc, &[], &[edge])?;
+    Ok(draft.structure(alloc, states).err())
 }
 
 #[test]
 fn refusals(rt: HostRuntime) -> Result<(), Fail> {
-    let alloc = rt.alloc();
-    let none = Structure::build(alloc, 0, Vec::new(alloc), Vec::new(alloc));
-    assert!(rt; matches!(none, Err(StructureRefusal::NoStates)));
-    let edges = vec![in alloc; edge(alloc, 0, b"_", 1)?]?;
-    let beyond = Structure::build(alloc, 1, Vec::new(alloc), edges);
-    assert!(rt; matches!(beyond, Err(StructureRefusal::StateOutOfRange(1))));
+    assert_eq!(rt;
+        refusal(rt.alloc(), 0, (0, b"_", 0))?,
+        Some(StructureRefusal::NoStates)
+    );
+    assert_eq!(rt;
+        refusal(rt.alloc(), 1, (0, b"_", 1))?,
+        Some(StructureRefusal::StateOutOfRange(1))
+    );
     Ok(())
 }
 
-// Two states, with labels and edges in any order, some of them twice.
+// The labels and the edges of that structure in any order, some of them twice.
+const LABELS: [Label; 4] = [(1, b"q"), (0, b"p"), (1, b"p"), (1, b"p")];
+
+const EDGES: [Arrow; 4] = [(1, b"b", 0), (0, b"_", 1), (1, b"a", 1), (1, b"b", 0)];
+
 fn two_states(alloc: Global) -> Result<Structure, Fail> {
-    let mut labels = Vec::new(alloc);
-    for (state, name) in [(1, b"q"), (0, b"p"), (1, b"p"), (1, b"p")] {
-        labels.push((state, Name::new(alloc, name.as_slice())?))?;
-    }
-    let mut edges = Vec::new(alloc);
-    for (source, action, target) in [(1, b"b", 0), (0, b"_", 1), (1, b"a", 1), (1, b"b", 0)] {
-        edges.push(edge(alloc, source, action.as_slice(), target)?)?;
-    }
-    Ok(Structure::build(alloc, 2, labels, edges)?)
+    Ok(draft_of(alloc, &LABELS, &EDGES)?.structure(alloc, 2)?)
+}
+
+// Are the edges in order, and is the proposition true at the second state?
+fn is_in_order(structure: &Structure, p: &Name) -> bool {
+    structure.states() == 2
+        && structure.has_label(1, p)
+        && structure.edge_count() == 3
+        && structure.edge_at(0).target == 1
 }
 
 #[test]
 fn a_structure_in_any_order(rt: HostRuntime) -> Result<(), Fail> {
     let structure = two_states(rt.alloc())?;
-    let p = Name::new(rt.alloc(), b"p")?;
-    assert!(rt; structure.states() == 2 && structure.has_label(1, &p));
-    assert!(rt; structure.edge_count() == 3 && structure.edge_at(0).target == 1);
+    assert!(rt; is_in_order(&structure, &Name::new(rt.alloc(), b"p")?));
     Ok(())
+}
+
+// Is this the first state without an edge by the action?
+fn is_dead(structure: &Structure, action: &Action, state: u32) -> bool {
+    structure.dead_state(action) == Some(state) && !structure.is_total(action)
 }
 
 #[test]
 fn a_dead_state(rt: HostRuntime) -> Result<(), Fail> {
     let structure = two_states(rt.alloc())?;
-    let blank = Action::new(rt.alloc(), b"_")?;
-    assert!(rt; structure.dead_state(&blank) == Some(1) && !structure.is_total(&blank));
+    assert!(rt; is_dead(&structure, &Action::new(rt.alloc(), b"_")?, 1));
     Ok(())
+}
+
+// The text of the structure with this start.
+fn text_from(alloc: Global, structure: Structure, start: u32) -> Result<Vec<u8>, Fail> {
+    if start >= structure.states() {
+        return Err(Fail::new("too few states"));
+    }
+    Ok(write_model(alloc, &Model::new(structure, start))?)
 }
 
 #[test]
 fn the_text_of_a_structure(rt: HostRuntime) -> Result<(), Fail> {
-    let structure = two_states(rt.alloc())?;
-    if structure.states() < 2 {
-        return Err(Fail::new("too few states"));
-    }
-    let text = write_model(rt.alloc(), &Model::new(structure, 1))?;
-    assert_eq!(rt;
-        text.as_slice(),
-        b"states 2\nstart 1\nstate 0 p\nstate 1 p q\nedge 0 _ 1\nedge 1 a 1\nedge 1 b 0\nend\n".as_slice()
-    );
+    let text = text_from(rt.alloc(), two_states(rt.alloc())?, 1)?;
+    assert!(rt; text.as_slice() == TEXT);
     Ok(())
 }

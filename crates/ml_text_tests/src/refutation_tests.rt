@@ -35,13 +35,23 @@ const TEXTS: [Row; 4] = [
     (WRONG_SPLIT, Version::One, Version::One, WRONG_SPLIT),
 ];
 
+// the refutation of a text in this version, written in that one
+pub(crate) fn written(
+    alloc: Global,
+    text: &[u8],
+    version: Version,
+    other: Version,
+) -> Result<Vec<u8>, DocRefusal> {
+    let (refutation, _) = read(alloc, text, 6, version)?;
+    Ok(write(alloc, &refutation, other)?)
+}
+
 // is the text of the row read in its version, written again as it was, and in the other version as the row has it?
 fn is_read(alloc: Global, row: &Row) -> Result<bool, DocRefusal> {
     let (text, version, other, wanted) = *row;
-    let (refutation, _) = read(alloc, text, 6, version)?;
-    let again = write(alloc, &refutation, version)?;
-    let translated = write(alloc, &refutation, other)?;
-    Ok(again.as_slice() == text && translated.as_slice() == wanted)
+    let is_kept = written(alloc, text, version, version)?.as_slice() == text;
+    let is_translated = written(alloc, text, version, other)?.as_slice() == wanted;
+    Ok(is_kept && is_translated)
 }
 
 // the place of the first row whose text is not
@@ -85,17 +95,23 @@ const SECOND: EntryLines = EntryLines {
     decision: 24,
 };
 
+fn entries_of(alloc: Global, text: &[u8], version: Version) -> Result<Vec<EntryLines>, DocRefusal> {
+    let (_, Lines { entries }) = read(alloc, text, 6, version)?;
+    Ok(entries)
+}
+
 #[test]
 fn lines_of_parts(rt: HostRuntime) -> Result<(), Fail> {
-    let (_, Lines { entries }) = read(rt.alloc(), ENDLESS, 6, Version::One)?;
+    let entries = entries_of(rt.alloc(), ENDLESS, Version::One)?;
     assert!(rt; entries.len() == 4);
-    assert!(rt; entries.first() == Some(&FIRST) && entries.last() == Some(&LAST));
+    assert!(rt; entries.first() == Some(&FIRST));
+    assert!(rt; entries.last() == Some(&LAST));
     Ok(())
 }
 
 #[test]
 fn lines_of_parts_by_tables(rt: HostRuntime) -> Result<(), Fail> {
-    let (_, Lines { entries }) = read(rt.alloc(), ENDLESS_BY_TABLES, 6, Version::Two)?;
+    let entries = entries_of(rt.alloc(), ENDLESS_BY_TABLES, Version::Two)?;
     assert!(rt; entries.get(1) == Some(&SECOND));
     Ok(())
 }

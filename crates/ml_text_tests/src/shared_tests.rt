@@ -2,10 +2,10 @@
 // version 2 is written as what is read of the same lists written out in version 1.
 ghost use Rattle.std.specs.Prelude.{◌<◌};
 
+use crate::refutation_tests::written;
 use ml_base::Version;
-use ml_refutation_text::{read, write};
 use ml_tests::numbers::Numbers;
-use std::alloc::Global;
+use std::alloc::{AllocError, Global};
 use std::test::Fail;
 
 // How many names the refutations have, all of them in use.
@@ -18,12 +18,33 @@ struct Texts {
     by_tables: String,
 }
 
+// A line of two parts.
+fn write_line(out: &mut String, front: &str, rest: &str) -> Result<(), AllocError> {
+    out.push_str(front)?;
+    out.push_str(rest)?;
+    out.push_str("\n")
+}
+
 impl Texts {
     // Writes behind both.
-    fn push(&mut self, text: &str) -> Result<(), Fail> {
+    fn push(&mut self, text: &str) -> Result<(), AllocError> {
         self.in_full.push_str(text)?;
-        self.by_tables.push_str(text)?;
-        Ok(())
+        self.by_tables.push_str(text)
+    }
+
+    // Writes a line behind both that begins alike.
+    fn push_line(
+        &mut self,
+        alloc: Global,
+        word: &str,
+        number: u32,
+        sign: &str,
+        in_full: &str,
+        by_tables: &str,
+    ) -> Result<(), AllocError> {
+        let front = format!(in alloc; "{word} {number}{sign}")?;
+        write_line(&mut self.in_full, front.as_str(), in_full)?;
+        write_line(&mut self.by_tables, front.as_str(), by_tables)
     }
 }
 
@@ -50,33 +71,32 @@ fn drawn_lists(alloc: Global, numbers: &mut Numbers, bound: u32) -> Result<Vec<S
     Ok(lists)
 }
 
-// A table of version 2.
-fn push_table(
-    alloc: Global,
-    texts: &mut Texts,
-    head: &str,
-    word: &str,
-    lists: &[String],
-) -> Result<(), Fail> {
-    let size = lists.len();
-    texts
-        .by_tables
-        .push_str(format!(in alloc; "{head} {size}\n")?.as_str())?;
+// The places of these lists in their table.
+const PLACES: [&str; 4] = [" 0", " 1", " 2", " 3"];
+
+// A table of four lists.
+fn push_table(out: &mut String, head: &str, word: &str, lists: &[String]) -> Result<(), Fail> {
+    write_line(out, head, " 4")?;
     for list in lists {
-        texts
-            .by_tables
-            .push_str(format!(in alloc; "{word}{list}\n")?.as_str())?;
+        write_line(out, word, list.as_str())?;
     }
     Ok(())
 }
 
-// One of the lists, with its number.
-fn drawn_of<'a>(numbers: &mut Numbers, lists: &'a [String]) -> (usize, &'a str) {
+// The place of one of the lists, and the list.
+fn drawn_of<'a>(numbers: &mut Numbers, lists: &'a [String]) -> (&'static str, &'a str) {
     let place = numbers.below(4) as usize;
-    match lists.get(place) {
-        Some(list) => (place, list.as_str()),
-        None => (place, ""),
+    match (PLACES.get(place), lists.get(place)) {
+        (Some(place), Some(list)) => (*place, list.as_str()),
+        _ => ("", ""),
     }
+}
+
+// The lists of a refutation that is drawn.
+#[derive(Drop)]
+struct Lists {
+    sequents: Vec<String>,
+    stacks: Vec<String>,
 }
 
 // The lines of an entry with its items.
@@ -85,55 +105,62 @@ fn push_entry(
     texts: &mut Texts,
     numbers: &mut Numbers,
     entry: u32,
-    sequents: &[String],
-    stacks: &[String],
+    lists: &Lists,
 ) -> Result<(), Fail> {
-    let (place, list) = drawn_of(numbers, sequents);
-    texts.in_full.push_str(format!(in alloc; "entry {entry}\nsequent{list}\n")?.as_str())?;
-    texts
-        .by_tables
-        .push_str(format!(in alloc; "entry {entry} {place}\n")?.as_str())?;
-    texts.push(format!(in alloc; "live {NAMES}\n")?.as_str())?;
+    let (place, list) = drawn_of(numbers, &lists.sequents);
+    texts.push_line(alloc, "entry", entry, "", "", place)?;
+    write_line(&mut texts.in_full, "sequent", list)?;
+    texts.push_line(alloc, "live", NAMES, "", "", "")?;
     for node in 0..8 {
-        let (place, list) = drawn_of(numbers, stacks);
-        texts
-            .in_full
-            .push_str(format!(in alloc; "item {node} -{list}\n")?.as_str())?;
-        texts
-            .by_tables
-            .push_str(format!(in alloc; "item {node} - {place}\n")?.as_str())?;
+        let (place, list) = drawn_of(numbers, &lists.stacks);
+        texts.push_line(alloc, "item", node, " -", list, place)?;
     }
-    texts.push("heights 0 1 2 3 4 5\nsplit 7\nclash false 1\ngo 2 0 neutral\n")
+    texts.push("heights 0 1 2 3 4 5\nsplit 7\nclash false 1\ngo 2 0 neutral\n")?;
+    Ok(())
+}
+
+// The lines of a refutation of so many entries.
+fn push_lines(
+    alloc: Global,
+    texts: &mut Texts,
+    numbers: &mut Numbers,
+    entries: u32,
+    lists: &Lists,
+) -> Result<(), Fail> {
+    texts.push_line(alloc, "names", NAMES, "", "", "")?;
+    push_table(&mut texts.by_tables, "sequents", "sequent", &lists.sequents)?;
+    push_table(&mut texts.by_tables, "stacks", "stack", &lists.stacks)?;
+    texts.push_line(alloc, "entries", entries, "", "", "")?;
+    for entry in 0..entries {
+        push_entry(alloc, texts, numbers, entry, lists)?;
+    }
+    texts.push("end\n")?;
+    Ok(())
 }
 
 // The texts of a refutation that is drawn, of so many entries.
 fn drawn_texts(alloc: Global, seed: u64, entries: u32) -> Result<Texts, Fail> {
     let mut numbers = Numbers::new(seed);
-    let sequents = drawn_lists(alloc, &mut numbers, 20)?;
-    let stacks = drawn_lists(alloc, &mut numbers, NAMES)?;
+    let lists = Lists {
+        sequents: drawn_lists(alloc, &mut numbers, 20)?,
+        stacks: drawn_lists(alloc, &mut numbers, NAMES)?,
+    };
     let mut texts = Texts {
         in_full: String::new(alloc),
         by_tables: String::new(alloc),
     };
-    texts.push(format!(in alloc; "names {NAMES}\n")?.as_str())?;
-    push_table(alloc, &mut texts, "sequents", "sequent", &sequents)?;
-    push_table(alloc, &mut texts, "stacks", "stack", &stacks)?;
-    texts.push(format!(in alloc; "entries {entries}\n")?.as_str())?;
-    for entry in 0..entries {
-        push_entry(alloc, &mut texts, &mut numbers, entry, &sequents, &stacks)?;
-    }
-    texts.push("end\n")?;
+    push_lines(alloc, &mut texts, &mut numbers, entries, &lists)?;
     Ok(texts)
 }
 
 // Is what is read of both texts written alike, in version 1 as the text has it?
 fn are_alike(alloc: Global, texts: &Texts) -> Result<bool, Fail> {
-    let (in_full, _) = read(alloc, texts.in_full.as_bytes(), 6, Version::One)?;
-    let (by_tables, _) = read(alloc, texts.by_tables.as_bytes(), 6, Version::Two)?;
-    let again = write(alloc, &by_tables, Version::One)?;
-    let first = write(alloc, &in_full, Version::Two)?;
-    let second = write(alloc, &by_tables, Version::Two)?;
-    Ok(again.as_slice() == texts.in_full.as_bytes() && first.as_slice() == second.as_slice())
+    let in_full = texts.in_full.as_bytes();
+    let by_tables = texts.by_tables.as_bytes();
+    let is_in_full = written(alloc, by_tables, Version::Two, Version::One)?.as_slice() == in_full;
+    let first = written(alloc, in_full, Version::One, Version::Two)?;
+    let second = written(alloc, by_tables, Version::Two, Version::Two)?;
+    Ok(is_in_full && first.as_slice() == second.as_slice())
 }
 
 // The first of so many seeds of which they aren't.

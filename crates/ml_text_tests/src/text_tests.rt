@@ -115,16 +115,24 @@ fn words_begin_with_lower_case_letters(rt: HostRuntime) -> Result<(), Fail> {
     Ok(())
 }
 
+// Words, and the constant that each stands for, if it does.
+const CONSTANTS: [(&'static [u8], Option<bool>); 8] = [
+    (b"tt", Some(true)),
+    (b"true", Some(true)),
+    (b"ff", Some(false)),
+    (b"false", Some(false)),
+    (b"t", None),
+    (b"ttt", None),
+    (b"TRUE", None),
+    (b"", None),
+];
+
 #[test]
 fn constants_have_two_words_each(rt: HostRuntime) {
-    assert_eq!(rt; constant_of(b"tt"), Some(true));
-    assert_eq!(rt; constant_of(b"true"), Some(true));
-    assert_eq!(rt; constant_of(b"ff"), Some(false));
-    assert_eq!(rt; constant_of(b"false"), Some(false));
-    assert_eq!(rt; constant_of(b"t"), None);
-    assert_eq!(rt; constant_of(b"ttt"), None);
-    assert_eq!(rt; constant_of(b"TRUE"), None);
-    assert_eq!(rt; constant_of(b""), None);
+    let wrong = CONSTANTS
+        .iter()
+        .position(|(word, value)| constant_of(word) != *value);
+    assert_eq!(rt; wrong, None);
 }
 
 #[test]
