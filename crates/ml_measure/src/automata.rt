@@ -22,6 +22,22 @@ fn push_literal(alloc: Global, numbers: &mut Numbers, text: &mut String) -> Resu
     Ok(())
 }
 
+/// An edge to a state that is drawn.
+fn push_edge(
+    alloc: Global,
+    numbers: &mut Numbers,
+    states: u32,
+    text: &mut String,
+) -> Result<(), NoMemory> {
+    text.push_str(" [")?;
+    push_literal(alloc, numbers, text)?;
+    text.push_str("&")?;
+    push_literal(alloc, numbers, text)?;
+    let to = numbers.below(u64::from(states.max(1)));
+    text.push_str(format!(in alloc; "] {to}")?.as_str())?;
+    Ok(())
+}
+
 /// The text of an automaton of so many states over eight propositions: two edges a state to states that are drawn, guards of
 /// two literals, and a fifth of the states accepting.
 pub(crate) fn text_of_automaton(alloc: Global, states: u32) -> Result<String, NoMemory> {
@@ -32,14 +48,8 @@ pub(crate) fn text_of_automaton(alloc: Global, states: u32) -> Result<String, No
     for state in 0..states {
         let sets = if numbers.below(5) == 0 { " {0}" } else { "" };
         text.push_str(format!(in alloc; " State: {state}{sets}")?.as_str())?;
-        for _ in 0..2 {
-            text.push_str(" [")?;
-            push_literal(alloc, &mut numbers, &mut text)?;
-            text.push_str("&")?;
-            push_literal(alloc, &mut numbers, &mut text)?;
-            let to = numbers.below(u64::from(states));
-            text.push_str(format!(in alloc; "] {to}")?.as_str())?;
-        }
+        push_edge(alloc, &mut numbers, states, &mut text)?;
+        push_edge(alloc, &mut numbers, states, &mut text)?;
     }
     text.push_str(" --END--")?;
     Ok(text)

@@ -10,9 +10,11 @@ use crate::counts::{highest, read_game, read_graph, read_letter, won_by_even};
 use crate::failure::Failure;
 use crate::forms::Form;
 use ml_base::NoMemory;
+use ml_buchi::Deterministic;
 use ml_history::History;
 use ml_history::tree::TreeHistory;
-use ml_parity::{Game, OneSided, Solution, heights, solve};
+use ml_hoa::Buchi;
+use ml_parity::{EvenCycle, Game, Heights, OneSided, Solution, heights, solve};
 use ml_progress::measures;
 use ml_tests::{
     Numbers, chain, deep_letter, ladder, random_blocks, random_game, random_letter, slow_row,
@@ -123,6 +125,24 @@ fn solved(alloc: Global, game: &Game, solver: Solver) -> Result<Solution, NoMemo
     }
 }
 
+/// The number that tells of all of a game, and how long it took.
+fn timed_game<R: Clock>(rt: &R, game: &Game) -> Result<(u64, Duration), Failure> {
+    let start = Instant::now(rt)?;
+    let sum = read_game(game);
+    Ok((sum, start.elapsed(rt)?))
+}
+
+/// The solution that a solver finds, and how long it took.
+fn timed_solution<R: Clock + AllocGlobal>(
+    rt: &R,
+    game: &Game,
+    solver: Solver,
+) -> Result<(Solution, Duration), Failure> {
+    let start = Instant::now(rt)?;
+    let solution = solved(rt.alloc(), game, solver)?;
+    Ok((solution, start.elapsed(rt)?))
+}
+
 /// Solves a game.
 fn solve_game<R: Print + Clock + AllocGlobal>(
     rt: &R,
@@ -130,16 +150,29 @@ fn solve_game<R: Print + Clock + AllocGlobal>(
     solver: Solver,
     is_timed: bool,
 ) -> Result<(), Failure> {
-    let start = Instant::now(rt)?;
-    let sum = read_game(game);
-    let read = start.elapsed(rt)?;
-    let start = Instant::now(rt)?;
-    let solution = solved(rt.alloc(), game, solver)?;
-    let work = start.elapsed(rt)?;
+    let (sum, read) = timed_game(rt, game)?;
+    let (solution, work) = timed_solution(rt, game, solver)?;
     let size = game.size();
     let even = won_by_even(&solution);
     println!(rt; "{size} vertices, sum {sum}: Even wins {even}")?;
     print_time(rt, is_timed, read, work)
+}
+
+/// The number that tells of all of a graph, and how long it took.
+fn timed_graph<R: Clock>(rt: &R, graph: &OneSided) -> Result<(u64, Duration), Failure> {
+    let start = Instant::now(rt)?;
+    let sum = read_graph(graph);
+    Ok((sum, start.elapsed(rt)?))
+}
+
+/// The heights of a graph or its even cycle, and how long it took.
+fn timed_heights<R: Clock + AllocGlobal>(
+    rt: &R,
+    graph: &OneSided,
+) -> Result<(Result<Heights, EvenCycle>, Duration), Failure> {
+    let start = Instant::now(rt)?;
+    let answer = heights(rt.alloc(), graph)?;
+    Ok((answer, start.elapsed(rt)?))
 }
 
 /// Counts heights.
@@ -148,12 +181,8 @@ fn count_heights<R: Print + Clock + AllocGlobal>(
     graph: &OneSided,
     is_timed: bool,
 ) -> Result<(), Failure> {
-    let start = Instant::now(rt)?;
-    let sum = read_graph(graph);
-    let read = start.elapsed(rt)?;
-    let start = Instant::now(rt)?;
-    let answer = heights(rt.alloc(), graph)?;
-    let work = start.elapsed(rt)?;
+    let (sum, read) = timed_graph(rt, graph)?;
+    let (answer, work) = timed_heights(rt, graph)?;
     let size = graph.size;
     match answer {
         Ok(heights) => {
@@ -321,19 +350,35 @@ fn count_row<R: Print + Clock + AllocGlobal>(
     count_heights(rt, &graph, is_timed)
 }
 
+/// An automaton that looks random, and how long the reading of its text took.
+fn timed_automaton<R: Clock + AllocGlobal>(
+    rt: &R,
+    states: u32,
+) -> Result<(Buchi, Duration), Failure> {
+    let text = text_of_automaton(rt.alloc(), states)?;
+    let start = Instant::now(rt)?;
+    let automaton = automaton_of(rt.alloc(), text.as_str())?;
+    Ok((automaton, start.elapsed(rt)?))
+}
+
+/// Its deterministic automaton, and how long it took.
+fn timed_deterministic<R: Clock + AllocGlobal>(
+    rt: &R,
+    automaton: &Buchi,
+) -> Result<(Option<Deterministic>, Duration), Failure> {
+    let start = Instant::now(rt)?;
+    let found = determinised(rt.alloc(), automaton)?;
+    Ok((found, start.elapsed(rt)?))
+}
+
 /// Makes an automaton that looks random deterministic.
 fn determinise_random<R: Print + Clock + AllocGlobal>(
     rt: &R,
     states: u32,
     is_timed: bool,
 ) -> Result<(), Failure> {
-    let text = text_of_automaton(rt.alloc(), states)?;
-    let start = Instant::now(rt)?;
-    let automaton = automaton_of(rt.alloc(), text.as_str())?;
-    let read = start.elapsed(rt)?;
-    let start = Instant::now(rt)?;
-    let found = determinised(rt.alloc(), &automaton)?;
-    let work = start.elapsed(rt)?;
+    let (automaton, read) = timed_automaton(rt, states)?;
+    let (found, work) = timed_deterministic(rt, &automaton)?;
     match found {
         Some(deterministic) => {
             let count = deterministic.moves().len();

@@ -225,16 +225,19 @@ fn try_level<R: Print + AllocGlobal>(
     Ok(())
 }
 
-fn main(rt: HostRuntime) -> Result<(), Failure> {
-    let opponents = Opponents::all(rt.alloc())?;
-    let mut formulas = Formulas::atoms(rt.alloc())?;
-    for operators in 0..MOST_OPERATORS {
+// all formulas with so many operators at most
+fn formulas_to(alloc: Global, most: usize) -> Result<Formulas, Failure> {
+    let mut formulas = Formulas::atoms(alloc)?;
+    for operators in 0..most {
         formulas.add_level(operators)?;
     }
-    let mut known = Vec::new(rt.alloc());
-    for _ in 0..formulas.len() {
-        known.push(0)?;
-    }
+    Ok(formulas)
+}
+
+fn main(rt: HostRuntime) -> Result<(), Failure> {
+    let opponents = Opponents::all(rt.alloc())?;
+    let formulas = formulas_to(rt.alloc(), MOST_OPERATORS)?;
+    let mut known = vec![in rt.alloc(); 0; formulas.len()]?;
     for operators in 0..MOST_OPERATORS.saturating_add(1) {
         try_level(&rt, &formulas, operators, &opponents, &mut known)?;
     }

@@ -21,42 +21,49 @@ fn steps(alloc: Global, states: u32, code: u32) -> Result<Vec<MachineStep>, Fail
     Ok(steps)
 }
 
+// The machine of so many states, which have these numbers.
+fn machine(alloc: Global, states: u32, codes: &[u32]) -> Result<Machine, Failure> {
+    let mut rows = Vec::new(alloc);
+    for code in codes {
+        rows.push(steps(alloc, states, *code)?)?;
+    }
+    Ok(Machine { steps: rows })
+}
+
 /// All machines of one state and of two.
 pub(crate) fn machines(alloc: Global) -> Result<Vec<Machine>, Failure> {
     let mut all = Vec::new(alloc);
     for code in 0..4 {
-        let mut rows = Vec::new(alloc);
-        rows.push(steps(alloc, 1, code)?)?;
-        all.push(Machine { steps: rows })?;
+        all.push(machine(alloc, 1, &[code])?)?;
     }
     for first in 0..16 {
         for second in 0..16 {
-            let mut rows = Vec::new(alloc);
-            rows.push(steps(alloc, 2, first)?)?;
-            rows.push(steps(alloc, 2, second)?)?;
-            all.push(Machine { steps: rows })?;
+            all.push(machine(alloc, 2, &[first, second])?)?;
         }
     }
     Ok(all)
+}
+
+// The state behind this one: the next, or behind the last one that to which it turns.
+fn after(state: u32, states: u32, turn: u32) -> u32 {
+    let next = state.saturating_add(1);
+    if next < states { next } else { turn }
+}
+
+// The bit of a state.
+fn bit(bits: u32, state: u32) -> u32 {
+    (bits >> (state & 7)) & 1
 }
 
 // A machine that gives the bits of a number in turn, whatever the input is, and goes back to a state behind the last one.
 fn giving(alloc: Global, states: u32, bits: u32, turn: u32) -> Result<Machine, Failure> {
     let mut rows = Vec::new(alloc);
     for state in 0..states {
-        let next = if state.saturating_add(1) < states {
-            state.saturating_add(1)
-        } else {
-            turn
-        };
         let step = MachineStep {
-            give: (bits >> (state & 7)) & 1,
-            next,
+            give: bit(bits, state),
+            next: after(state, states, turn),
         };
-        let mut row = Vec::new(alloc);
-        row.push(step)?;
-        row.push(step)?;
-        rows.push(row)?;
+        rows.push(vec![in alloc; step; 2]?)?;
     }
     Ok(Machine { steps: rows })
 }
@@ -78,36 +85,44 @@ pub(crate) fn output_words(alloc: Global) -> Result<Vec<Machine>, Failure> {
 
 // The next states of one state, of which the number tells the choices.
 fn nexts(alloc: Global, states: u32, code: u32) -> Result<Vec<u32>, Failure> {
-    let mut row = Vec::new(alloc);
     let (first, second) = if states == 2 {
         (code & 1, (code >> 1) & 1)
     } else {
         (0, 0)
     };
-    row.push(first)?;
-    row.push(second)?;
-    Ok(row)
+    Ok(vec![in alloc; first, second]?)
+}
+
+// What the states with these numbers play.
+fn plays(alloc: Global, codes: &[u32]) -> Result<Vec<u32>, Failure> {
+    let mut plays = Vec::new(alloc);
+    for code in codes {
+        plays.push(code & 1)?;
+    }
+    Ok(plays)
+}
+
+// The environment of so many states, which have these numbers.
+fn environment(alloc: Global, states: u32, codes: &[u32]) -> Result<Environment, Failure> {
+    let mut next = Vec::new(alloc);
+    for code in codes {
+        next.push(nexts(alloc, states, code >> 1)?)?;
+    }
+    Ok(Environment {
+        plays: plays(alloc, codes)?,
+        next,
+    })
 }
 
 /// All environments of one state and of two.
 pub(crate) fn environments(alloc: Global) -> Result<Vec<Environment>, Failure> {
     let mut all = Vec::new(alloc);
-    for input in 0..2 {
-        let mut plays = Vec::new(alloc);
-        plays.push(input)?;
-        let mut next = Vec::new(alloc);
-        next.push(nexts(alloc, 1, 0)?)?;
-        all.push(Environment { plays, next })?;
+    for code in 0..2 {
+        all.push(environment(alloc, 1, &[code])?)?;
     }
     for first in 0..8 {
         for second in 0..8 {
-            let mut plays = Vec::new(alloc);
-            plays.push(first & 1)?;
-            plays.push(second & 1)?;
-            let mut next = Vec::new(alloc);
-            next.push(nexts(alloc, 2, first >> 1)?)?;
-            next.push(nexts(alloc, 2, second >> 1)?)?;
-            all.push(Environment { plays, next })?;
+            all.push(environment(alloc, 2, &[first, second])?)?;
         }
     }
     Ok(all)
@@ -118,16 +133,8 @@ fn playing(alloc: Global, states: u32, bits: u32, turn: u32) -> Result<Environme
     let mut plays = Vec::new(alloc);
     let mut next = Vec::new(alloc);
     for state in 0..states {
-        let behind = if state.saturating_add(1) < states {
-            state.saturating_add(1)
-        } else {
-            turn
-        };
-        plays.push((bits >> (state & 7)) & 1)?;
-        let mut row = Vec::new(alloc);
-        row.push(behind)?;
-        row.push(behind)?;
-        next.push(row)?;
+        plays.push(bit(bits, state))?;
+        next.push(vec![in alloc; after(state, states, turn); 2]?)?;
     }
     Ok(Environment { plays, next })
 }
