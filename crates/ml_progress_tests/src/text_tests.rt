@@ -4,18 +4,29 @@ use ml_pgsolver::{GameTextRefusal, read, write};
 use std::alloc::Global;
 use std::test::Fail;
 
-fn solved(alloc: Global, text: &[u8]) -> Result<Vec<u8>, Fail> {
+// Is this the text of the game's solution?
+fn is_solved(alloc: Global, text: &[u8], wanted: &[u8]) -> Result<bool, Fail> {
     let named = read(alloc, text)?;
     let solution = solve(alloc, named.game())?;
-    Ok(write(alloc, &named, &solution)?)
+    Ok(write(alloc, &named, &solution)?.as_slice() == wanted)
 }
 
 #[test]
 fn games_are_solved(rt: HostRuntime) -> Result<(), Fail> {
-    let text = solved(rt.alloc(), b"0 1 0 0,1; 1 2 1 1;")?;
-    assert_eq!(rt; text.as_slice(), b"paritysol 1;\n0 0 1;\n1 0;\n".as_slice());
-    let text = solved(rt.alloc(), b"parity 007;\n9 3 0 9, 4 \"nine\"; 4 4 1 9,04;")?;
-    assert_eq!(rt; text.as_slice(), b"paritysol 9;\n4 0;\n9 0 4;\n".as_slice());
+    assert!(rt;
+        is_solved(
+            rt.alloc(),
+            b"0 1 0 0,1; 1 2 1 1;",
+            b"paritysol 1;\n0 0 1;\n1 0;\n"
+        )?
+    );
+    assert!(rt;
+        is_solved(
+            rt.alloc(),
+            b"parity 007;\n9 3 0 9, 4 \"nine\"; 4 4 1 9,04;",
+            b"paritysol 9;\n4 0;\n9 0 4;\n"
+        )?
+    );
     Ok(())
 }
 

@@ -1,7 +1,8 @@
 // Measures that were worked out by hand.
-use ml_parity::{Game, GameRefusal, Player};
+use ml_parity::Player;
 use ml_progress::{Measured, measures};
-use std::alloc::{AllocError, Global};
+use ml_tests::game_of_rows;
+use std::alloc::Global;
 use std::test::Fail;
 
 // A vertex: its owner, its priority and its successors.
@@ -66,19 +67,6 @@ const WORKED: [Worked; 5] = [
     ),
 ];
 
-// The game of these rows.
-fn game_of_rows(alloc: Global, rows: &[Row]) -> Result<Result<Game, GameRefusal>, AllocError> {
-    let mut owner = Vec::new(alloc);
-    let mut priority = Vec::new(alloc);
-    let mut successors = Vec::new(alloc);
-    for row in rows {
-        owner.push(row.0)?;
-        priority.push(row.1)?;
-        successors.push(Vec::from_slice(alloc, row.2)?)?;
-    }
-    Ok(Game::build(owner, priority, successors))
-}
-
 // Is this what the vertex has?
 fn is_entry(entry: &Option<Vec<u64>>, wanted: Entry) -> bool {
     match (entry, wanted) {
@@ -118,7 +106,7 @@ fn is(
 // The place of the first game that is measured otherwise.
 fn first_wrong(alloc: Global, rows: &[Worked]) -> Result<Option<usize>, Fail> {
     for (place, (rows, even, odd, winner, choice)) in rows.iter().enumerate() {
-        let game = game_of_rows(alloc, rows)??;
+        let game = game_of_rows(alloc, rows)?;
         if !is(&measures(alloc, &game)?, even, odd, winner, choice) {
             return Ok(Some(place));
         }

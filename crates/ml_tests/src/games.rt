@@ -1,5 +1,5 @@
 // Parity games.
-ghost use Rattle.std.specs.Prelude.{◌≡◌, ◌<◌, IfOk, vec_len};
+ghost use Rattle.std.specs.Prelude.{◌≡◌, ◌<◌, IfOk, length, vec_len};
 ghost use Rattle.ml_parity.specs.Game.{size};
 ghost use Rattle.ml_parity.specs.Player.{side};
 ghost use Rattle.ml_tests.specs.SmallGames.{small_moves, small_game};
@@ -30,6 +30,26 @@ fn game_of(alloc: Global, vertices: Vec<Vertex>) -> Result<Game, NotMade>
         successors.push(vertex.successors)?;
     }
     Ok(Game::build(owner, priority, successors)?)
+}
+
+/// The game of these rows: the owner of each vertex, its priority and its successors.
+///
+/// # Errors
+/// `NoMemory`, and `Game` where `Game::build` refuses the rows.
+///
+/// Linear in the game.
+pub fn game_of_rows(alloc: Global, rows: &[(Player, u32, &'static [u64])]) -> Result<Game, NotMade>
+    ensures { IfOk result (λ g. size g ≡ length rows.now) }
+{
+    let mut all = Vec::new(alloc);
+    for (owner, priority, successors) in rows {
+        all.push(Vertex {
+            owner: *owner,
+            priority: *priority,
+            successors: Vec::from_slice(alloc, successors)?,
+        })?;
+    }
+    game_of(alloc, all)
 }
 
 /// Even for an even number, Odd for an odd one.

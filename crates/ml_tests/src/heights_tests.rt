@@ -39,14 +39,33 @@ enum Found {
     Cycle(&'static [Row]),
 }
 
+// Are these heights found, which are heights of the graph?
+fn are_found(
+    alloc: Global,
+    graph: &OneSided,
+    found: &Heights,
+    wanted: Found,
+) -> Result<bool, AllocError> {
+    let Found::Heights(rows) = wanted else {
+        return Ok(false);
+    };
+    let rows = heights_of_rows(alloc, rows)?.rows;
+    Ok(found.rows == rows && heights_ok(graph, found))
+}
+
+// Is this cycle found?
+fn is_cycle(alloc: Global, found: &[Arc], wanted: Found) -> Result<bool, AllocError> {
+    match wanted {
+        Found::Heights(_) => Ok(false),
+        Found::Cycle(arcs) => Ok(arcs_of(alloc, arcs)?.as_slice() == found),
+    }
+}
+
 // Is this what is found in the graph?
 fn is_found(alloc: Global, graph: &OneSided, wanted: Found) -> Result<bool, Fail> {
-    match (heights(alloc, graph)?, wanted) {
-        (Ok(found), Found::Heights(rows)) => {
-            Ok(heights_ok(graph, &found) && found.rows == heights_of_rows(alloc, rows)?.rows)
-        }
-        (Err(found), Found::Cycle(arcs)) => Ok(found.arcs == arcs_of(alloc, arcs)?),
-        _ => Ok(false),
+    match heights(alloc, graph)? {
+        Ok(found) => Ok(are_found(alloc, graph, &found, wanted)?),
+        Err(found) => Ok(is_cycle(alloc, &found.arcs, wanted)?),
     }
 }
 
@@ -174,9 +193,13 @@ fn chain_down(alloc: Global) -> Result<OneSided, NotMade> {
 
 #[test]
 fn long_chains(rt: HostRuntime) -> Result<(), Fail> {
-    let up = chain(rt.alloc(), 1000)?;
-    assert_eq!(rt; height(rt.alloc(), &up, 0)?, Some(1000));
-    let down = chain_down(rt.alloc())?;
-    assert_eq!(rt; height(rt.alloc(), &down, 1000)?, Some(1000));
+    assert_eq!(rt;
+        height(rt.alloc(), &chain(rt.alloc(), 1000)?, 0)?,
+        Some(1000)
+    );
+    assert_eq!(rt;
+        height(rt.alloc(), &chain_down(rt.alloc())?, 1000)?,
+        Some(1000)
+    );
     Ok(())
 }

@@ -1,27 +1,13 @@
 // Histories: the worked steps of the three programs, and random steps in which they agree.
 use crate::{Numbers, random_letter};
 use ml_base::NoMemory;
-use ml_history::plain::PlainHistory;
+use ml_history::plain::{PlainHistory, Stacked};
 use ml_history::tree::TreeHistory;
 use ml_history::{History, Mark};
 use ml_trace::{Letter, Transition};
 use std::alloc::Global;
 use std::cmp::Ordering;
 use std::test::Fail;
-
-// A transition, accepting or not.
-fn along(from: u32, to: u32, accepting: bool) -> Transition {
-    Transition {
-        from,
-        to,
-        accepting,
-    }
-}
-
-// The letter of the transitions.
-fn letter(alloc: Global, transitions: &[Transition]) -> Result<Letter, Fail> {
-    Ok(Letter::new(transitions.to_vec(alloc)?).ok_or("a number of a state is too great")?)
-}
 
 // The same history in the three forms.
 #[derive(Drop)]
@@ -40,36 +26,55 @@ fn start(alloc: Global) -> Result<Three, NoMemory> {
     })
 }
 
+// Are these the states with their stacks?
+fn are_items(stacks: &[(u32, Vec<u32>)], items: &[Stacked]) -> bool {
+    stacks.len() == items.len()
+        && stacks
+            .iter()
+            .zip(items)
+            .all(|(a, b)| a.0 == b.state() && a.1.as_slice() == b.stack())
+}
+
+// Have the three forms as many names?
+fn have_equal_names(three: &Three) -> bool {
+    let live = three.plain.live();
+    three.tree.live() == live && three.flat.live() == live
+}
+
 // Are the three forms the same states with the same stacks, with so many names?
 fn agree(three: &Three) -> Result<bool, NoMemory> {
     let items = three.plain.items();
-    let tree = three.tree.stacks()?;
-    let flat = three.flat.stacks()?;
-    let same = |stacks: &[(u32, Vec<u32>)]| {
-        stacks.len() == items.len()
-            && stacks
-                .iter()
-                .zip(items)
-                .all(|(a, b)| a.0 == b.state() && a.1.as_slice() == b.stack())
-    };
-    Ok(
-        same(tree.as_slice())
-            && same(flat.as_slice())
-            && three.tree.live() == three.plain.live()
-            && three.flat.live() == three.plain.live(),
-    )
+    let are_trees = are_items(&three.tree.stacks()?, items);
+    let are_flat = are_items(&three.flat.stacks()?, items);
+    Ok(are_trees && are_flat && have_equal_names(three))
 }
 
-// The three forms after a step, with its mark; none where they differ.
-fn step(three: &Three, letter: &Letter) -> Result<Option<(Three, Mark)>, NoMemory> {
-    let (plain, mark) = three.plain.step(letter)?;
+// The three forms after a step, with their marks.
+fn step(three: &Three, letter: &Letter) -> Result<(Three, [Mark; 3]), NoMemory> {
+    let (plain, plain_mark) = three.plain.step(letter)?;
     let (tree, tree_mark) = three.tree.step(letter)?;
     let (flat, flat_mark) = three.flat.step(letter)?;
-    let next = Three { plain, tree, flat };
-    if tree_mark == mark && flat_mark == mark && agree(&next)? {
-        Ok(Some((next, mark)))
+    Ok((
+        Three { plain, tree, flat },
+        [plain_mark, tree_mark, flat_mark],
+    ))
+}
+
+// The three forms after a random step; none where they differ.
+fn random_step(alloc: Global, three: &Three, numbers: &mut Numbers) -> Result<Option<Three>, Fail> {
+    let (next, [plain, tree, flat]) = step(three, &random_letter(alloc, numbers, 6, 9)?)?;
+    if plain != tree || plain != flat || !agree(&next)? {
+        return Ok(None);
+    }
+    Ok(Some(next))
+}
+
+// The start where no state is left.
+fn restarted(alloc: Global, three: Three) -> Result<Three, NoMemory> {
+    if three.plain.items().is_empty() {
+        start(alloc)
     } else {
-        Ok(None)
+        Ok(three)
     }
 }
 
@@ -78,17 +83,10 @@ fn first_step_apart(alloc: Global, count: u64) -> Result<Option<u64>, Fail> {
     let mut numbers = Numbers::new(3);
     let mut three = start(alloc)?;
     for number in 0..count {
-        let letter = random_letter(alloc, &mut numbers, 6, 9)?;
-        match step(&three, &letter)? {
-            None => return Ok(Some(number)),
-            Some((next, _)) => {
-                three = if next.plain.items().is_empty() {
-                    start(alloc)?
-                } else {
-                    next
-                };
-            }
-        }
+        let Some(next) = random_step(alloc, &three, &mut numbers)? else {
+            return Ok(Some(number));
+        };
+        three = restarted(alloc, next)?;
     }
     Ok(None)
 }
@@ -99,8 +97,82 @@ fn histories_step_alike(rt: HostRuntime) -> Result<(), Fail> {
     Ok(())
 }
 
-// Whether the history has these states with these stacks.
-fn is(history: &History, wanted: &[(u32, &[u32])]) -> Result<bool, Fail> {
+// A transition: from where to where, and is it accepting?
+type Along = (u32, u32, bool);
+
+// The letter of the transitions.
+fn letter(alloc: Global, transitions: &[Along]) -> Result<Letter, Fail> {
+    let mut all = Vec::new(alloc);
+    for (from, to, accepting) in transitions {
+        all.push(Transition {
+            from: *from,
+            to: *to,
+            accepting: *accepting,
+        })?;
+    }
+    Ok(Letter::new(all).ok_or("a number of a state is too great")?)
+}
+
+// The transitions of some steps from the start at 5; the states with their stacks behind the last one, and how many names are
+// in use there; and its mark.
+type Worked = (
+    &'static [&'static [Along]],
+    &'static [(u32, &'static [u32])],
+    u32,
+    Option<Mark>,
+);
+
+const FIRST: &'static [Along] = &[(5, 5, false), (5, 6, true)];
+
+const SECOND: &'static [Along] = &[(5, 5, false), (6, 6, false), (5, 7, true)];
+
+const WORKED: [Worked; 6] = [
+    (&[], &[(5, &[0])], 1, None),
+    // no transition loses all
+    (&[&[]], &[], 0, Some(Mark::Red(0))),
+    // an accepting loop is green
+    (&[&[(5, 5, true)]], &[(5, &[0])], 1, Some(Mark::Green(0))),
+    // accepting transitions make stacks longer
+    (
+        &[FIRST, SECOND],
+        &[(5, &[0]), (6, &[0, 1]), (7, &[0, 2])],
+        3,
+        Some(Mark::Neutral),
+    ),
+    // a name that is lost has the others numbered anew
+    (
+        &[FIRST, SECOND, &[(5, 5, false), (7, 7, false)]],
+        &[(5, &[0]), (7, &[0, 1])],
+        2,
+        Some(Mark::Red(1)),
+    ),
+    // the stack with the older name wins
+    (
+        &[
+            FIRST,
+            SECOND,
+            &[(5, 5, false), (6, 8, false), (7, 8, false)],
+        ],
+        &[(5, &[0]), (8, &[0, 1])],
+        2,
+        Some(Mark::Red(2)),
+    ),
+];
+
+// The history behind the steps, and the mark of the last one.
+fn behind(alloc: Global, steps: &[&'static [Along]]) -> Result<(History, Option<Mark>), Fail> {
+    let mut history = History::start(alloc, 5)?;
+    let mut last = None;
+    for transitions in steps {
+        let (next, mark) = history.step(&letter(alloc, transitions)?)?;
+        history = next;
+        last = Some(mark);
+    }
+    Ok((history, last))
+}
+
+// Has the history these states with these stacks?
+fn has_stacks(history: &History, wanted: &[(u32, &'static [u32])]) -> Result<bool, NoMemory> {
     let stacks = history.stacks()?;
     Ok(
         stacks.len() == wanted.len()
@@ -111,65 +183,40 @@ fn is(history: &History, wanted: &[(u32, &[u32])]) -> Result<bool, Fail> {
     )
 }
 
-// The stacks 5: 0; 6: 0 1; 7: 0 2, made from the start at 5 by two steps.
-fn three_states(alloc: Global) -> Result<History, Fail> {
-    let one = letter(alloc, &[along(5, 5, false), along(5, 6, true)])?;
-    let two = letter(
-        alloc,
-        &[along(5, 5, false), along(6, 6, false), along(5, 7, true)],
-    )?;
-    let (history, _) = History::start(alloc, 5)?.step(&one)?;
-    Ok(history.step(&two)?.0)
+// Do the steps lead there?
+fn is_worked(alloc: Global, row: &Worked) -> Result<bool, Fail> {
+    let (steps, stacks, live, mark) = *row;
+    let (history, last) = behind(alloc, steps)?;
+    let has_stacks = has_stacks(&history, stacks)?;
+    Ok(has_stacks && history.live() == live && last == mark)
+}
+
+// The place of the first row whose steps lead elsewhere.
+fn first_wrong(alloc: Global, rows: &[Worked]) -> Result<Option<usize>, Fail> {
+    for (place, row) in rows.iter().enumerate() {
+        if !is_worked(alloc, row)? {
+            return Ok(Some(place));
+        }
+    }
+    Ok(None)
 }
 
 #[test]
-fn start_has_one_name(rt: HostRuntime) -> Result<(), Fail> {
-    let start = History::start(rt.alloc(), 5)?;
-    assert!(rt; is(&start, &[(5, &[0])])? && start.live() == 1);
+fn worked_steps(rt: HostRuntime) -> Result<(), Fail> {
+    assert_eq!(rt; first_wrong(rt.alloc(), &WORKED)?, None);
     Ok(())
 }
 
-#[test]
-fn no_transition_loses_all(rt: HostRuntime) -> Result<(), Fail> {
-    let start = History::start(rt.alloc(), 0)?;
-    let (history, mark) = start.step(&letter(rt.alloc(), &[])?)?;
-    assert!(rt; is(&history, &[])? && history.live() == 0 && mark == Mark::Red(0));
-    Ok(())
-}
-
-#[test]
-fn accepting_loop_is_green(rt: HostRuntime) -> Result<(), Fail> {
-    let start = History::start(rt.alloc(), 0)?;
-    let (history, mark) = start.step(&letter(rt.alloc(), &[along(0, 0, true)])?)?;
-    assert!(rt; history == start && mark == Mark::Green(0));
-    Ok(())
-}
-
-#[test]
-fn lost_name_renumbers(rt: HostRuntime) -> Result<(), Fail> {
-    let three = three_states(rt.alloc())?;
-    let (history, mark) = three.step(&letter(
-        rt.alloc(),
-        &[along(5, 5, false), along(7, 7, false)],
-    )?)?;
-    let copy = history.copy()?;
-    assert!(rt; is(&copy, &[(5, &[0]), (7, &[0, 1])])? && copy == history && mark == Mark::Red(1));
-    Ok(())
-}
-
-#[test]
-fn older_name_wins(rt: HostRuntime) -> Result<(), Fail> {
-    let three = three_states(rt.alloc())?;
-    let transitions = [along(5, 5, false), along(6, 8, false), along(7, 8, false)];
-    let (history, mark) = three.step(&letter(rt.alloc(), &transitions)?)?;
-    assert!(rt; is(&history, &[(5, &[0]), (8, &[0, 1])])? && mark == Mark::Red(2));
-    Ok(())
+// Does the first stand before the second, and is it as its copy?
+fn are_apart(first: &History, second: &History) -> Result<bool, NoMemory> {
+    let copy = first.copy()?;
+    Ok(copy == *first && first != second && first.cmp(second) == Ordering::Less)
 }
 
 #[test]
 fn lower_state_comes_first(rt: HostRuntime) -> Result<(), Fail> {
     let low = History::start(rt.alloc(), 5)?;
     let high = History::start(rt.alloc(), 7)?;
-    assert!(rt; low.cmp(&high) == Ordering::Less && low != high);
+    assert!(rt; are_apart(&low, &high)?);
     Ok(())
 }

@@ -1,14 +1,15 @@
-// Generators of games, graphs and letters, and the tests of parity games, heights, traces and histories.
+// Generators of games, graphs, letters and structures, and the tests of parity games, heights, traces and histories.
 //
 // Tests and measurements take what they try from here. Begin with `Numbers`, numbers that look random and are the same
-// in each run; `random_game` and `ladder` give games, `chain`, `random_blocks` and `slow_row` one-sided graphs,
-// `random_letter` and `deep_letter` letters of the trace automaton. The tests compare fast programs with the plain ones
+// in each run; `random_game`, `ladder` and `game_of_rows` give games, `chain`, `random_blocks` and `slow_row` one-sided graphs,
+// `random_letter` and `deep_letter` letters of the trace automaton; a `Draft` becomes a Kripke structure. The tests compare fast programs with the plain ones
 // that are their reference.
 //
 // Below stand the crates whose programs are compared; above stands `ml_measure`. Tests of graphs and decision games stand
 // in `ml_game_tests`.
 #![tactic(auto)]
 
+pub mod drafts;
 pub mod games;
 pub mod graphs;
 #[cfg(test)]
@@ -25,7 +26,8 @@ mod tests;
 #[cfg(test)]
 mod trace_tests;
 
-pub use games::{SMALL_GAMES, ladder, random_game, small_game};
+pub use drafts::{Arrow, Draft, Label, draft_of};
+pub use games::{SMALL_GAMES, game_of_rows, ladder, random_game, small_game};
 pub use graphs::{chain, random_blocks, slow_row};
 pub use letters::{deep_letter, random_letter};
 pub use not_made::NotMade;

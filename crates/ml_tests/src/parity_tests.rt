@@ -1,8 +1,9 @@
 // Small games worked out by hand: what `Game::build` refuses, and who wins by the two solvers.
+use crate::{NotMade, game_of_rows};
 use ml_base::NoMemory;
 use ml_parity::plain::solve_plain;
 use ml_parity::{Game, GameRefusal, Player, Solution, solve};
-use std::alloc::{AllocError, Global};
+use std::alloc::Global;
 use std::test::Fail;
 
 // A vertex: its owner, its priority and its successors.
@@ -12,38 +13,29 @@ const E: Player = Player::Even;
 
 const O: Player = Player::Odd;
 
-// The game of these rows.
-fn game_of_rows(alloc: Global, rows: &[Row]) -> Result<Result<Game, GameRefusal>, AllocError> {
-    let mut owner = Vec::new(alloc);
-    let mut priority = Vec::new(alloc);
-    let mut successors = Vec::new(alloc);
-    for row in rows {
-        owner.push(row.0)?;
-        priority.push(row.1)?;
-        successors.push(Vec::from_slice(alloc, row.2)?)?;
-    }
-    Ok(Game::build(owner, priority, successors))
-}
+// Rows, and why they are no game.
+const REFUSED: [(&'static [Row], GameRefusal); 3] = [
+    (&[(E, 0, &[])], GameRefusal::DeadEnd(0)),
+    (&[(E, 0, &[1])], GameRefusal::OutOfRange(0)),
+    (
+        &[(E, 0, &[3]), (O, 0, &[]), (O, 0, &[])],
+        GameRefusal::DeadEnd(1),
+    ),
+];
 
-// Why the game of these rows is refused, if it is.
-fn refusal(alloc: Global, rows: &[Row]) -> Result<Option<GameRefusal>, AllocError> {
-    Ok(game_of_rows(alloc, rows)?.err())
+// The place of the first rows that are refused otherwise.
+fn first_accepted(alloc: Global, table: &[(&'static [Row], GameRefusal)]) -> Option<usize> {
+    for (place, (rows, refusal)) in table.iter().enumerate() {
+        if game_of_rows(alloc, rows).err() != Some(NotMade::Game(*refusal)) {
+            return Some(place);
+        }
+    }
+    None
 }
 
 #[test]
-fn build_refuses_the_least_vertex(rt: HostRuntime) -> Result<(), Fail> {
-    let alloc = rt.alloc();
-    assert_eq!(rt;
-        refusal(alloc, &[(E, 0, &[])])?,
-        Some(GameRefusal::DeadEnd(0))
-    );
-    assert_eq!(rt;
-        refusal(alloc, &[(E, 0, &[1])])?,
-        Some(GameRefusal::OutOfRange(0))
-    );
-    let dead_ends = [(E, 0, [3].as_slice()), (O, 0, &[]), (O, 0, &[])];
-    assert_eq!(rt; refusal(alloc, &dead_ends)?, Some(GameRefusal::DeadEnd(1)));
-    Ok(())
+fn build_refuses_the_least_vertex(rt: HostRuntime) {
+    assert_eq!(rt; first_accepted(rt.alloc(), &REFUSED), None);
 }
 
 // A game, its winners, and the choices of both solvers.
@@ -112,7 +104,7 @@ fn is_solved(
 // The place of the first game that is solved otherwise.
 fn first_wrong(alloc: Global, rows: &[Worked]) -> Result<Option<usize>, Fail> {
     for (place, (rows, winner, choice)) in rows.iter().enumerate() {
-        let game = game_of_rows(alloc, rows)??;
+        let game = game_of_rows(alloc, rows)?;
         if !is_solved(alloc, &game, winner, choice)? {
             return Ok(Some(place));
         }
