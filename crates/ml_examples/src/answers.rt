@@ -13,17 +13,26 @@ pub(crate) struct Answer {
     pub(crate) output: Vec<u8>,
 }
 
-/// What the program answers to these words on an input.
-pub(crate) fn answer_to(alloc: Global, words: &str, input: &[u8]) -> Result<Answer, NoMemory> {
-    let mut all = Vec::new(alloc);
-    for word in words.split_whitespace() {
-        all.push(String::from_str(alloc, word)?)?;
+fn words_of(alloc: Global, line: &str) -> Result<Vec<String>, NoMemory> {
+    let mut words = Vec::new(alloc);
+    for word in line.split_whitespace() {
+        words.push(String::from_str(alloc, word)?)?;
     }
-    let mut source = MemSource::new(Vec::from_slice(alloc, input)?, 4096, Vec::new(alloc));
+    Ok(words)
+}
+
+fn answer_in(alloc: Global, words: &[String], source: &mut MemSource) -> Result<Answer, NoMemory> {
     let mut sink = MemSink::new(alloc, 4096, Vec::new(alloc), ROOM)?;
-    let status = run(alloc, &all, &mut source, &mut sink).code();
+    let status = run(alloc, words, source, &mut sink).code();
     let output = Vec::from_slice(alloc, sink.taken())?;
     Ok(Answer { status, output })
+}
+
+/// What the program answers to these words on an input.
+pub(crate) fn answer_to(alloc: Global, words: &str, input: &[u8]) -> Result<Answer, NoMemory> {
+    let words = words_of(alloc, words)?;
+    let mut source = MemSource::new(Vec::from_slice(alloc, input)?, 4096, Vec::new(alloc));
+    answer_in(alloc, &words, &mut source)
 }
 
 /// The command that checks what was written, where it is a document with an answer.

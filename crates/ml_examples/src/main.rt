@@ -62,16 +62,30 @@ const FILES: [&str; 23] = [
 
 const PAGES: [&str; 5] = ["GUIDE", "DOCUMENTS", "GAMES", "AUTOMATA", "REALIZE"];
 
-/// The rows of a file, and how many they are.
-fn run_file<R: Files + Print + AllocGlobal>(rt: &R, name: &str) -> Result<(), Failure> {
+fn text_of<R: Files + AllocGlobal>(rt: &R, name: &str) -> Result<String, Failure> {
     let path = format!(in rt.alloc(); "rows/{name}.rows")?;
-    let text = fs::read_to_string(rt, path.as_str())?;
+    Ok(fs::read_to_string(rt, path.as_str())?)
+}
+
+/// Runs the rows of a text, and counts them.
+fn run_rows<R: Files + Print + AllocGlobal>(
+    rt: &R,
+    name: &str,
+    text: &str,
+) -> Result<Counts, Failure> {
     let mut row = Row::new(rt.alloc());
     let mut counts = Counts::default();
-    for line in text.as_str().lines() {
+    for line in text.lines() {
         read_line(rt, name, &mut row, &mut counts, line)?;
     }
     finish(rt, name, &mut row, &mut counts)?;
+    Ok(counts)
+}
+
+/// The rows of a file, and how many they are.
+fn run_file<R: Files + Print + AllocGlobal>(rt: &R, name: &str) -> Result<(), Failure> {
+    let text = text_of(rt, name)?;
+    let counts = run_rows(rt, name, text.as_str())?;
     let rows = counts.rows;
     let documents = counts.documents;
     println!(rt; "{name}: {rows} rows, {documents} documents checked")?;

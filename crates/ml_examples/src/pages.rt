@@ -4,7 +4,7 @@
 // next command line or the block's end, are what it prints. Files of `examples/` are those of the data folder; the others are
 // those that an earlier command of the page wrote, and they stay in memory.
 
-use crate::answers::answer_to;
+use crate::answers::{Answer, answer_to};
 use crate::command_line::{Call, CommandLine, Input, printed, taken_apart};
 use crate::failure::Failure;
 use crate::row::push_line;
@@ -23,8 +23,8 @@ struct Written {
 
 /// The session of a page: its name, the files that were written so far, and how many commands were run.
 #[derive(Drop)]
-struct Session {
-    page: String,
+struct Session<'a> {
+    page: &'a str,
     files: Vec<Written>,
     commands: u32,
 }
@@ -38,27 +38,40 @@ struct Piece<'a> {
 
 /// Runs the command lines of a page, prints those that print something else than the page says, and how many they are.
 pub(crate) fn run_page<R: Files + Print + AllocGlobal>(rt: &R, page: &str) -> Result<(), Failure> {
+    let text = text_of(rt, page)?;
+    let commands = run_lines(rt, page, text.as_str())?;
+    println!(rt; "{page}: {commands} commands")?;
+    Ok(())
+}
+
+fn text_of<R: Files + AllocGlobal>(rt: &R, page: &str) -> Result<String, Failure> {
     let path = format!(in rt.alloc(); "docs/{page}.md")?;
-    let text = fs::read_to_string(rt, path.as_str())?;
+    Ok(fs::read_to_string(rt, path.as_str())?)
+}
+
+// runs the command lines among these lines, and counts them
+fn run_lines<'a, R: Files + Print + AllocGlobal>(
+    rt: &R,
+    page: &'a str,
+    text: &'a str,
+) -> Result<u32, Failure> {
     let mut session = Session {
-        page: String::from_str(rt.alloc(), page)?,
+        page,
         files: Vec::new(rt.alloc()),
         commands: 0,
     };
     let mut piece = None;
-    for line in text.as_str().lines() {
+    for line in text.lines() {
         piece = read_line(rt, &mut session, piece, line)?;
     }
     finish(rt, &mut session, piece)?;
-    let commands = session.commands;
-    println!(rt; "{page}: {commands} commands")?;
-    Ok(())
+    Ok(session.commands)
 }
 
 // the next line of a page
 fn read_line<'a, R: Files + Print + AllocGlobal>(
     rt: &R,
-    session: &mut Session,
+    session: &mut Session<'_>,
     piece: Option<Piece<'a>>,
     line: &'a str,
 ) -> Result<Option<Piece<'a>>, Failure> {
@@ -90,16 +103,26 @@ fn with_line<'a>(piece: Option<Piece<'a>>, line: &str) -> Result<Option<Piece<'a
 // runs the piece, if there is one, and prints it where it prints something else than is wanted
 fn finish<R: Files + Print + AllocGlobal>(
     rt: &R,
-    session: &mut Session,
+    session: &mut Session<'_>,
     piece: Option<Piece<'_>>,
 ) -> Result<(), Failure> {
     let Some(piece) = piece else {
         return Ok(());
     };
     session.commands = session.commands.saturating_add(1);
-    let page = session.page.clone()?;
+    let found = output_of(rt, session, piece.line)?;
+    print_other(rt, session.page, &piece, found)
+}
+
+// prints the piece where it can't be run, or this isn't what is wanted
+fn print_other<R: Print + AllocGlobal>(
+    rt: &R,
+    page: &str,
+    piece: &Piece<'_>,
+    found: Option<Vec<u8>>,
+) -> Result<(), Failure> {
     let line = piece.line;
-    match output_of(rt, session, line)? {
+    match found {
         None => println!(rt; "{page}: can't be run: {line}")?,
         Some(output) if output.as_slice() != piece.wanted.as_slice() => {
             let output = String::from_utf8_lossy(rt.alloc(), &output)?;
@@ -114,7 +137,7 @@ fn finish<R: Files + Print + AllocGlobal>(
 // what a command line prints, or `None` where it is none, or wants a file that isn't there
 fn output_of<R: Files + AllocGlobal>(
     rt: &R,
-    session: &mut Session,
+    session: &mut Session<'_>,
     line: &str,
 ) -> Result<Option<Vec<u8>>, Failure> {
     match taken_apart(line) {
@@ -130,7 +153,7 @@ fn output_of<R: Files + AllocGlobal>(
 // what the program reads
 fn input_of<R: Files + AllocGlobal>(
     rt: &R,
-    session: &Session,
+    session: &Session<'_>,
     call: &Call<'_>,
 ) -> Result<Option<Vec<u8>>, Failure> {
     match call.input {
@@ -143,7 +166,7 @@ fn input_of<R: Files + AllocGlobal>(
 // the bytes of a file of examples/, or of one that was written
 fn bytes_of<R: Files + AllocGlobal>(
     rt: &R,
-    session: &Session,
+    session: &Session<'_>,
     name: &str,
 ) -> Result<Option<Vec<u8>>, Failure> {
     if let Some(example) = name.strip_prefix("examples/") {
@@ -163,27 +186,36 @@ fn bytes_of<R: Files + AllocGlobal>(
 // what the program writes on the terminal
 fn called(
     alloc: Global,
-    session: &mut Session,
+    session: &mut Session<'_>,
     call: &Call<'_>,
     input: &[u8],
 ) -> Result<Option<Vec<u8>>, Failure> {
-    let answer = answer_to(alloc, call.words, input)?;
-    let mut shown = Vec::new(alloc);
-    match call.into {
-        None => shown.extend_from_slice(&answer.output)?,
-        Some(name) => keep(alloc, session, name, &answer.output)?,
-    }
+    let Answer { status, output } = answer_to(alloc, call.words, input)?;
+    let mut shown = match call.into {
+        None => output,
+        Some(name) => {
+            keep(alloc, session, name, output)?;
+            Vec::new(alloc)
+        }
+    };
     if call.is_status_shown {
-        let status = answer.status;
-        let status = format!(in alloc; "{status}")?;
-        push_line(&mut shown, status.as_str())?;
+        push_status(alloc, &mut shown, status)?;
     }
     Ok(Some(shown))
 }
 
-fn keep(alloc: Global, session: &mut Session, name: &str, bytes: &[u8]) -> Result<(), NoMemory> {
+fn push_status(alloc: Global, shown: &mut Vec<u8>, status: u8) -> Result<(), NoMemory> {
+    let status = format!(in alloc; "{status}")?;
+    Ok(push_line(shown, status.as_str())?)
+}
+
+fn keep(
+    alloc: Global,
+    session: &mut Session<'_>,
+    name: &str,
+    bytes: Vec<u8>,
+) -> Result<(), NoMemory> {
     let name = String::from_str(alloc, name)?;
-    let bytes = Vec::from_slice(alloc, bytes)?;
     session.files.push(Written { name, bytes })?;
     Ok(())
 }

@@ -153,16 +153,25 @@ pub(crate) fn finish<R: Print + AllocGlobal>(
         let found = answer_to(rt.alloc(), row.words.as_str(), &row.input)?;
         let is_checked = is_checked(rt.alloc(), row, &found, counts)?;
         if !is_checked || !row.is_met_by(&found) {
-            let line = counts.lines;
-            let status = found.status;
-            let output = String::from_utf8_lossy(rt.alloc(), &found.output)?;
-            println!(rt;
-                "{name}.rows, row before line {line}: status {status}, checked is {is_checked}"
-            )?;
-            println!(rt; "{output}")?;
+            print_other(rt, name, counts.lines, &found, is_checked)?;
         }
         row.clear();
     }
+    Ok(())
+}
+
+/// Prints an answer to the row before a line that isn't the one that is wanted.
+fn print_other<R: Print + AllocGlobal>(
+    rt: &R,
+    name: &str,
+    line: u32,
+    found: &Answer,
+    is_checked: bool,
+) -> Result<(), Failure> {
+    let status = found.status;
+    let output = String::from_utf8_lossy(rt.alloc(), &found.output)?;
+    println!(rt; "{name}.rows, row before line {line}: status {status}, checked is {is_checked}")?;
+    println!(rt; "{output}")?;
     Ok(())
 }
 

@@ -14,17 +14,20 @@ pub(crate) struct Answer {
 // the outputs of these documents have room here
 const ROOM: u64 = 100_000;
 
-/// The answer to one word on a text.
-pub(crate) fn ask(alloc: Global, word: &str, text: &[u8]) -> Result<Answer, NoMemory> {
-    let mut words = Vec::new(alloc);
-    words.push(String::from_str(alloc, word)?)?;
-    let mut source = MemSource::new(Vec::from_slice(alloc, text)?, 4096, Vec::new(alloc));
+fn answer_in(alloc: Global, words: &[String], source: &mut MemSource) -> Result<Answer, NoMemory> {
     let mut sink = MemSink::new(alloc, 4096, Vec::new(alloc), ROOM)?;
-    let status = run(alloc, &words, &mut source, &mut sink);
+    let status = run(alloc, words, source, &mut sink);
     Ok(Answer {
         status,
         output: Vec::from_slice(alloc, sink.taken())?,
     })
+}
+
+/// The answer to one word on a text.
+pub(crate) fn ask(alloc: Global, word: &str, text: &[u8]) -> Result<Answer, NoMemory> {
+    let words = vec![in alloc; String::from_str(alloc, word)?]?;
+    let mut source = MemSource::new(Vec::from_slice(alloc, text)?, 4096, Vec::new(alloc));
+    answer_in(alloc, &words, &mut source)
 }
 
 // the number with which the text begins

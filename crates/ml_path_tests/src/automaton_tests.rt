@@ -1,7 +1,7 @@
 // Word automata of small problems of LTL, worked out by hand: the nodes of their states, and their transitions under letters,
 // from state to state by their numbers, with ! behind those that accept.
 use ml_base::IdSet;
-use ml_graph::ModalGraph;
+use ml_graph::{BlockRefusal, ModalGraph};
 use ml_trace::{Letter, Transition};
 use ml_word_automaton::{WordAutomaton, automaton_of, letter_at};
 use std::alloc::Global;
@@ -68,24 +68,38 @@ fn shown_letter(alloc: Global, automaton: &WordAutomaton, letters: &str) -> Resu
     Ok(out)
 }
 
-// has the automaton these states, in a graph of so many nodes at least, and these transitions under the letters?
-fn is_automaton(
+// the automaton of the problem of a text, if its graph has so many nodes at most
+fn automaton(
     alloc: Global,
     text: &str,
     negated: bool,
-    nodes: u32,
-    states: &str,
-    letters: &[(&str, &str)],
-) -> Result<bool, Fail> {
+    most: u32,
+) -> Result<Result<WordAutomaton, BlockRefusal>, Fail> {
     let formula = ml_ltl::parse(alloc, text.as_bytes())?;
-    let less = automaton_of(alloc, &formula, negated, nodes.min(4096).saturating_sub(1));
-    let automaton = automaton_of(alloc, &formula, negated, nodes.min(4096))?;
+    Ok(automaton_of(alloc, &formula, negated, most.min(4096)))
+}
+
+// has the automaton these transitions under the letters?
+fn has_letters(
+    alloc: Global,
+    automaton: &WordAutomaton,
+    letters: &[(&'static str, &'static str)],
+) -> Result<bool, Fail> {
     for (letter, wanted) in letters {
-        if shown_letter(alloc, &automaton, letter)?.as_str() != *wanted {
+        if shown_letter(alloc, automaton, letter)?.as_str() != *wanted {
             return Ok(false);
         }
     }
-    Ok(less.is_err() && shown_states(alloc, &automaton)?.as_str() == states)
+    Ok(true)
+}
+
+// has the automaton these states, in a graph of so many nodes at least, and these transitions under the letters?
+fn is_automaton(alloc: Global, row: &Row) -> Result<bool, Fail> {
+    let (text, negated, nodes, states, letters) = *row;
+    let found = automaton(alloc, text, negated, nodes)??;
+    let is_least = automaton(alloc, text, negated, nodes.saturating_sub(1))?.is_err();
+    let has_states = shown_states(alloc, &found)?.as_str() == states;
+    Ok(is_least && has_states && has_letters(alloc, &found, letters)?)
 }
 
 // A text, is the problem negated, how many nodes its graph has at least, the states, and the transitions under letters.
@@ -127,8 +141,8 @@ const AUTOMATA: [Row; 4] = [
 
 // the place of the first problem with another automaton
 fn first_wrong(alloc: Global, rows: &[Row]) -> Result<Option<usize>, Fail> {
-    for (place, (text, negated, nodes, states, letters)) in rows.iter().enumerate() {
-        if !is_automaton(alloc, text, *negated, *nodes, states, letters)? {
+    for (place, row) in rows.iter().enumerate() {
+        if !is_automaton(alloc, row)? {
             return Ok(Some(place));
         }
     }

@@ -9,7 +9,7 @@
 // has an edge.
 use ml_blocks::{graph_of, ltl_graph_of};
 use ml_front::Logic;
-use ml_graph::{ModalGraph, Node};
+use ml_graph::{BlockRefusal, ModalGraph, Node};
 use std::alloc::Global;
 use std::test::Fail;
 
@@ -51,33 +51,39 @@ fn shown(alloc: Global, graph: &ModalGraph) -> Result<String, Fail> {
     Ok(out)
 }
 
-// is the graph of the problem of CTL* this one, and is it too large for one node less?
-fn is_graph(alloc: Global, text: &str, negated: bool, wanted: &str) -> Result<bool, Fail> {
-    let formula = ml_ctl::parse(alloc, text.as_bytes())?;
-    let graph = graph_of(alloc, &formula, negated, 4096)?;
-    let less = graph_of(alloc, &formula, negated, graph.size().saturating_sub(1));
-    Ok(less.is_err() && shown(alloc, &graph)?.as_str() == wanted)
-}
-
-// is the graph of the problem of LTL this one, and is it too large for one node less?
-fn is_linear_graph(alloc: Global, text: &str, negated: bool, wanted: &str) -> Result<bool, Fail> {
-    let formula = ml_ltl::parse(alloc, text.as_bytes())?;
-    let graph = ltl_graph_of(alloc, &formula, negated, 4096)?;
-    let less = ltl_graph_of(alloc, &formula, negated, graph.size().saturating_sub(1));
-    Ok(less.is_err() && shown(alloc, &graph)?.as_str() == wanted)
+// the graph of the problem of a text in LTL, or else in CTL*, if it has so many nodes at most
+fn graph(
+    alloc: Global,
+    logic: Logic,
+    text: &str,
+    negated: bool,
+    most: u32,
+) -> Result<Result<ModalGraph, BlockRefusal>, Fail> {
+    if logic == Logic::Ltl {
+        let formula = ml_ltl::parse(alloc, text.as_bytes())?;
+        Ok(ltl_graph_of(alloc, &formula, negated, most))
+    } else {
+        let formula = ml_ctl::parse(alloc, text.as_bytes())?;
+        Ok(graph_of(alloc, &formula, negated, most))
+    }
 }
 
 // A logic, a text, is the problem negated, and its graph.
 type Row = (Logic, &'static str, bool, &'static str);
 
+// is the graph of the problem this one, and is it too large for one node less?
+fn is_graph(alloc: Global, row: &Row) -> Result<bool, Fail> {
+    let (logic, text, negated, wanted) = *row;
+    let found = graph(alloc, logic, text, negated, 4096)??;
+    let less = found.size().saturating_sub(1);
+    let is_least = graph(alloc, logic, text, negated, less)?.is_err();
+    Ok(is_least && shown(alloc, &found)?.as_str() == wanted)
+}
+
 // the place of the first problem with another graph
 fn first_wrong(alloc: Global, rows: &[Row]) -> Result<Option<usize>, Fail> {
-    for (place, (logic, text, negated, wanted)) in rows.iter().enumerate() {
-        let is_wanted = match *logic {
-            Logic::Ltl => is_linear_graph(alloc, text, *negated, wanted)?,
-            _ => is_graph(alloc, text, *negated, wanted)?,
-        };
-        if !is_wanted {
+    for (place, row) in rows.iter().enumerate() {
+        if !is_graph(alloc, row)? {
             return Ok(Some(place));
         }
     }

@@ -2,12 +2,12 @@
 // most six places.
 ghost use Rattle.std.specs.Prelude.{◌<◌};
 
-use ml_base::{Action, Edge, Name};
+use ml_base::NameRefusal;
 use ml_front::{Logic, read};
 use ml_kripke::Structure;
 use ml_model_check::holds;
-use ml_tests::Numbers;
-use std::alloc::Global;
+use ml_tests::{Draft, Numbers};
+use std::alloc::{AllocError, Global};
 use std::test::Fail;
 
 // how many places a path has at most
@@ -67,34 +67,46 @@ fn is_set(row: &[bool], place: usize) -> bool {
     row.get(place) == Some(&true)
 }
 
+// so many flags that are drawn
+fn random_flags(alloc: Global, numbers: &mut Numbers, count: u32) -> Result<Vec<bool>, AllocError> {
+    let mut flags = Vec::new(alloc);
+    for _ in 0..count {
+        flags.push(numbers.below(2) == 0)?;
+    }
+    Ok(flags)
+}
+
+// each state leads to one that is drawn, and perhaps to others, if it may
+fn random_steps(
+    alloc: Global,
+    numbers: &mut Numbers,
+    states: u32,
+    may_branch: bool,
+) -> Result<Vec<bool>, AllocError> {
+    let mut steps = Vec::new(alloc);
+    for _ in 0..states {
+        let sure = numbers.below(u64::from(states.max(1)));
+        for target in 0..states {
+            let may_be = may_branch && numbers.below(3) == 0;
+            steps.push(u64::from(target) == sure || may_be)?;
+        }
+    }
+    Ok(steps)
+}
+
 impl World {
-    // each state leads to one that is drawn, and perhaps to others, if it may
     fn random(
         alloc: Global,
         numbers: &mut Numbers,
         states: u32,
         may_branch: bool,
-    ) -> Result<World, Fail> {
-        let mut world = World {
+    ) -> Result<World, AllocError> {
+        Ok(World {
             states,
-            steps: Vec::new(alloc),
-            p: Vec::new(alloc),
-            q: Vec::new(alloc),
-        };
-        for _ in 0..states {
-            let sure = if states > 0 {
-                numbers.below(states as u64)
-            } else {
-                0
-            };
-            for target in 0..states {
-                let may_be = may_branch && numbers.below(3) == 0;
-                world.steps.push(target as u64 == sure || may_be)?;
-            }
-            world.p.push(numbers.below(2) == 0)?;
-            world.q.push(numbers.below(2) == 0)?;
-        }
-        Ok(world)
+            steps: random_steps(alloc, numbers, states, may_branch)?,
+            p: random_flags(alloc, numbers, states)?,
+            q: random_flags(alloc, numbers, states)?,
+        })
     }
 
     fn has_step(&self, source: u32, target: u32) -> bool {
@@ -102,28 +114,28 @@ impl World {
         is_set(&self.steps, row.saturating_add(target as usize))
     }
 
-    fn structure(&self, alloc: Global) -> Result<Structure, Fail> {
-        let mut labels = Vec::new(alloc);
-        let mut edges = Vec::new(alloc);
-        for source in 0..self.states {
-            if is_set(&self.p, source as usize) {
-                labels.push((source, Name::new(alloc, b"p")?))?;
-            }
-            if is_set(&self.q, source as usize) {
-                labels.push((source, Name::new(alloc, b"q")?))?;
-            }
-            for target in 0..self.states {
-                if self.has_step(source, target) {
-                    let action = Action::new(alloc, b"_")?;
-                    edges.push(Edge {
-                        source,
-                        action,
-                        target,
-                    })?;
-                }
+    // the labels and the edges of a state
+    fn push_state(&self, alloc: Global, state: u32, draft: &mut Draft) -> Result<(), NameRefusal> {
+        if is_set(&self.p, state as usize) {
+            draft.add_label(alloc, state, b"p")?;
+        }
+        if is_set(&self.q, state as usize) {
+            draft.add_label(alloc, state, b"q")?;
+        }
+        for target in 0..self.states {
+            if self.has_step(state, target) {
+                draft.add_edge(alloc, state, b"_", target)?;
             }
         }
-        Ok(Structure::build(alloc, self.states, labels, edges)?)
+        Ok(())
+    }
+
+    fn structure(&self, alloc: Global) -> Result<Structure, Fail> {
+        let mut draft = Draft::new(alloc);
+        for state in 0..self.states {
+            self.push_state(alloc, state, &mut draft)?;
+        }
+        Ok(draft.structure(alloc, self.states)?)
     }
 }
 
