@@ -40,24 +40,8 @@ fn is_kept(alloc: Global, problem: &Problem, structure: &Structure) -> Result<bo
     Ok(true)
 }
 
-// is it, on so many structures?
+// is it, of the formula and of its negation, on so many structures?
 fn are_kept(
-    alloc: Global,
-    numbers: &mut Numbers,
-    shape: Shape,
-    problem: &Problem,
-) -> Result<bool, Fail> {
-    for _ in 0..ROUNDS {
-        let structure = random_structure(alloc, numbers, shape)?;
-        if !is_kept(alloc, problem, &structure)? {
-            return Ok(false);
-        }
-    }
-    Ok(true)
-}
-
-// is it, of the formula of the text and of its negation?
-fn are_both_kept(
     alloc: Global,
     numbers: &mut Numbers,
     logic: Logic,
@@ -65,10 +49,14 @@ fn are_both_kept(
     text: &[u8],
 ) -> Result<bool, Fail> {
     let plain = read(alloc, logic, text)?;
-    if !are_kept(alloc, numbers, shape, &plain)? {
-        return Ok(false);
+    let other = negated(read(alloc, logic, text)?);
+    for _ in 0..ROUNDS {
+        let structure = random_structure(alloc, numbers, shape)?;
+        if !is_kept(alloc, &plain, &structure)? || !is_kept(alloc, &other, &structure)? {
+            return Ok(false);
+        }
     }
-    are_kept(alloc, numbers, shape, &negated(plain))
+    Ok(true)
 }
 
 // the place of the first text whose problem isn't kept
@@ -80,7 +68,7 @@ fn first_lost(
 ) -> Result<Option<usize>, Fail> {
     let mut numbers = Numbers::new(5);
     for (place, text) in texts.iter().enumerate() {
-        if !are_both_kept(alloc, &mut numbers, logic, shape, text)? {
+        if !are_kept(alloc, &mut numbers, logic, shape, text)? {
             return Ok(Some(place));
         }
     }

@@ -3,7 +3,7 @@
 ghost use Rattle.std.specs.Prelude.{◌<◌};
 
 use ml_base::NameRefusal;
-use ml_front::{Logic, read};
+use ml_front::{Logic, Problem, read};
 use ml_kripke::Structure;
 use ml_model_check::holds;
 use ml_tests::{Draft, Numbers};
@@ -440,6 +440,15 @@ fn plain_answers(alloc: Global, world: &World, made: &Terms) -> Result<Vec<bool>
     Ok(found)
 }
 
+// does the problem hold, by each state
+fn answers_of(alloc: Global, problem: &Problem, structure: &Structure) -> Result<Vec<bool>, Fail> {
+    let mut found = Vec::new(alloc);
+    for state in 0..structure.states() {
+        found.push(holds(alloc, problem, structure, state)?)?;
+    }
+    Ok(found)
+}
+
 // does the formula of a text hold, by each state
 fn answers(
     alloc: Global,
@@ -448,11 +457,7 @@ fn answers(
     structure: &Structure,
 ) -> Result<Vec<bool>, Fail> {
     let problem = read(alloc, logic, text)?;
-    let mut found = Vec::new(alloc);
-    for state in 0..structure.states() {
-        found.push(holds(alloc, &problem, structure, state)?)?;
-    }
-    Ok(found)
+    answers_of(alloc, &problem, structure)
 }
 
 // do the two programs agree at each state? The last term is a formula of the logic

@@ -42,6 +42,15 @@ fn agree(alloc: Global, problem: &Problem, structure: &Structure) -> Result<bool
     Ok(true)
 }
 
+// the problem, or the one of its negation
+fn of_some_sense(numbers: &mut Numbers, plain: Problem) -> Problem {
+    if numbers.below(2) == 0 {
+        plain
+    } else {
+        negated(plain)
+    }
+}
+
 // do they on the formula of a text, or on its negation? `None` where the text is one of no formula
 fn agree_on(
     alloc: Global,
@@ -52,11 +61,7 @@ fn agree_on(
 ) -> Result<Option<bool>, Fail> {
     match read(alloc, logic, text) {
         Ok(plain) => {
-            let problem = if numbers.below(2) == 0 {
-                plain
-            } else {
-                negated(plain)
-            };
+            let problem = of_some_sense(numbers, plain);
             Ok(Some(agree(alloc, &problem, structure)?))
         }
         Err(_) => Ok(None),
@@ -138,11 +143,16 @@ fn odd_priorities_of(alloc: Global, problem: &Problem) -> Result<Vec<u32>, Fail>
     Ok(graph.odd_priorities()?)
 }
 
+// those of a text's
+fn odd_priorities_in(alloc: Global, text: &[u8]) -> Result<Vec<u32>, Fail> {
+    let problem = read(alloc, Logic::Mu, text)?;
+    odd_priorities_of(alloc, &problem)
+}
+
 // the odd priorities of the graph of a least fixpoint
 #[test]
 fn odd_priorities(rt: HostRuntime) -> Result<(), Fail> {
-    let problem = read(rt.alloc(), Logic::Mu, b"mu X. <>X")?;
-    let odds = odd_priorities_of(rt.alloc(), &problem)?;
+    let odds = odd_priorities_in(rt.alloc(), b"mu X. <>X")?;
     assert!(rt; odds.as_slice() == [1].as_slice());
     Ok(())
 }

@@ -58,6 +58,13 @@ fn holds_at(
 // A text, and the states at which its formula holds.
 pub(crate) type Row = (&'static [u8], [bool; 4]);
 
+// Does the formula of the row hold at its states and at no others?
+fn is_right(alloc: Global, logic: Logic, structure: &Structure, row: &Row) -> Result<bool, Fail> {
+    let (text, states) = *row;
+    let problem = read(alloc, logic, text)?;
+    holds_at(alloc, &problem, structure, states.as_slice())
+}
+
 // The place of the first row whose formula doesn't hold at its states and at no others.
 pub(crate) fn first_wrong(
     alloc: Global,
@@ -65,9 +72,8 @@ pub(crate) fn first_wrong(
     structure: &Structure,
     rows: &[Row],
 ) -> Result<Option<usize>, Fail> {
-    for (place, (text, states)) in rows.iter().enumerate() {
-        let problem = read(alloc, logic, text)?;
-        if !holds_at(alloc, &problem, structure, states.as_slice())? {
+    for (place, row) in rows.iter().enumerate() {
+        if !is_right(alloc, logic, structure, row)? {
             return Ok(Some(place));
         }
     }
