@@ -4,8 +4,7 @@
 //
 // What is printed is each row whose answer is another, with what was answered, and for each file how many rows it has and
 // how many documents were written in them. Each document with an answer is read by the command that checks it, and has to
-// be found good; one that `migrate` or `quotient` writes has to be
-// found as the one that it is written of.
+// be found good; one that `migrate` or `quotient` writes has to be found as the one that it is written of.
 //
 // The command lines of pages in `data/docs` are run too, and those are printed that print something else than their page
 // says.

@@ -38,15 +38,11 @@ struct Piece<'a> {
 
 /// Runs the command lines of a page, prints those that print something else than the page says, and how many they are.
 pub(crate) fn run_page<R: Files + Print + AllocGlobal>(rt: &R, page: &str) -> Result<(), Failure> {
-    let text = text_of(rt, page)?;
+    let path = format!(in rt.alloc(); "docs/{page}.md")?;
+    let text = fs::read_to_string(rt, path.as_str())?;
     let commands = run_lines(rt, page, text.as_str())?;
     println!(rt; "{page}: {commands} commands")?;
     Ok(())
-}
-
-fn text_of<R: Files + AllocGlobal>(rt: &R, page: &str) -> Result<String, Failure> {
-    let path = format!(in rt.alloc(); "docs/{page}.md")?;
-    Ok(fs::read_to_string(rt, path.as_str())?)
 }
 
 // runs the command lines among these lines, and counts them

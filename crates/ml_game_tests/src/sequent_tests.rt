@@ -1,11 +1,13 @@
 // The local phase on graphs of small formulas, worked out by hand.
 ghost use Rattle.std.specs.Prelude.{◌<◌, All, IfOk, IfSome};
 ghost use Rattle.ml_graph.specs.Graph.{size};
+ghost use Rattle.ml_sequent.specs.Spread.{IsSpread};
 
 use crate::graph_tests::{NOT_P, P, graph_of};
+use ml_base::NoMemory;
 use ml_graph::{ModalGraph, Node};
 use ml_sequent::{
-    Choice, ClashCause, LocalPhase, Sequent, Side, clash, diamonds, open_or, spread, step,
+    Choice, ClashCause, LocalPhase, Sequent, Side, Spread, clash, diamonds, open_or, spread, step,
 };
 use ml_trace::{LocalTraces, Triple};
 use std::alloc::Global;
@@ -349,27 +351,37 @@ fn causes_in_spreads(rt: HostRuntime) -> Result<(), Fail> {
     Ok(())
 }
 
-// The nodes of the spread of a sequent with a side chosen at its open or-node; `None` if it has none.
-fn extended_in(
+// Are these the nodes of the spread with a side chosen at its open or-node; `None` if it has none?
+fn is_longer(
+    phase: &mut LocalPhase,
+    spread: &Spread,
+    side: Side,
+    wanted: Option<&[u32]>,
+) -> Result<bool, NoMemory>
+    requires { IsSpread phase.old spread.now }
+{
+    match phase.open_or(spread) {
+        Some(node) => Ok(wanted == Some(phase.extended(spread, node, side)?.nodes())),
+        None => Ok(wanted.is_none()),
+    }
+}
+
+// The same of the spread of a sequent.
+fn is_extended_in(
     alloc: Global,
     graph: &ModalGraph,
     sequent: &Sequent,
     side: Side,
-) -> Result<Option<Vec<u32>>, Fail>
+    wanted: Option<&[u32]>,
+) -> Result<bool, Fail>
     requires { All (λ n. n < size graph.now) sequent.now }
 {
     let mut phase = LocalPhase::new(alloc, graph)?;
     let spread = phase.spread(sequent, &Choice::empty(alloc))?;
-    match phase.open_or(&spread) {
-        Some(node) => {
-            let longer = phase.extended(&spread, node, side)?;
-            Ok(Some(Vec::from_slice(alloc, longer.nodes())?))
-        }
-        None => Ok(None),
-    }
+    Ok(is_longer(&mut phase, &spread, side, wanted)?)
 }
 
-// The same of a node, and are they these?
+// The same of the spread of a node.
 fn is_extended(
     alloc: Global,
     graph: &ModalGraph,
@@ -378,7 +390,7 @@ fn is_extended(
     wanted: Option<&[u32]>,
 ) -> Result<bool, Fail> {
     match sequent_of(alloc, graph, &[from])? {
-        Some(sequent) => Ok(extended_in(alloc, graph, &sequent, side)?.as_deref() == wanted),
+        Some(sequent) => is_extended_in(alloc, graph, &sequent, side, wanted),
         None => Ok(false),
     }
 }

@@ -45,7 +45,7 @@ pub(crate) fn machines(alloc: Global) -> Result<Vec<Machine>, Failure> {
 }
 
 // The state behind this one: the next, or behind the last one that to which it turns.
-fn after(state: u32, states: u32, turn: u32) -> u32 {
+fn next_state(state: u32, states: u32, turn: u32) -> u32 {
     let next = state.saturating_add(1);
     if next < states { next } else { turn }
 }
@@ -61,7 +61,7 @@ fn giving(alloc: Global, states: u32, bits: u32, turn: u32) -> Result<Machine, F
     for state in 0..states {
         let step = MachineStep {
             give: bit(bits, state),
-            next: after(state, states, turn),
+            next: next_state(state, states, turn),
         };
         rows.push(vec![in alloc; step; 2]?)?;
     }
@@ -134,7 +134,7 @@ fn playing(alloc: Global, states: u32, bits: u32, turn: u32) -> Result<Environme
     let mut next = Vec::new(alloc);
     for state in 0..states {
         plays.push(bit(bits, state))?;
-        next.push(vec![in alloc; after(state, states, turn); 2]?)?;
+        next.push(vec![in alloc; next_state(state, states, turn); 2]?)?;
     }
     Ok(Environment { plays, next })
 }

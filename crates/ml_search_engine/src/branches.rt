@@ -262,7 +262,8 @@ impl Branch {
         Ok(())
     }
 
-    /// Is this so of a node because it is known of one of its sides, or of both where one isn't enough?
+    /// Is this so of a node by what is known of its sides? A disjunction holds by one of them and fails by both, a
+    /// conjunction fails by one and holds by both.
     fn follows(&self, node: Node, fact: Fact) -> bool {
         match (node, fact) {
             (Node::Or { .. }, Fact::Holds) | (Node::And { .. }, Fact::Fails) => true,

@@ -35,7 +35,7 @@ pub(crate) struct Engine<'a> {
 enum Round {
     /// A candidate was found, or nothing more is made.
     Over(Option<Candidate>),
-    /// More was made.
+    /// More was made, or weak leaves were taken back.
     GoesOn,
 }
 

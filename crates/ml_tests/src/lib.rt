@@ -1,9 +1,9 @@
 // Generators of games, graphs, letters and structures, and the tests of parity games, heights, traces and histories.
 //
 // Tests and measurements take what they try from here. Begin with `Numbers`, numbers that look random and are the same
-// in each run; `random_game`, `ladder` and `game_of_rows` give games, `chain`, `random_blocks` and `slow_row` one-sided graphs,
-// `random_letter` and `deep_letter` letters of the trace automaton; a `Draft` becomes a Kripke structure. The tests compare fast programs with the plain ones
-// that are their reference.
+// in each run; `random_game`, `ladder` and `game_of_rows` give games, `chain`, `random_blocks` and `slow_row` one-sided
+// graphs, `random_letter` and `deep_letter` letters of the trace automaton; a `Draft` becomes a Kripke structure. The tests
+// compare fast programs with the plain ones that are their reference.
 //
 // Below stand the crates whose programs are compared; above stands `ml_measure`. Tests of graphs and decision games stand
 // in `ml_game_tests`.

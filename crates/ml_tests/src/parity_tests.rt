@@ -24,7 +24,7 @@ const REFUSED: [(&'static [Row], GameRefusal); 3] = [
 ];
 
 // The place of the first rows that are refused otherwise.
-fn first_accepted(alloc: Global, table: &[(&'static [Row], GameRefusal)]) -> Option<usize> {
+fn first_wrong_refusal(alloc: Global, table: &[(&'static [Row], GameRefusal)]) -> Option<usize> {
     for (place, (rows, refusal)) in table.iter().enumerate() {
         if game_of_rows(alloc, rows).err() != Some(NotMade::Game(*refusal)) {
             return Some(place);
@@ -35,7 +35,7 @@ fn first_accepted(alloc: Global, table: &[(&'static [Row], GameRefusal)]) -> Opt
 
 #[test]
 fn build_refuses_the_least_vertex(rt: HostRuntime) {
-    assert_eq!(rt; first_accepted(rt.alloc(), &REFUSED), None);
+    assert_eq!(rt; first_wrong_refusal(rt.alloc(), &REFUSED), None);
 }
 
 // A game, its winners, and the choices of both solvers.
