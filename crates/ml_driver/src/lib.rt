@@ -2,10 +2,12 @@
 //
 // `run` reads the words, then the source to its end, computes the answer as a value, makes its whole output as bytes,
 // and only then writes. Its contract (`specs/Run.antt`) says which status and output are due, and what each status
-// leaves behind; what the answers of `decide` and `valid` mean, in any of the four logics, stands in
-// `specs/Decision.antt`, what `quotient` answers in `specs/Quotients.antt`, what `solve-game` answers in `specs/Games.antt`,
-// what `determinise` answers in `specs/Automata.antt`, and what `realize` answers in `specs/Tasks.antt`. `Status::code` is the number with which the program ends. `laws` says that one status is due for all
-// words and each input, that answers are exact, and that what is written is found to be right.
+// leaves behind. What the answers of `decide` and `valid` mean, in any of the five logics, stands in
+// `specs/Decision.antt`, what `quotient` answers in `specs/Quotients.antt`, what `solve-game` answers in
+// `specs/Games.antt`, what `determinise` answers in `specs/Automata.antt`, and what `realize` answers in
+// `specs/Tasks.antt`. `Status::code` is the number with which the program ends. `laws` says that some status is due for
+// all words and each input, and one alone but for `find` and `prove`; that answers are exact; and that what is written is
+// found to be right.
 //
 // Below stand all crates that it calls; above stands only the program `mlsolver`.
 #![tactic(auto)]

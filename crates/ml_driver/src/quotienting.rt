@@ -19,16 +19,24 @@ pub(crate) fn quotient_document(alloc: Global, text: &[u8]) -> Result<Output, No
     ensures { IfOk result (λ output. IsAnswer Command.Quotient text.now output.status output.bytes.items) }
 {
     match read_document(alloc, text) {
-        Ok(shown) => Ok(Output {
-            status: Status::Yes,
-            bytes: reduced(alloc, text, &shown)?,
-        }),
+        Ok(shown) => answer(alloc, text, &shown),
         Err(DocRefusal::Fault(fault)) => Ok(Output {
             status: Status::Text,
             bytes: refused_document(alloc, fault)?,
         }),
         Err(DocRefusal::NoMemory) => Err(NoMemory),
     }
+}
+
+// the answer on what the document shows
+fn answer(alloc: Global, text: &[u8], shown: &ShownModel) -> Result<Output, NoMemory>
+    requires { IsDocument text.now shown.now.problem shown.now.model.structure shown.now.model.start }
+    ensures { IfOk result (λ output. IsAnswer Command.Quotient text.now output.status output.bytes.items) }
+{
+    Ok(Output {
+        status: Status::Yes,
+        bytes: reduced(alloc, text, shown)?,
+    })
 }
 
 // the document with the quotient
