@@ -24,29 +24,29 @@ use Rattle.ml_bisim.proofs.FiniteSearch.{AreEach, mapped, some_bool, some_list}
 use Rattle.ml_bisim.proofs.Labels.{listed, row}
 
 module _ (m : Structure) (ok : IsStructure m) where
-  abbrev HasLabels : ℕ → ℕ → Type 0
+  abbrev pub HasLabels : ℕ → ℕ → Type 0
   HasLabels s t = (p : List ℕ) → IsMember p (row m s) → IsMember p (row m t)
 
   -- each edge of s is matched by one of t
-  abbrev HasSteps : (ℕ → ℕ → Bool) → ℕ → ℕ → Type 0
+  abbrev pub HasSteps : (ℕ → ℕ → Bool) → ℕ → ℕ → Type 0
   HasSteps R s t = (e : Edge) → IsMember e m.edges → e.source ≡ s
       → Having (λ (f : Edge). (f.source ≡ t) × ((f.action ≡ e.action) × (R e.target f.target ≡ true))) m.edges
 
-  abbrev flipped : (ℕ → ℕ → Bool) → ℕ → ℕ → Bool
+  abbrev pub flipped : (ℕ → ℕ → Bool) → ℕ → ℕ → Bool
   flipped R s t = R t s
 
-  record Matches (R : ℕ → ℕ → Bool) (s t : ℕ) : Type 0 where
+  pub record Matches (R : ℕ → ℕ → Bool) (s t : ℕ) : Type 0 where
     pub labels : HasLabels s t
     pub labels_back : HasLabels t s
     pub steps : HasSteps R s t
     pub steps_back : HasSteps (flipped R) t s
 
-  abbrev AllMatch : (ℕ → ℕ → Bool) → Type 0
+  abbrev pub AllMatch : (ℕ → ℕ → Bool) → Type 0
   AllMatch R = (s : ℕ) → s < m.states → (t : ℕ) → t < m.states → R s t ≡ true → Matches R s t
 
   -- ---- relations cut to the states
 
-  abbrev cut : (ℕ → ℕ → Bool) → ℕ → ℕ → Bool
+  abbrev pub cut : (ℕ → ℕ → Bool) → ℕ → ℕ → Bool
   cut R s t = nat_lt s m.states && (nat_lt t m.states && R s t)
 
   record AreJoined (R : ℕ → ℕ → Bool) (s t : ℕ) : Type 0 where
@@ -63,7 +63,7 @@ module _ (m : Structure) (ok : IsStructure m) where
       let rest = and_parts (nat_lt t m.states) (R s t) first.1 in
       record { source = low_of s first.0; target = low_of t rest.0; related = rest.1 }
 
-  joins : (R : ℕ → ℕ → Bool) (s t : ℕ) → s < m.states → t < m.states → R s t ≡ true → IsTrue (cut R s t)
+  pub joins : (R : ℕ → ℕ → Bool) (s t : ℕ) → s < m.states → t < m.states → R s t ≡ true → IsTrue (cut R s t)
   joins R s t s_low t_low e =
       and_from (nat_lt s m.states) (nat_lt t m.states && R s t) (lt-ltb s m.states s_low)
       (and_from (nat_lt t m.states) (R s t) (lt-ltb t m.states t_low) e)
@@ -90,7 +90,7 @@ module _ (m : Structure) (ok : IsStructure m) where
             h.holds.1.1,
           )
 
-  cut_is : (R : ℕ → ℕ → Bool) → AllMatch R → IsBisimulation m (cut R)
+  pub cut_is : (R : ℕ → ℕ → Bool) → AllMatch R → IsBisimulation m (cut R)
   cut_is R all = record {
     same_labels = λ s t e p.
         let j = joined R s t e in

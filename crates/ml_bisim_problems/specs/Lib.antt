@@ -1,2 +1,4 @@
+-- what formulas tell of states
+pub mod Told
 -- problems and the quotient of a structure
 pub mod Laws
