@@ -1,8 +1,8 @@
 -- Bisimilar states of a structure.
 --
--- Two states are bisimilar if no formula can tell them apart; said without formulas, if some relation joins them whose
--- joined states have the same propositions, and edges that match each other. A relation is a test of two states, as each one
--- on finitely many states is.
+-- Two states are bisimilar if some relation joins them whose joined states have the same propositions, and edges that match
+-- each other. A relation is a test of two states, as each one on finitely many states is. That these are the states which no
+-- formula tells apart is a law (`ml_bisim_problems`).
 --
 --   HasEdge m s a t      == an edge of m leads from s by the action a to t
 --   IsBisimulation m R   == states that R joins list the same propositions, and each edge of one of them is matched by an
