@@ -1,4 +1,4 @@
--- Kripke structures, over which the formulas of all four logics are read.
+-- Kripke structures, over which the formulas of all logics are read.
 --
 -- A structure has the states 0 to n - 1, n any number from 1 on; each state lists the propositions that are true at
 -- it; and each edge leads from a state by an action to a state. Propositions and actions are names, so lists of

@@ -18,7 +18,8 @@ pub fn letters_stay()
     ensures { LettersStay }
 {}
 
-/// The deterministic automaton of a Büchi automaton accepts exactly the endless words of valuations that this one accepts.
+/// The deterministic automaton of a Büchi automaton accepts exactly the ultimately periodic words of valuations that
+/// this one accepts.
 ///
 /// Does nothing when called. Source: Schewe, Tighter bounds for the determinisation of Büchi automata (2009), with the ages
 /// of Piterman (2006).

@@ -25,8 +25,8 @@ fn begun(alloc: Global, start: u32) -> Result<IndexSet<History>, NoMemory>
 }
 
 /// The deterministic parity automaton of the histories that a Büchi automaton reaches from one of its states, if they are at
-/// most so many. It accepts exactly the endless words of these letters that the Büchi automaton accepts
-/// (`laws::numbered_same_words`).
+/// most so many. It accepts exactly the ultimately periodic words of these letters that the Büchi automaton
+/// accepts (`laws::numbered_same_words`).
 ///
 /// The Büchi automaton has `states` states, of which there are 2^30 at most, and begins in the state `start`. `letters` has
 /// its transitions, letter by letter, and their ends are below `states`. `limit` is 1 or more.

@@ -2,8 +2,8 @@
 ghost use Rattle.ml_determinise.specs.Histories.{SameWords};
 ghost use Rattle.ml_determinise.specs.Numbering.{HistoriesAreBounded, NumberedSameWords, OneNumbering, SomeNumbering, NeverBoth};
 
-/// The deterministic parity automaton of histories accepts exactly the endless words that the Büchi automaton accepts, from
-/// each of its states.
+/// The deterministic parity automaton of histories accepts exactly the ultimately periodic words that the Büchi
+/// automaton accepts, from each of its states.
 ///
 /// Does nothing when called. Source: Schewe, Tighter bounds for the determinisation of Büchi automata (2009), with the ages
 /// of Piterman (2006).

@@ -2,7 +2,7 @@
 //
 // A Büchi automaton over finitely many letters is a row of letters, each a set of transitions (`specs/Histories.antt`). Its
 // histories, along with the marks of their steps, are a deterministic parity automaton, and this accepts exactly the
-// endless words that the given one accepts: `laws::same_words`, which rests on both cycle laws of `ml_history`.
+// ultimately periodic words that the given one accepts: `laws::same_words`, which rests on both cycle laws of `ml_history`.
 //
 // `determinise` makes it from one state on: the histories that are reached, numbered breadth first, each with a move for
 // each letter (`specs/Numbering.antt`). The numbered automaton accepts the same words (`laws::numbered_same_words`). The

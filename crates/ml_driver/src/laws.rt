@@ -88,7 +88,7 @@ pub fn quotients_say_the_same()
 {}
 
 /// For `determinise` one status is due, with one output. Of a text one automaton is written at most, whatever the limit, and
-/// it accepts exactly the endless words of valuations that the automaton of the text accepts.
+/// it accepts exactly the ultimately periodic words of valuations that the automaton of the text accepts.
 pub fn one_automaton()
     ensures due { OneAutomatonDue }
     ensures written { OneAutomatonWritten }

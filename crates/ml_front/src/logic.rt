@@ -11,7 +11,7 @@ pub enum Logic {
     Pdl,
     /// CTL*.
     Ctl,
-    /// LTL: some path, or none, among many.
+    /// LTL on some path among many: a negated problem asks for a path that doesn't satisfy the formula.
     Ltl,
     /// LTL, read on single words.
     Word,

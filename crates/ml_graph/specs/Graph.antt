@@ -1,4 +1,4 @@
--- Modal graphs: what the formulas of all four logics become.
+-- Modal graphs: what the formulas of all logics become.
 --
 -- A graph is a list of nodes, with a priority for each, and a root. Nodes refer to one another by their numbers, so that
 -- a node may be shared, and may lead back to itself: a fixpoint is a cycle, and the lowest priority on it says of which

@@ -1,6 +1,6 @@
 // Modal graphs, and the game that says where a graph holds.
 //
-// Formulas of all four logics become one kind of graph: nodes with priorities, which may lead back to themselves. A
+// Formulas of all logics become one kind of graph: nodes with priorities, which may lead back to themselves. A
 // graph holds at a state of a structure if Even wins a parity game of states and nodes, the checking game
 // (`specs/Graph.antt`, `specs/CheckingGame.antt`).
 //
@@ -10,7 +10,7 @@
 // - `ModalGraph::odd_priorities` gives the odd priorities, of which the trace automaton is made.
 //
 // Below stand `ml_base` and `ml_kripke`, for structures, and `ml_parity`, for games. Above stand the translations of
-// the four logics, the local phase of the decision, and the checkers.
+// the logics, the local phase of the decision, and the checkers.
 #![tactic(auto)]
 
 mod at_state;

@@ -7,8 +7,8 @@
 -- A machine answers inputs: for each of its states and each set of inputs it gives a set of outputs and goes to a next
 -- state. An environment moves first: each of its states plays a set of inputs, and for each set of outputs that comes
 -- back it goes to a next state. (So it is a Moore machine, and a machine is a Mealy machine.) The states are numbered
--- from 0, where both begin. The words of either are those of the valuations along lassos of its states from state 0: of
--- a machine for each endless way of inputs, of an environment for each endless way of outputs.
+-- from 0, where both begin. The words of either are those of the valuations along lassos of its states from state 0: ultimately
+-- periodic words, of a machine one or more for each such way of inputs, of an environment for each such way of outputs.
 --
 --   valuation i ins outs      == the valuation of these inputs, of which there are i, and outputs
 --   MachineTable              == for each state the steps, one for each set of inputs

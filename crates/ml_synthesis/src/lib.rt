@@ -1,7 +1,7 @@
 // Machines and environments from deterministic parity automata.
 //
-// An automaton over valuations of inputs and outputs tells which endless words are bad. `synthesise` gives a machine
-// none of whose words is bad, or an environment all of whose words are, whatever a machine answers.
+// An automaton over valuations of inputs and outputs tells which words are bad, ultimately periodic ones. `synthesise` gives
+// a machine none of whose words is bad, or an environment all of whose words are, whatever a machine answers.
 // `specs/Machines.antt` says what these are and which words they make, `specs/Synthesis.antt` what is made. There is
 // always one of the two, and never both: `laws::some_outcome`.
 //

@@ -1,4 +1,4 @@
--- Grammars of the kind that the four logics have, over any signs and any trees, and what their texts stand for.
+-- Grammars of the kind that the logics have, over any signs and any trees, and what their texts stand for.
 --
 -- A grammar has operands, and operators between them. Operators have levels, their precedence: a greater level binds
 -- tighter. All operators of one level group to the same side, their associativity. An operand is written in one of several forms; a form is read from
