@@ -19,8 +19,7 @@ pub enum Operator {
 impl Operator {
     /// As how many occurrences the connective counts.
     pub fn weight(self) -> u32
-        ensures value { result ≡ weight self }
-        ensures small { result ≤ 3 }
+        ensures { result ≡ weight self }
     {
         match self {
             Operator::Iff => 3,
