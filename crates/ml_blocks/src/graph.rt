@@ -18,7 +18,7 @@ use crate::numbering::numbered;
 use crate::spots::Beginning;
 use crate::table::Table;
 use ml_ctl::Term;
-use ml_graph::{BlockRefusal, ModalGraph};
+use ml_graph::{ClosureRefusal, ModalGraph};
 use ml_nodes::Lists;
 use std::alloc::Global;
 
@@ -30,12 +30,12 @@ fn made(
     positive: bool,
     beginning: Beginning,
     max: u32,
-) -> Result<ModalGraph, BlockRefusal>
+) -> Result<ModalGraph, ClosureRefusal>
     requires few { occurrences (formula_of term.now) ≤ 1000 }
     ensures graph { IfOk result (λ g. IsGraphFrom forms g
         (begin_place beginning (start_place first (formula_of term.now) positive))) }
     ensures fits { IfOk result (λ g. size g ≤ max) }
-    ensures too_large { IsErrOf result BlockRefusal.ClosureTooLarge
+    ensures too_large { IsErrOf result ClosureRefusal.ClosureTooLarge
         → HasMoreThan (begin_place beginning (start_place first (formula_of term.now) positive)) max }
 {
     let names = names_of(alloc, term)?;
@@ -59,11 +59,11 @@ pub fn graph_of(
     formula: &ml_ctl::Formula,
     negated: bool,
     max: u32,
-) -> Result<ModalGraph, BlockRefusal>
+) -> Result<ModalGraph, ClosureRefusal>
     ensures graph { IfOk result (λ g. IsGraphAt g (start_of formula.now negated)) }
     ensures agrees { IfOk result (λ g. HoldsWhere g (λ m s. HoldsAt m s formula.now negated)) }
     ensures fits { IfOk result (λ g. size g ≤ max) }
-    ensures too_large { IsErrOf result BlockRefusal.ClosureTooLarge → HasMoreThan (Root (start_of formula.now negated)) max }
+    ensures too_large { IsErrOf result ClosureRefusal.ClosureTooLarge → HasMoreThan (Root (start_of formula.now negated)) max }
 {
     made(alloc, formula.root(), None, !negated, Beginning::Root, max)
 }
@@ -82,11 +82,11 @@ pub fn ltl_graph_of(
     formula: &ml_ltl::Formula,
     negated: bool,
     max: u32,
-) -> Result<ModalGraph, BlockRefusal>
+) -> Result<ModalGraph, ClosureRefusal>
     ensures graph { IfOk result (λ g. IsGraphAt g (linear_start_of formula.now negated)) }
     ensures agrees { IfOk result (λ g. HoldsWhere g (λ m s. ltl.HoldsAt m s formula.now negated)) }
     ensures fits { IfOk result (λ g. size g ≤ max) }
-    ensures too_large { IsErrOf result BlockRefusal.ClosureTooLarge → HasMoreThan (Root (linear_start_of formula.now negated)) max }
+    ensures too_large { IsErrOf result ClosureRefusal.ClosureTooLarge → HasMoreThan (Root (linear_start_of formula.now negated)) max }
 {
     made(
         alloc,
@@ -110,10 +110,10 @@ pub fn ltl_block_graph_of(
     formula: &ml_ltl::Formula,
     negated: bool,
     max: u32,
-) -> Result<ModalGraph, BlockRefusal>
+) -> Result<ModalGraph, ClosureRefusal>
     ensures graph { IfOk result (λ g. IsBlockGraph g formula.now negated) }
     ensures fits { IfOk result (λ g. size g ≤ max) }
-    ensures too_large { IsErrOf result BlockRefusal.ClosureTooLarge → HasMoreThan (linear_start_of formula.now negated) max }
+    ensures too_large { IsErrOf result ClosureRefusal.ClosureTooLarge → HasMoreThan (linear_start_of formula.now negated) max }
 {
     made(
         alloc,
