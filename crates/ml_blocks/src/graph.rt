@@ -13,13 +13,12 @@ ghost use Rattle.ml_blocks.specs.Closures.{HasMoreThan};
 ghost use Rattle.ml_blocks.specs.Places.{Root, forms};
 ghost use Rattle.ml_blocks.specs.private.Views.{begin_place, start_place};
 
-use crate::names::names_of;
 use crate::numbering::numbered;
 use crate::spots::Beginning;
 use crate::table::Table;
 use ml_ctl::Term;
 use ml_graph::{ClosureRefusal, ModalGraph};
-use ml_nodes::Lists;
+use ml_nodes::{Lists, Names};
 use std::alloc::Global;
 
 // the graph of a problem that starts with a block of this sign, or else with a state
@@ -38,7 +37,7 @@ fn made(
     ensures too_large { IsErrOf result ClosureRefusal.ClosureTooLarge
         → HasMoreThan (begin_place beginning (start_place first (formula_of term.now) positive)) max }
 {
-    let names = names_of(alloc, term)?;
+    let names = Names::of_paths(alloc, term)?;
     let table = Table::of(alloc, &names, first, term)?;
     let draft = numbered(alloc, &table, first, positive, beginning, max)?;
     let lists = Lists::of(alloc, draft, names)?;
