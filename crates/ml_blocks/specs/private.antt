@@ -4,8 +4,6 @@
 pub mod Asked
 -- when lists of them are equal
 pub mod ItemEquality
--- the names of propositions
-pub mod Names
 -- what is kept of each occurrence
 pub mod Occurrences
 -- what nodes are, by numbers

@@ -13,13 +13,12 @@ ghost use Rattle.ml_blocks.specs.Closures.{HasMoreThan};
 ghost use Rattle.ml_blocks.specs.Places.{Root, forms};
 ghost use Rattle.ml_blocks.specs.private.Views.{begin_place, start_place};
 
-use crate::names::names_of;
 use crate::numbering::numbered;
 use crate::spots::Beginning;
 use crate::table::Table;
 use ml_ctl::Term;
-use ml_graph::{BlockRefusal, ModalGraph};
-use ml_nodes::Lists;
+use ml_graph::{ClosureRefusal, ModalGraph};
+use ml_nodes::{Lists, Names};
 use std::alloc::Global;
 
 // the graph of a problem that starts with a block of this sign, or else with a state
@@ -30,15 +29,15 @@ fn made(
     positive: bool,
     beginning: Beginning,
     max: u32,
-) -> Result<ModalGraph, BlockRefusal>
+) -> Result<ModalGraph, ClosureRefusal>
     requires few { occurrences (formula_of term.now) ≤ 1000 }
     ensures graph { IfOk result (λ g. IsGraphFrom forms g
         (begin_place beginning (start_place first (formula_of term.now) positive))) }
     ensures fits { IfOk result (λ g. size g ≤ max) }
-    ensures too_large { IsErrOf result BlockRefusal.ClosureTooLarge
+    ensures too_large { IsErrOf result ClosureRefusal.ClosureTooLarge
         → HasMoreThan (begin_place beginning (start_place first (formula_of term.now) positive)) max }
 {
-    let names = names_of(alloc, term)?;
+    let names = Names::of_paths(alloc, term)?;
     let table = Table::of(alloc, &names, first, term)?;
     let draft = numbered(alloc, &table, first, positive, beginning, max)?;
     let lists = Lists::of(alloc, draft, names)?;
@@ -59,11 +58,11 @@ pub fn graph_of(
     formula: &ml_ctl::Formula,
     negated: bool,
     max: u32,
-) -> Result<ModalGraph, BlockRefusal>
+) -> Result<ModalGraph, ClosureRefusal>
     ensures graph { IfOk result (λ g. IsGraphAt g (start_of formula.now negated)) }
     ensures agrees { IfOk result (λ g. HoldsWhere g (λ m s. HoldsAt m s formula.now negated)) }
     ensures fits { IfOk result (λ g. size g ≤ max) }
-    ensures too_large { IsErrOf result BlockRefusal.ClosureTooLarge → HasMoreThan (Root (start_of formula.now negated)) max }
+    ensures too_large { IsErrOf result ClosureRefusal.ClosureTooLarge → HasMoreThan (Root (start_of formula.now negated)) max }
 {
     made(alloc, formula.root(), None, !negated, Beginning::Root, max)
 }
@@ -82,11 +81,11 @@ pub fn ltl_graph_of(
     formula: &ml_ltl::Formula,
     negated: bool,
     max: u32,
-) -> Result<ModalGraph, BlockRefusal>
+) -> Result<ModalGraph, ClosureRefusal>
     ensures graph { IfOk result (λ g. IsGraphAt g (linear_start_of formula.now negated)) }
     ensures agrees { IfOk result (λ g. HoldsWhere g (λ m s. ltl.HoldsAt m s formula.now negated)) }
     ensures fits { IfOk result (λ g. size g ≤ max) }
-    ensures too_large { IsErrOf result BlockRefusal.ClosureTooLarge → HasMoreThan (Root (linear_start_of formula.now negated)) max }
+    ensures too_large { IsErrOf result ClosureRefusal.ClosureTooLarge → HasMoreThan (Root (linear_start_of formula.now negated)) max }
 {
     made(
         alloc,
@@ -110,10 +109,10 @@ pub fn ltl_block_graph_of(
     formula: &ml_ltl::Formula,
     negated: bool,
     max: u32,
-) -> Result<ModalGraph, BlockRefusal>
+) -> Result<ModalGraph, ClosureRefusal>
     ensures graph { IfOk result (λ g. IsBlockGraph g formula.now negated) }
     ensures fits { IfOk result (λ g. size g ≤ max) }
-    ensures too_large { IsErrOf result BlockRefusal.ClosureTooLarge → HasMoreThan (linear_start_of formula.now negated) max }
+    ensures too_large { IsErrOf result ClosureRefusal.ClosureTooLarge → HasMoreThan (linear_start_of formula.now negated) max }
 {
     made(
         alloc,

@@ -9,7 +9,6 @@ mod graph;
 mod items;
 /// what is proved of rows and meanings
 pub mod laws;
-mod names;
 mod numbering;
 mod rows;
 mod spots;

@@ -7,7 +7,7 @@ ghost use Rattle.ml_nodes.specs.NumberedValues.{HasNoRoom, IsClosed, IsStep, IsT
 
 use crate::spots::{Beginning, Spot, begin_of, form_of};
 use crate::table::Table;
-use ml_graph::BlockRefusal;
+use ml_graph::ClosureRefusal;
 use ml_nodes::{Draft, Numbering};
 use std::alloc::Global;
 
@@ -19,7 +19,7 @@ fn step(
     positive: bool,
     max: u32,
     numbering: &mut Numbering<Spot>,
-) -> Result<(), BlockRefusal>
+) -> Result<(), ClosureRefusal>
     requires next { length numbering.old.draft.nodes.items < length numbering.old.values.keys }
     requires few { length numbering.old.values.keys ≤ max }
     ensures stepped { OnOk result (IsStep
@@ -29,7 +29,7 @@ fn step(
         numbering.old.draft.nodes.items numbering.new.draft.nodes.items
         numbering.old.draft.priorities.items numbering.new.draft.priorities.items) }
     ensures few { OnOk result (length numbering.new.values.keys ≤ max) }
-    ensures full { IsErrOf result BlockRefusal.ClosureTooLarge → HasNoRoom
+    ensures full { IsErrOf result ClosureRefusal.ClosureTooLarge → HasNoRoom
         (form_in table.now.occurrences.items (listed.lists_of table.now.eventualities.items) (forms.start_in first positive))
         max numbering.old.values.keys (length numbering.old.draft.nodes.items) }
 {
@@ -45,12 +45,12 @@ pub(crate) fn numbered(
     positive: bool,
     beginning: Beginning,
     max: u32,
-) -> Result<Draft, BlockRefusal>
+) -> Result<Draft, ClosureRefusal>
     ensures draft { IfOk result (λ d. IsClosed
         (form_in table.now.occurrences.items (listed.lists_of table.now.eventualities.items) (forms.start_in first positive))
         (priority_in table.now.occurrences.items (listed.lists_of table.now.eventualities.items))
         (forms.begin_in beginning first positive) max d.nodes.items d.priorities.items) }
-    ensures too_large { IsErrOf result BlockRefusal.ClosureTooLarge → IsTooLarge
+    ensures too_large { IsErrOf result ClosureRefusal.ClosureTooLarge → IsTooLarge
         (form_in table.now.occurrences.items (listed.lists_of table.now.eventualities.items) (forms.start_in first positive))
         (forms.begin_in beginning first positive) max }
 {

@@ -6,7 +6,7 @@ ghost use Rattle.ml_blocks.specs.private.Occurrences as listed;
 
 use ml_base::NoMemory;
 use ml_ctl::{Pairing, Quantifier, Tense, Term, count_term};
-use ml_nodes::{Names, weight};
+use ml_nodes::Names;
 use ml_text::Operator;
 use std::alloc::{AllocError, Global};
 
@@ -263,7 +263,7 @@ fn place(
             place(alloc, table, names, at + 1, None, operand)
         }
         Term::Binary(operator, left, right) => {
-            let l = at + weight(*operator);
+            let l = at + operator.weight();
             let operands = (l, l + count_term(left));
             put(table, Symbol::Binary(*operator), operands, keys)?;
             fill(alloc, table, names, *operator, at)?;

@@ -5,7 +5,7 @@ ghost use Rattle.ml_ctl.specs.Text.{weight_of};
 
 use crate::{Pairing, Quantifier, Tense};
 use ml_base::Name;
-use ml_text::{Bracket, Operator, OwnSign};
+use ml_text::{Bracket, OwnSign};
 
 /// A sign that CTL* and LTL add.
 #[derive(Clone, Copy, Drop)]
@@ -61,7 +61,7 @@ pub(crate) fn weight(kind: Kind) -> u32
     ensures small { result ≤ 3 }
 {
     match kind {
-        Kind::Connective(Operator::Iff) => 3,
+        Kind::Connective(operator) => operator.weight(),
         Kind::Open | Kind::Close | Kind::Unknown => 0,
         _ => 1,
     }

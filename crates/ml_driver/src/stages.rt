@@ -10,7 +10,7 @@ ghost use Rattle.ml_driver.specs.private.Stages.{IsStageOf, IsTranslated};
 
 use ml_base::NoMemory;
 use ml_front::{MOST_NODES, Problem, graph};
-use ml_graph::{BlockRefusal, ModalGraph};
+use ml_graph::{ClosureRefusal, ModalGraph};
 use ml_parity::{Player, Solution, solve};
 use ml_product::{Arena, ExploreRefusal, explore};
 use std::alloc::Global;
@@ -66,8 +66,8 @@ pub(crate) fn graph_of(alloc: Global, problem: &Problem) -> Result<Option<ModalG
 {
     match graph(alloc, problem, MOST_NODES) {
         Ok(graph) => Ok(Some(graph)),
-        Err(BlockRefusal::ClosureTooLarge) => Ok(None),
-        Err(BlockRefusal::NoMemory) => Err(NoMemory),
+        Err(ClosureRefusal::ClosureTooLarge) => Ok(None),
+        Err(ClosureRefusal::NoMemory) => Err(NoMemory),
     }
 }
 

@@ -6,7 +6,7 @@ ghost use Rattle.ml_front.specs.Laws.{HoldsWhere};
 
 use crate::logic::Logic;
 use ml_base::{NoMemory, ParseRefusal};
-use ml_graph::{BlockRefusal, ModalGraph};
+use ml_graph::{ClosureRefusal, ModalGraph};
 use std::alloc::Global;
 
 /// A formula of any logic.
@@ -135,11 +135,11 @@ pub const MOST_NODES: u32 = 4_096;
 /// Cost: that of the logic's translation (`ml_mu_graph::graph_of`, `ml_pdl_graph::graph_of`, `ml_blocks::graph_of`,
 /// `ml_blocks::ltl_graph_of`, `ml_word_graph::graph_of`).
 #[tactic(auto, using(crate::proofs::Closures::fits))]
-pub fn graph(alloc: Global, problem: &Problem, max: u32) -> Result<ModalGraph, BlockRefusal>
+pub fn graph(alloc: Global, problem: &Problem, max: u32) -> Result<ModalGraph, ClosureRefusal>
     ensures graph { IfOk result (λ g. IsGraphOf g problem.now) }
     ensures agrees { IfOk result (λ g. HoldsWhere g problem.now) }
     ensures fits { IfOk result (λ g. ¬ (HasLargeClosure problem.now max)) }
-    ensures too_large { IsErrOf result BlockRefusal.ClosureTooLarge → HasLargeClosure problem.now max }
+    ensures too_large { IsErrOf result ClosureRefusal.ClosureTooLarge → HasLargeClosure problem.now max }
 {
     match &problem.formula {
         AnyFormula::Mu(formula) => Ok(ml_mu_graph::graph_of(alloc, formula, problem.negated)?),

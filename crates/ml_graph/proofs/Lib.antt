@@ -18,3 +18,5 @@ pub mod Making
 pub mod CheckingGame
 -- one step of the checking game
 pub mod OneStep
+-- who wins a checking game, and where the graph holds
+pub mod Winners

@@ -6,7 +6,7 @@
 //
 // The calls to know:
 // - `ModalGraph::build` makes a graph of its lists, and refuses lists that are none.
-// - `checking_game` makes the checking game of a graph and a structure; `ml_parity::solve` settles it.
+// - `checking_game` makes the checking game of a graph and a structure, and `holds_at` settles it by `ml_parity::solve`.
 // - `ModalGraph::odd_priorities` gives the odd priorities, of which the trace automaton is made.
 //
 // Below stand `ml_base` and `ml_kripke`, for structures, and `ml_parity`, for games. Above stand the translations of
@@ -15,12 +15,14 @@
 
 mod at_state;
 mod checking;
+mod holding;
 pub mod laws;
 mod modal_graph;
 mod node;
 mod refusals;
 
 pub use checking::checking_game;
+pub use holding::holds_at;
 pub use modal_graph::ModalGraph;
 pub use node::Node;
-pub use refusals::{BlockRefusal, GraphRefusal};
+pub use refusals::{ClosureRefusal, GraphRefusal};

@@ -18,7 +18,7 @@ pub enum GraphRefusal {
 
 /// Why a formula became no graph. Only formulas whose closures may be large are refused for them.
 #[derive(Clone, Copy, Debug, PartialEq, Eq, Error)]
-pub enum BlockRefusal {
+pub enum ClosureRefusal {
     /// The closure has more nodes than were allowed.
     #[error("the closure is too large")]
     ClosureTooLarge,
@@ -27,12 +27,12 @@ pub enum BlockRefusal {
     NoMemory,
 }
 
-impl From<NoMemory> for BlockRefusal {
-    ghost use Rattle.ml_graph.specs.declared.refusals.BlockRefusal.TheVariants as refusal;
+impl From<NoMemory> for ClosureRefusal {
+    ghost use Rattle.ml_graph.specs.declared.refusals.ClosureRefusal.TheVariants as refusal;
 
     ghost from_gives = { λ _ e. e ≡ refusal.NoMemory };
 
-    fn from(_: NoMemory) -> BlockRefusal {
-        BlockRefusal::NoMemory
+    fn from(_: NoMemory) -> ClosureRefusal {
+        ClosureRefusal::NoMemory
     }
 }

@@ -25,7 +25,8 @@ use Rattle.ml_kripke.specs.ModelText.{state_lines, edge_line}
 use Rattle.ml_kripke.specs.BodyLines.{states_line, start_line, end_line}
 use Rattle.ml_kripke.specs.private.Refusals.{TellsRule, TellsFault, at_line}
 use Rattle.ml_kripke.specs.declared.body_rule.BodyRule.TheVariants.{OfKind}
-use Rattle.ml_kripke.specs.declared.read_line.LineRefusal.{LineRefusal}
+use Rattle.ml_kripke.specs.declared.body_rule.BodyRule.{BodyRule}
+use Rattle.ml_lines.specs.declared.refusal.LineRefusal.{LineRefusal}
 use Rattle.ml_base.specs.declared.doc_refusal.DocRefusal.{DocRefusal}
 use Rattle.ml_base.specs.declared.doc_refusal.DocRefusal.TheVariants.{Fault}
 use Rattle.ml_kripke.proofs.BrokenRules.{missing_state, missing_edge}
@@ -63,7 +64,7 @@ module _ (n k : ℕ) (told : DocRefusal) (fits : n < 2 ^ 32) where
         from_rows i at text rest rows so_far.goes so_far.are at_is (omega arith)
         (subst (λ p. TellsFault p at rest told) (sym (at_state_below n i below)) tells)
 
-    pub state_refused : (words : Line) (lines : List Line) (refusal : LineRefusal) → lines_of rest ≡ words ∷ lines
+    pub state_refused : (words : Line) (lines : List Line) (refusal : LineRefusal BodyRule) → lines_of rest ≡ words ∷ lines
         → TellsRule (AtState n i) words refusal → told ≡ at_line at refusal → TellsFault (at_state n 0) k text told
     state_refused words lines refusal begins rule is =
         from_state (subst (TellsFault (AtState n i) at rest) (sym is) (tells_line (AtState n i) at rest words lines refusal begins rule))
@@ -80,7 +81,7 @@ module _ (n k : ℕ) (told : DocRefusal) (fits : n < 2 ^ 32) where
         tells_behind (AtEdge n None) k text (map edge_line edges) rest at (AtEdge n (last_of None edges)) told so_far.goes
         (edges_read (left_of text) n fits (lines_of rest) edges None k at at_is so_far.are)
 
-    pub edge_refused : (words : Line) (lines : List Line) (refusal : LineRefusal) → lines_of rest ≡ words ∷ lines
+    pub edge_refused : (words : Line) (lines : List Line) (refusal : LineRefusal BodyRule) → lines_of rest ≡ words ∷ lines
         → TellsRule (AtEdge n (last_of None edges)) words refusal → told ≡ at_line at refusal → TellsFault (AtEdge n None) k text told
     edge_refused words lines refusal begins rule is =
         from_edges (subst (TellsFault (AtEdge n (last_of None edges)) at rest) (sym is)

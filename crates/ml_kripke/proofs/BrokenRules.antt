@@ -14,11 +14,11 @@ use Rattle.std.proofs.lemmas.List.Splits.{join_with_byte-slice_split}
 use Rattle.ml_base.specs.declared.structure.Edge.{Edge}
 use Rattle.ml_base.specs.Name.{IsName}
 use Rattle.ml_lines.specs.Lines.{Word, Line, number}
-use Rattle.ml_lines.specs.Reading.{AreWords, IsNumber, is_blank, words_of, value, word}
+use Rattle.ml_lines.specs.Reading.{AreWords, IsNumber, IsWordBehind, is_blank, words_of, value, word}
 use Rattle.ml_lines.proofs.Cuts.{some_part}
 use Rattle.ml_lines.proofs.Numbers.{value-number}
 use Rattle.ml_lists.specs.Documents.{IsFirstBroken}
-use Rattle.ml_kripke.specs.BodyRules.{Place, AtStates, AtStart, AtState, AtEdge, rules, IsNumbered, IsStated, IsEdged, HasNumbers, IsEdgeBehind}
+use Rattle.ml_kripke.specs.BodyRules.{Place, AtStates, AtStart, AtState, AtEdge, rules, IsStated, IsEdged, HasNumbers, IsEdgeBehind}
 use Rattle.ml_kripke.specs.RuleNumbers.{rule_number}
 use Rattle.ml_kripke.specs.private.BodyParts.{IsEdgeLine, Ascend}
 use Rattle.ml_kripke.specs.private.Refusals.{IsLowest}
@@ -33,7 +33,7 @@ module _ (left : List ℕ) where
 
   -- ---- lines that are missing
 
-  missing : (fixed : Word) → ¬ (IsNumbered fixed [])
+  missing : (fixed : Word) → ¬ (IsWordBehind fixed [])
   missing fixed (words, is) = let apart : [] ≡ fixed ∷ word [] 1 ∷ [] = is in cc
 
   pub missing_states : Breaks AtStates OfKind []

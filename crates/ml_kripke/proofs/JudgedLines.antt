@@ -8,20 +8,20 @@ use Rattle.std.specs.declared.cmp.Ordering.TheVariants.{Less}
 use Rattle.ml_base.specs.declared.structure.Edge.{Edge}
 use Rattle.ml_base.specs.Name.{IsName, is_name, is_action}
 use Rattle.ml_lines.specs.Lines.{Word, Line}
-use Rattle.ml_lines.specs.Reading.{value, word}
+use Rattle.ml_lines.specs.Reading.{IsWordBehind, value, word}
 use Rattle.ml_lines.proofs.DecidedWords.{decided_line, decided_words, decided_number}
 use Rattle.ml_lists.specs.Readings.{Judges}
 use Rattle.ml_lists.proofs.Decided as is
 use Rattle.ml_lists.proofs.Decided.{Decided}
 use Rattle.ml_lists.proofs.Documents.{judged}
-use Rattle.ml_kripke.specs.BodyRules.{AtStates, AtStart, AtState, AtEdge, AtNothing, body, rules, IsNumbered, IsStated, IsEdged, HasNumber, HasNumbers, HasLabels, IsEdgeBehind, IsEndOr, edge_of}
+use Rattle.ml_kripke.specs.BodyRules.{AtStates, AtStart, AtState, AtEdge, AtNothing, body, rules, IsStated, IsEdged, HasNumber, HasNumbers, HasLabels, IsEdgeBehind, IsEndOr, edge_of}
 use Rattle.ml_kripke.specs.BodyLines.{end_line}
 use Rattle.ml_base.specs.EdgeOrder.{edge_cmp}
 
 has_number : (line : Line) → Decided (HasNumber line)
 has_number line = decided_number (word line 1)
 
-is_numbered : (fixed : Word) (line : Line) → Decided (IsNumbered fixed line)
+is_numbered : (fixed : Word) (line : Line) → Decided (IsWordBehind fixed line)
 is_numbered fixed line = is.decided_both (decided_words line) (decided_line line (fixed ∷ word line 1 ∷ []))
 
 is_stated : (line : Line) → Decided (IsStated line)

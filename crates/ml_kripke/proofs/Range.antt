@@ -3,7 +3,7 @@
 --   first_bad_parts   == the first state out of range is a label's, or else an edge's
 --   labels_in_range   == where no state is out of range, the labels' are in range
 --   edges_in_range    == where no state is out of range, both ends of each edge are in range
-use Rattle.std.proofs.Common.{◌≡◌, ℕ, ◌<◌, Bool, true, false, cond, nat_le, List, [], ◌∷◌, Option, Some, None, map, find, All, refl, sym, ◌∙◌}
+use Rattle.std.proofs.Common.{◌≡◌, ℕ, ◌<◌, cond, nat_le, List, [], ◌∷◌, Option, Some, None, map, find, All, refl, sym, ◌∙◌}
 use Rattle.std.specs.List.{flat_map}
 use Rattle.std.specs.Option.{option_or}
 use Rattle.std.proofs.lemmas.List.Folds.{find-append}

@@ -12,8 +12,8 @@ use Rattle.ml_lists.specs.Readings.{IsReadTo}
 use Rattle.ml_kripke.specs.BodyRules.{Place, body, rules}
 use Rattle.ml_kripke.specs.RuleNumbers.{rule_number}
 use Rattle.ml_kripke.specs.private.Refusals.{Breaks, TellsRule, TellsFault, at_line}
-use Rattle.ml_kripke.specs.declared.read_line.LineRefusal.{LineRefusal}
-use Rattle.ml_kripke.specs.declared.read_line.LineRefusal.TheVariants as LineRefusals
+use Rattle.ml_lines.specs.declared.refusal.LineRefusal.{LineRefusal}
+use Rattle.ml_lines.specs.declared.refusal.LineRefusal.TheVariants as LineRefusals
 use Rattle.ml_base.specs.declared.doc_refusal.DocRefusal.{DocRefusal}
 use Rattle.ml_base.specs.declared.doc_refusal.DocRefusal.TheVariants.{Fault, NoMemory}
 use Rattle.ml_kripke.specs.declared.body_rule.BodyRule.{BodyRule}
@@ -33,7 +33,7 @@ module _ (place : Place) (k : ℕ) (text : List ℕ) where
         subst (TellsFault place k text) (sym is)
         (fault_here body k place text (rule_number rule) line lines begins (broken (left_of text)))
 
-  pub tells_line : (line : Line) (lines : List Line) (refusal : LineRefusal) → lines_of text ≡ line ∷ lines
+  pub tells_line : (line : Line) (lines : List Line) (refusal : LineRefusal BodyRule) → lines_of text ≡ line ∷ lines
       → TellsRule place line refusal → TellsFault place k text (at_line k refusal)
   tells_line line lines (LineRefusals.Breaks rule) begins broken =
       tells_here (Fault (record { line = k; rule = rule_number rule })) rule refl line lines begins broken

@@ -23,8 +23,8 @@ use Rattle.ml_base.specs.declared.doc_fault.DocFault.{DocFault}
 use Rattle.ml_base.specs.declared.structure.Edge.{Edge}
 use Rattle.ml_base.specs.Name.{IsName, IsAction}
 use Rattle.ml_lines.specs.Faults.{IsFault}
-use Rattle.ml_lines.specs.Lines.{Word, Line}
-use Rattle.ml_lines.specs.Reading.{AreWords, IsNumber, value, word, lines_of, left_of}
+use Rattle.ml_lines.specs.Lines.{Line}
+use Rattle.ml_lines.specs.Reading.{AreWords, IsNumber, IsWordBehind, value, word, lines_of, left_of}
 use Rattle.ml_lists.specs.Documents.{Format, Rule, rule}
 use Rattle.ml_lists.specs.Readings.{IsReadable}
 use Rattle.ml_base.specs.EdgeOrder.{edge_cmp}
@@ -53,12 +53,8 @@ after AtNothing line = AtNothing
 
 -- ---- the rules
 
--- the line is there, its words are separated by one blank, and the fixed words and the number of words are right:
--- a fixed word and one more
-abbrev pub IsNumbered : Word → Line → Type 0
-IsNumbered fixed line = AreWords line × (line ≡ fixed ∷ word line 1 ∷ [])
-
--- `state`, one word, and any number of further ones
+-- Of each kind: the line is there, its words are separated by one blank, and the fixed words and the number of words are
+-- right. `states` and `start` stand with one word behind them; `state`, one word, and any number of further ones
 abbrev pub IsStated : Line → Type 0
 IsStated line = AreWords line × (line ≡ codes "state" ∷ word line 1 ∷ drop 2 line)
 
@@ -87,9 +83,9 @@ IsEndOr keeps line = (line ≡ codes "end" ∷ []) ⊎ keeps line
 
 abbrev pub rules : List ℕ → Place → List (Rule Line)
 rules left AtStates =
-    rule 11 (IsNumbered (codes "states")) ∷ rule 12 HasNumber ∷ rule 13 (λ line. 0 < value (word line 1)) ∷ []
+    rule 11 (IsWordBehind (codes "states")) ∷ rule 12 HasNumber ∷ rule 13 (λ line. 0 < value (word line 1)) ∷ []
 rules left (AtStart n) =
-    rule 11 (IsNumbered (codes "start")) ∷ rule 12 HasNumber ∷ rule 14 (λ line. value (word line 1) < n) ∷ []
+    rule 11 (IsWordBehind (codes "start")) ∷ rule 12 HasNumber ∷ rule 14 (λ line. value (word line 1) < n) ∷ []
 rules left (AtState n i) =
     rule 11 IsStated ∷ rule 12 HasNumber ∷ rule 15 (λ line. value (word line 1) ≡ i) ∷ rule 16 HasLabels ∷ []
 rules left (AtEdge n before) =

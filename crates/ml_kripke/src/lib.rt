@@ -18,6 +18,7 @@ mod read_line;
 mod structure;
 mod write;
 
+pub use ascending::ascend;
 pub use body_rule::BodyRule;
 pub use model::Model;
 pub use read::read_model;

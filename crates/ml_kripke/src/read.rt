@@ -14,10 +14,10 @@ ghost use Rattle.ml_kripke.specs.private.Refusals.{TellsFault};
 
 use crate::body_rule::BodyRule;
 use crate::model::Model;
-use crate::read_line::{LineRefusal, edge_of, labels_of, start_of, states_of};
+use crate::read_line::{edge_of, labels_of, start_of, states_of};
 use crate::structure::Structure;
 use ml_base::{DocFault, DocRefusal, Edge, Name};
-use ml_lines::split_line;
+use ml_lines::{LineRefusal, split_line};
 use std::alloc::Global;
 
 /// The model whose text this is: the body of a satisfiable document, whose first line has this number.
@@ -155,7 +155,7 @@ fn ended(edges: Vec<Edge>, rest: &[u8], line: u64) -> Result<Vec<Edge>, DocRefus
     }
 }
 
-fn at_line(line: u64, refusal: LineRefusal) -> DocRefusal
+fn at_line(line: u64, refusal: LineRefusal<BodyRule>) -> DocRefusal
     ensures { result ≡ refusals.at_line line refusal }
 {
     match refusal {

@@ -1,5 +1,5 @@
 // Reading one line of the body of a satisfiable document.
-ghost use Rattle.std.specs.Prelude.{◌≡◌, ◌≢◌, ◌↔◌, ◌<◌, ◌^◌, [], ◌∷◌, ℕ, None, IfOk, IfErr, IsErrOf, IsTrue, MatchOption, All, codes, false};
+ghost use Rattle.std.specs.Prelude.{◌≡◌, ◌≢◌, ◌↔◌, ◌<◌, ◌^◌, ℕ, None, IfOk, IfErr, IsErrOf, IsTrue, MatchOption, All, codes, false};
 ghost use Rattle.std.specs.Ordering.{nat_cmp};
 ghost use Rattle.std.specs.Cmp.Lexicographic.{slice_cmp};
 ghost use Rattle.std.specs.Option.{option_copied};
@@ -8,7 +8,7 @@ ghost use Rattle.ml_base.specs.declared.structure.Edge.{Edge};
 ghost use Rattle.ml_lines.specs.Lines.{Line};
 ghost use Rattle.ml_lines.specs.Reading.{words_of, words_behind, AreWords};
 ghost use Rattle.ml_kripke.specs.ModelText.{state_line, edge_line};
-ghost use Rattle.ml_kripke.specs.BodyRules.{IsNumbered, IsStated, IsEdged, IsEdgeBehind, AtStates, AtStart, AtState, AtEdge};
+ghost use Rattle.ml_kripke.specs.BodyRules.{IsStated, IsEdged, IsEdgeBehind, AtStates, AtStart, AtState, AtEdge};
 ghost use Rattle.ml_lists.specs.Last.{last_of};
 ghost use Rattle.ml_lists.specs.Chains.{Above};
 ghost use Rattle.ml_kripke.specs.private.BodyParts.{IsStatesLine, IsStartLine, IsStateLine, EdgeOrEnd, Ascend};
@@ -19,17 +19,44 @@ ghost use Rattle.ml_kripke.specs.private.Refusals.{Breaks, TellsRule, IsLowest};
 use crate::body_rule::BodyRule;
 use ml_base::{Action, Edge, Name, NameRefusal};
 use ml_lines::{
-    are_words, four_words, more_number, more_words, one_number, read_number, split_word, two_words,
+    LineRefusal, are_words, four_words, more_number, more_words, one_number, read_number,
+    split_word, word_behind,
 };
-use std::alloc::Global;
+use std::alloc::{AllocError, Global};
 use std::cmp::Ordering;
 
-/// Why a line was refused.
-#[derive(Clone, Copy, Debug, PartialEq, Eq)]
-pub(crate) enum LineRefusal {
-    /// The lowest rule that it breaks.
-    Breaks(BodyRule),
+// Why words were refused that stand where labels or an edge stand.
+#[derive(Clone, Copy)]
+enum PartRefusal {
+    /// They are none, or aren't in their order.
+    OutOfPlace,
     NoMemory,
+}
+
+impl From<NameRefusal> for PartRefusal {
+    ghost use Rattle.std.specs.Prelude.{◌≡◌};
+    ghost use Rattle.ml_base.specs.declared.name.NameRefusal.TheVariants as name;
+    ghost use Rattle.ml_kripke.specs.declared.read_line.PartRefusal.TheVariants as part;
+
+    ghost from_gives = { λ given told. told ≡ part.OutOfPlace → given ≡ name.NotAName };
+
+    fn from(refusal: NameRefusal) -> PartRefusal {
+        match refusal {
+            NameRefusal::NotAName => PartRefusal::OutOfPlace,
+            NameRefusal::NoMemory => PartRefusal::NoMemory,
+        }
+    }
+}
+
+impl From<AllocError> for PartRefusal {
+    ghost use Rattle.std.specs.Prelude.{◌≡◌};
+    ghost use Rattle.ml_kripke.specs.declared.read_line.PartRefusal.TheVariants as part;
+
+    ghost from_gives = { λ _ e. e ≡ part.NoMemory };
+
+    fn from(_: AllocError) -> PartRefusal {
+        PartRefusal::NoMemory
+    }
 }
 
 // the number of states that a line `states n` tells
@@ -37,7 +64,7 @@ pub(crate) fn states_of(line: &[u8]) -> Result<u32, BodyRule>
     ensures read { IfOk result (IsStatesLine (words_of line.now)) }
     ensures refused { IfErr result (Breaks AtStates (words_of line.now)) }
 {
-    match numbered(line, b"states") {
+    match word_behind(line, b"states") {
         Some(word) => match read_number(word) {
             Some(states) => {
                 if states == 0 {
@@ -57,7 +84,7 @@ pub(crate) fn start_of(line: &[u8], states: u32) -> Result<u32, BodyRule>
     ensures read { IfOk result (IsStartLine (words_of line.now) states) }
     ensures refused { IfErr result (Breaks (AtStart states) (words_of line.now)) }
 {
-    match numbered(line, b"start") {
+    match word_behind(line, b"start") {
         Some(word) => match read_number(word) {
             Some(start) => {
                 if start < states {
@@ -72,25 +99,12 @@ pub(crate) fn start_of(line: &[u8], states: u32) -> Result<u32, BodyRule>
     }
 }
 
-// the word behind a fixed one, where the line is these two
-fn numbered<'a>(line: &'a [u8], fixed: &[u8]) -> Option<&'a [u8]>
-    ensures { MatchOption result (¬ (IsNumbered fixed.now (words_of line.now)))
-        (λ word. AreWords (words_of line.now) × (words_of line.now ≡ fixed.now ∷ word.now ∷ [])) }
-{
-    match two_words(line) {
-        Some((first, second)) => {
-            if first == fixed && are_words(line) {
-                Some(second)
-            } else {
-                None
-            }
-        }
-        None => None,
-    }
-}
-
 // the labels that the line of a state tells
-pub(crate) fn labels_of(alloc: Global, line: &[u8], state: u32) -> Result<Vec<Name>, LineRefusal>
+pub(crate) fn labels_of(
+    alloc: Global,
+    line: &[u8],
+    state: u32,
+) -> Result<Vec<Name>, LineRefusal<BodyRule>>
     ensures read { IfOk result (λ labels. IsStateLine (words_of line.now) state labels.items) }
     ensures refused { IfErr result (λ e. (states : ℕ) → TellsRule (AtState states state) (words_of line.now) e) }
 {
@@ -101,10 +115,10 @@ pub(crate) fn labels_of(alloc: Global, line: &[u8], state: u32) -> Result<Vec<Na
             }
             match read_labels(alloc, behind) {
                 Ok(labels) => Ok(labels),
-                Err(NameRefusal::NotAName) => {
+                Err(PartRefusal::OutOfPlace) => {
                     Err(LineRefusal::Breaks(state_rule(line, BodyRule::Labels)))
                 }
-                Err(NameRefusal::NoMemory) => Err(LineRefusal::NoMemory),
+                Err(PartRefusal::NoMemory) => Err(LineRefusal::NoMemory),
             }
         }
         None => Err(LineRefusal::Breaks(state_rule(line, BodyRule::Numbers))),
@@ -141,10 +155,10 @@ fn is_stated(line: &[u8]) -> bool
     }
 }
 
-// the words as labels; refused as no names where they are none in ascending order
-fn read_labels(alloc: Global, behind: Option<&[u8]>) -> Result<Vec<Name>, NameRefusal>
+// the words as labels; out of place where they are none in ascending order
+fn read_labels(alloc: Global, behind: Option<&[u8]>) -> Result<Vec<Name>, PartRefusal>
     ensures read { IfOk result (λ labels. (labels.items ≡ words_behind (option_copied behind.entry)) × All IsName labels.items × Ascend labels.items) }
-    ensures refused { IsErrOf result NameRefusal.NotAName → ¬ (All IsName (words_behind (option_copied behind.entry)) × Ascend (words_behind (option_copied behind.entry))) }
+    ensures refused { IsErrOf result PartRefusal.OutOfPlace → ¬ (All IsName (words_behind (option_copied behind.entry)) × Ascend (words_behind (option_copied behind.entry))) }
 {
     let mut labels = Vec::with_capacity(alloc, count_words(behind))?;
     let mut left = behind;
@@ -152,11 +166,11 @@ fn read_labels(alloc: Global, behind: Option<&[u8]>) -> Result<Vec<Name>, NameRe
         let (word, rest) = split_word(text);
         let label = Name::new(alloc, word)?;
         if !is_above(&labels, &label) {
-            return Err(NameRefusal::NotAName);
+            return Err(PartRefusal::OutOfPlace);
         }
         match labels.push(label) {
             Ok(()) => left = rest,
-            Err(_) => return Err(NameRefusal::NoMemory),
+            Err(_) => return Err(PartRefusal::NoMemory),
         }
     }
     Ok(labels)
@@ -187,7 +201,7 @@ pub(crate) fn edge_of(
     line: &[u8],
     states: u32,
     before: Option<&Edge>,
-) -> Result<Option<Edge>, LineRefusal>
+) -> Result<Option<Edge>, LineRefusal<BodyRule>>
     ensures read { IfOk result (EdgeOrEnd (words_of line.now) states (option_copied before.entry)) }
     ensures refused { IfErr result (TellsRule (AtEdge states (option_copied before.entry)) (words_of line.now)) }
 {
@@ -198,10 +212,10 @@ pub(crate) fn edge_of(
         Some((source, action, target)) => {
             match edge_behind(alloc, states, before, source, action, target) {
                 Ok(edge) => Ok(Some(edge)),
-                Err(NameRefusal::NotAName) => {
+                Err(PartRefusal::OutOfPlace) => {
                     Err(LineRefusal::Breaks(edge_rule(line, BodyRule::Edges)))
                 }
-                Err(NameRefusal::NoMemory) => Err(LineRefusal::NoMemory),
+                Err(PartRefusal::NoMemory) => Err(LineRefusal::NoMemory),
             }
         }
         None => Err(LineRefusal::Breaks(edge_rule(line, BodyRule::Numbers))),
@@ -240,7 +254,7 @@ fn is_edged(line: &[u8]) -> bool
     }
 }
 
-// the edge behind another one; refused as no name where it isn't one
+// the edge behind another one; out of place where it isn't one
 fn edge_behind(
     alloc: Global,
     states: u32,
@@ -248,13 +262,13 @@ fn edge_behind(
     source: u32,
     action: &[u8],
     target: u32,
-) -> Result<Edge, NameRefusal>
+) -> Result<Edge, PartRefusal>
     ensures read { IfOk result (λ e. (e ≡ record { source = source; action = action.now; target = target }) × IsEdgeBehind states (option_copied before.entry) e) }
-    ensures refused { IsErrOf result NameRefusal.NotAName
+    ensures refused { IsErrOf result PartRefusal.OutOfPlace
         → ¬ (IsEdgeBehind states (option_copied before.entry) (record { source = source; action = action.now; target = target })) }
 {
     if source >= states || target >= states {
-        return Err(NameRefusal::NotAName);
+        return Err(PartRefusal::OutOfPlace);
     }
     let edge = Edge {
         source,
@@ -264,7 +278,7 @@ fn edge_behind(
     if is_behind(before, &edge) {
         Ok(edge)
     } else {
-        Err(NameRefusal::NotAName)
+        Err(PartRefusal::OutOfPlace)
     }
 }
 

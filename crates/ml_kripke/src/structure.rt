@@ -7,7 +7,7 @@ ghost use Rattle.ml_kripke.specs.Ordered.{IsOrdered};
 ghost use Rattle.ml_kripke.specs.Built.{of_parts, IsBuiltFrom, first_bad_state, ends, labels_at};
 ghost use Rattle.ml_kripke.specs.Total.{IsTotal, IsLeastDead};
 
-use crate::ascending::ascending;
+use crate::ascending::ascend;
 use ml_base::{Action, Edge, Name, NoMemory};
 use std::alloc::Global;
 use std::marker::Model;
@@ -69,8 +69,8 @@ impl Structure {
     pub fn build(
         alloc: Global,
         states: u32,
-        labels: Vec<(u32, Name)>,
-        edges: Vec<Edge>,
+        mut labels: Vec<(u32, Name)>,
+        mut edges: Vec<Edge>,
     ) -> Result<Structure, StructureRefusal>
         ensures built { IfOk result (IsBuiltFrom states labels.items edges.items) }
         ensures is_structure { IfOk result IsStructure }
@@ -85,10 +85,12 @@ impl Structure {
         if let Some(state) = first_out_of_range(states, &labels, &edges) {
             return Err(StructureRefusal::StateOutOfRange(state));
         }
+        ascend(&mut labels);
+        ascend(&mut edges);
         Ok(Structure {
             states,
-            labels: rows(alloc, states, ascending(labels))?,
-            edges: ascending(edges),
+            labels: rows(alloc, states, labels)?,
+            edges,
         })
     }
 
@@ -103,6 +105,15 @@ impl Structure {
             labels,
             edges,
         }
+    }
+
+    /// What each value of the type keeps, for a proof that needs it: nothing is computed.
+    #[inline(always)]
+    pub fn keeps(&self)
+        ensures is_structure { IsStructure self.now }
+        ensures is_ordered { IsOrdered self.now }
+    {
+        let _labels = &self.labels;
     }
 
     /// How many states there are. Whoever asks also learns what the type keeps.

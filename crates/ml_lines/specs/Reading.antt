@@ -14,6 +14,8 @@
 --   IsNumber w         == w spells a number from 0 to 4,294,967,295, in decimal and without leading zeros
 --   value w            == the number that the digits of w are
 --   word ws i          == the i-th word of a line, from 0 on
+--   IsWordBehind w ws  == a line is the word w and one more, and both have bytes
+--   IsTextBehind w ws  == a line is the word w, a blank, and anything
 use Rattle.std.specs.Prelude.{ℕ, ◌+◌, ◌-◌, ◌*◌, ◌^◌, ◌<◌, ◌≡◌, ◌==◌, Bool, true, false, List, [], ◌∷◌, Option, None, Some, map, slice_index_or, IsTrue}
 use Rattle.std.specs.List.{list_all, slice_split}
 use Rattle.ml_lines.specs.Lines.{Word, Line, number}
@@ -69,3 +71,9 @@ value w = value_on 0 w
 
 abbrev pub word : Line → ℕ → Word
 word words i = slice_index_or words i []
+
+abbrev pub IsWordBehind : Word → Line → Type 0
+IsWordBehind fixed words = AreWords words × (words ≡ fixed ∷ word words 1 ∷ [])
+
+abbrev pub IsTextBehind : Word → Line → Type 0
+IsTextBehind fixed words = (w : Word) × (ws : Line) × (words ≡ fixed ∷ w ∷ ws)

@@ -11,12 +11,14 @@
 #![tactic(auto)]
 
 mod read;
+mod refusal;
 mod write;
 
 pub use read::{
     are_words, four_words, more_number, more_words, one_number, one_word, read_number, split_line,
-    split_word, two_words,
+    split_word, text_behind, two_words, word_behind,
 };
+pub use refusal::LineRefusal;
 pub use write::{
     end_line, whole_or_none, write_next_number, write_next_word, write_number, write_word,
 };

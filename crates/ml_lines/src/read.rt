@@ -5,7 +5,7 @@ ghost use Rattle.std.specs.Str.{all_ascii_digits};
 ghost use Rattle.std.specs.Option.{option_copied};
 ghost use Rattle.ml_lines.specs.Lines.{Word, Line, number};
 ghost use Rattle.ml_lines.specs.Reading as reading;
-ghost use Rattle.ml_lines.specs.Reading.{words_of, words_behind, lines_of, left_of, IsNumber, value};
+ghost use Rattle.ml_lines.specs.Reading.{words_of, words_behind, lines_of, left_of, AreWords, IsNumber, IsTextBehind, IsWordBehind, value};
 
 use memchr::memchr;
 
@@ -74,6 +74,39 @@ pub fn four_words(line: &[u8]) -> Option<(&[u8], &[u8], &[u8], &[u8])>
     let (second, rest) = more_words(rest)?;
     let (third, fourth) = two_words(rest)?;
     Some((first, second, third, fourth))
+}
+
+/// The second word of a line of two words, of which the first is this one and both have at least one byte; `None` for any
+/// other line.
+///
+/// Cost: linear in the line.
+pub fn word_behind<'a>(line: &'a [u8], fixed: &[u8]) -> Option<&'a [u8]>
+    ensures { MatchOption result (¬ (IsWordBehind fixed.now (words_of line.now)))
+        (λ word. AreWords (words_of line.now) × (words_of line.now ≡ fixed.now ∷ word.now ∷ [])) }
+{
+    match two_words(line) {
+        Some((first, second)) => {
+            if first == fixed && are_words(line) {
+                Some(second)
+            } else {
+                None
+            }
+        }
+        None => None,
+    }
+}
+
+/// What stands behind the first word of a line and its blank, where that word is this one; `None` for any other line.
+///
+/// Cost: linear in the word.
+pub fn text_behind<'a>(line: &'a [u8], fixed: &[u8]) -> Option<&'a [u8]>
+    ensures { MatchOption result (¬ (IsTextBehind fixed.now (words_of line.now)))
+        (λ text. words_of line.now ≡ fixed.now ∷ words_of text.now) }
+{
+    match more_words(line) {
+        Some((first, rest)) => { if first == fixed { Some(rest) } else { None } }
+        None => None,
+    }
 }
 
 // A text is long: the LF is sought many bytes at once.

@@ -12,7 +12,7 @@ ghost use Rattle.ml_word_graph.specs.Problem as words;
 use crate::check_refusal::CheckRefusal;
 use ml_base::{Action, NoMemory};
 use ml_front::{AnyFormula, MOST_NODES, Problem, graph};
-use ml_graph::{BlockRefusal, ModalGraph, checking_game};
+use ml_graph::{ClosureRefusal, ModalGraph, checking_game};
 use ml_kripke::Structure;
 use ml_mu::{Formula, Term};
 use ml_parity::{Player, solve};
@@ -139,8 +139,8 @@ fn holds_by_game(
 {
     let graph = match graph(alloc, problem, MOST_NODES) {
         Ok(graph) => graph,
-        Err(BlockRefusal::ClosureTooLarge) => return Err(CheckRefusal::ClosureTooLarge),
-        Err(BlockRefusal::NoMemory) => return Err(CheckRefusal::NoMemory),
+        Err(ClosureRefusal::ClosureTooLarge) => return Err(CheckRefusal::ClosureTooLarge),
+        Err(ClosureRefusal::NoMemory) => return Err(CheckRefusal::NoMemory),
     };
     let holds = graph_holds(alloc, &graph, structure, state)?;
     Ok(holds)

@@ -5,7 +5,7 @@ ghost use Rattle.ml_mu.specs.Text.{is_variable_at, silences, weight_of};
 
 use crate::{Fixpoint, Modality};
 use ml_base::Name;
-use ml_text::{Bracket, Operator, OwnSign};
+use ml_text::{Bracket, OwnSign};
 
 /// A sign that the mu-calculus adds.
 #[derive(Clone, Copy, Drop)]
@@ -75,9 +75,8 @@ fn weight(kind: Kind) -> u32
     ensures small { result ≤ 3 }
 {
     match kind {
-        Kind::Connective(Operator::Iff) => 3,
+        Kind::Connective(operator) => operator.weight(),
         Kind::Not
-        | Kind::Connective(_)
         | Kind::Const(_)
         | Kind::Added(Own::Begins(_))
         | Kind::Added(Own::Binds(_))

@@ -1,6 +1,6 @@
 -- The induction on formulas, at binders.
 --
--- A binder is won at a least set (`ml_fixpoints`). For each set the graph with the binder cut open, in the structure that
+-- A binder is won at a least set (`LeastSets`). For each set the graph with the binder cut open, in the structure that
 -- tells it the set, is the game with the verdicts of that set; so what the set makes is what the body means with it. The
 -- binder's meaning is the least or the greatest fixpoint of that, by the laws of fixpoints.
 --
@@ -31,7 +31,7 @@ use Rattle.ml_graph.specs.declared.node.Node.{Node}
 use Rattle.ml_graph.specs.declared.node.Node.TheVariants as node
 use Rattle.ml_graph.proofs.CheckingGame.{IsVertex, vertices-length, owner_is, priority_is, moves_are, is_game}
 use Rattle.ml_graph.proofs.OneStep.{vertex_low}
-use Rattle.ml_fixpoints.specs.Binders.{IsSinkOf, Binder, HasVerdicts, IsLeast}
+use Rattle.ml_mu_graph.specs.Binders.{IsSinkOf, Binder, HasVerdicts, IsLeast}
 use Rattle.ml_mu.specs.Formula as formula
 use Rattle.ml_mu.specs.Formula.{Formula}
 use Rattle.ml_mu.specs.declared.term.Fixpoint.{Fixpoint}
@@ -46,7 +46,7 @@ use Rattle.ml_lists.proofs.Says.{Says}
 use Rattle.ml_base.proofs.StateSets.{member_where}
 use Rattle.ml_mu_graph.proofs.Situations.{Situation, Agree}
 use Rattle.ml_mu_graph.proofs.Recurring.{Region, IsInside, IsEnded, is_inside, is_outer, is_sink, inside_vertex, ended_vertex, at_inside, not_ended, game_moves, region_stays, recurs}
-use Rattle.ml_fixpoints.proofs.LeastSets.{least_of}
+use Rattle.ml_mu_graph.proofs.LeastSets.{least_of}
 use Rattle.ml_mu_graph.proofs.Recurring.{outer_low}
 use Rattle.ml_mu_graph.proofs.Regions.{below_range}
 use Rattle.ml_mu_graph.proofs.CutOpen.{cut, marked, cut_size, cut_positive, cut_negative, cut_others, cut_prop, marked_others}

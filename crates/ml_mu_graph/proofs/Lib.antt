@@ -1,3 +1,5 @@
+-- the set at which a player wins a binder is a least one
+pub mod LeastSets
 -- the region below a binder
 pub mod FreeVariables
 pub mod Regions

@@ -15,9 +15,7 @@ use crate::names::names_of;
 use ml_base::{Name, NoMemory};
 use ml_graph::{ModalGraph, Node};
 use ml_mu::{Fixpoint, Formula, Modality, Term};
-use ml_nodes::{
-    Draft, Lists, Names, and, constant, lead_to, negative, or, positive, root_of, weight,
-};
+use ml_nodes::{Draft, Lists, Names, and, constant, lead_to, negative, or, positive, root_of};
 use ml_text::{MOST_OCCURRENCES, Operator};
 use std::alloc::Global;
 
@@ -233,7 +231,7 @@ fn place_both<'a>(
     ensures around { OnOk result (around binders.new ≡ around binders.old) }
 {
     open(draft, operator, plain)?;
-    let first = at + weight(operator);
+    let first = at + operator.weight();
     place(draft, names, plain, binders, depth, first, left)?;
     let second = placed(draft.nodes.as_slice());
     place(draft, names, plain, binders, depth, second, right)?;

@@ -4,7 +4,7 @@
 // occurrence after the other, and with `Lists`, of which a graph is made. `specs/Nodes.antt` says which two nodes an
 // occurrence has. A graph whose nodes stand for values is made by a `Numbering`, value after value.
 //
-// Below stands `ml_graph`, for graphs. Above stand `ml_mu_graph`, `ml_pdl_graph`, `ml_word_graph` and `ml_blocks`.
+// Below stand `ml_graph`, for graphs, and `ml_ctl`, whose formulas have their graphs in two crates. Above stand `ml_mu_graph`, `ml_pdl_graph`, `ml_word_graph` and `ml_blocks`.
 #![tactic(auto)]
 
 mod draft;
@@ -12,9 +12,10 @@ mod lists;
 mod names;
 mod nodes;
 mod numbering;
+mod path_names;
 
 pub use draft::Draft;
 pub use lists::{Lists, root_of};
 pub use names::{Names, add_action, add_proposition};
-pub use nodes::{and, constant, lead_to, negative, or, positive, weight};
+pub use nodes::{and, constant, lead_to, negative, or, positive};
 pub use numbering::{Form, Numbering};

@@ -1,11 +1,9 @@
 // Nodes of a graph, by the occurrences of which they are.
 ghost use Rattle.std.specs.Prelude.{◌≡◌, ◌+◌, ◌<◌};
 ghost use Rattle.ml_graph.specs.declared.node.Node.TheVariants as graph_node;
-ghost use Rattle.ml_text.specs.Operators.{weight};
 ghost use Rattle.ml_nodes.specs.Nodes as nodes;
 
 use ml_graph::Node;
-use ml_text::Operator;
 
 /// The node of an occurrence. Of a program it is that of its diamond.
 pub fn positive(at: u32) -> u32
@@ -52,14 +50,4 @@ pub fn or(left: u32, right: u32) -> Node
     ensures { result ≡ graph_node.Or left right }
 {
     Node::Or { left, right }
-}
-
-/// As how many occurrences a connective counts.
-pub fn weight(operator: Operator) -> u32
-    ensures { result ≡ weight operator }
-{
-    match operator {
-        Operator::Iff => 3,
-        Operator::Implies | Operator::Or | Operator::And => 1,
-    }
 }

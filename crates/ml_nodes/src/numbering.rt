@@ -7,7 +7,7 @@ ghost use Rattle.ml_nodes.specs.NumberedValues.{IsFull, IsPut, Numbers, Overflow
 use crate::draft::Draft;
 use indexmap::IndexSet;
 use ml_base::NoMemory;
-use ml_graph::{BlockRefusal, Node};
+use ml_graph::{ClosureRefusal, Node};
 use std::alloc::Global;
 use std::hash::Hash;
 
@@ -43,16 +43,16 @@ fn number<P: Eq + Hash + Drop>(
     values: &mut IndexSet<P>,
     value: P,
     max: u32,
-) -> Result<u32, BlockRefusal>
+) -> Result<u32, ClosureRefusal>
     requires told { Tells P.eq }
     requires few { length values.old.keys ≤ max }
     ensures added { IfOk result (IsAdded values.old.keys value values.new.keys) }
     ensures few { OnOk result (length values.new.keys ≤ max) }
-    ensures full { IsErrOf result BlockRefusal.ClosureTooLarge → IsFull max values.old.keys value }
+    ensures full { IsErrOf result ClosureRefusal.ClosureTooLarge → IsFull max values.old.keys value }
 {
     let place = add(values, value)?;
     if values.len() > max as usize {
-        return Err(BlockRefusal::ClosureTooLarge);
+        return Err(ClosureRefusal::ClosureTooLarge);
     }
     Ok(place as u32)
 }
@@ -84,12 +84,12 @@ fn number_two<P: Eq + Hash + Drop>(
     left: P,
     right: P,
     max: u32,
-) -> Result<Node, BlockRefusal>
+) -> Result<Node, ClosureRefusal>
     requires told { Tells P.eq }
     requires few { length values.old.keys ≤ max }
     ensures numbers { IfOk result (numbered.NumbersTwo all left right values.old.keys values.new.keys) }
     ensures few { OnOk result (length values.new.keys ≤ max) }
-    ensures full { IsErrOf result BlockRefusal.ClosureTooLarge
+    ensures full { IsErrOf result ClosureRefusal.ClosureTooLarge
         → IsFull max values.old.keys left ⊎ numbered.FillsFirst max values.old.keys left right }
 {
     let left = number(values, left, max)?;
@@ -102,12 +102,12 @@ fn node_of<P: Eq + Hash + Drop>(
     values: &mut IndexSet<P>,
     form: Form<P>,
     max: u32,
-) -> Result<Node, BlockRefusal>
+) -> Result<Node, ClosureRefusal>
     requires told { Tells P.eq }
     requires few { length values.old.keys ≤ max }
     ensures numbers { IfOk result (Numbers form values.old.keys values.new.keys) }
     ensures few { OnOk result (length values.new.keys ≤ max) }
-    ensures full { IsErrOf result BlockRefusal.ClosureTooLarge → Overflows max values.old.keys form }
+    ensures full { IsErrOf result ClosureRefusal.ClosureTooLarge → Overflows max values.old.keys form }
 {
     match form {
         Form::Constant(value) => Ok(if value { Node::True } else { Node::False }),
@@ -141,13 +141,13 @@ impl<P: Eq + Hash + Drop> Numbering<P> {
     /// `ClosureTooLarge` exactly where `max` is 0. `NoMemory`.
     ///
     /// Cost: constant on average.
-    pub fn of(alloc: Global, root: P, max: u32) -> Result<Numbering<P>, BlockRefusal>
+    pub fn of(alloc: Global, root: P, max: u32) -> Result<Numbering<P>, ClosureRefusal>
         requires { Tells P.eq }
         ensures values { IfOk result (λ n. n.values.keys ≡ root ∷ []) }
         ensures nodes { IfOk result (λ n. n.draft.nodes.items ≡ []) }
         ensures priorities { IfOk result (λ n. n.draft.priorities.items ≡ []) }
         ensures few { OnOk result (1 ≤ max) }
-        ensures full { IsErrOf result BlockRefusal.ClosureTooLarge → max ≡ 0 }
+        ensures full { IsErrOf result ClosureRefusal.ClosureTooLarge → max ≡ 0 }
     {
         let mut values = IndexSet::new(alloc);
         number(&mut values, root, max)?;
@@ -173,14 +173,14 @@ impl<P: Eq + Hash + Drop> Numbering<P> {
     /// `ClosureTooLarge` exactly where these are more than `max`. `NoMemory`.
     ///
     /// Cost: constant on average.
-    pub fn put(&mut self, form: Form<P>, priority: u32, max: u32) -> Result<(), BlockRefusal>
+    pub fn put(&mut self, form: Form<P>, priority: u32, max: u32) -> Result<(), ClosureRefusal>
         requires told { Tells P.eq }
         requires few { length self.old.values.keys ≤ max }
         ensures put { OnOk result (IsPut form priority self.old.values.keys self.new.values.keys
             self.old.draft.nodes.items self.new.draft.nodes.items
             self.old.draft.priorities.items self.new.draft.priorities.items) }
         ensures few { OnOk result (length self.new.values.keys ≤ max) }
-        ensures full { IsErrOf result BlockRefusal.ClosureTooLarge → Overflows max self.old.values.keys form }
+        ensures full { IsErrOf result ClosureRefusal.ClosureTooLarge → Overflows max self.old.values.keys form }
     {
         let node = node_of(&mut self.values, form, max)?;
         keep(&mut self.draft, node, priority)?;

@@ -1,7 +1,7 @@
 // Word automata of small problems of LTL, worked out by hand: the nodes of their states, and their transitions under letters,
 // from state to state by their numbers, with ! behind those that accept.
 use ml_base::IdSet;
-use ml_graph::{BlockRefusal, ModalGraph};
+use ml_graph::{ClosureRefusal, ModalGraph};
 use ml_trace::{Letter, Transition};
 use ml_word_automaton::{WordAutomaton, automaton_of, letter_at};
 use std::alloc::Global;
@@ -74,7 +74,7 @@ fn automaton(
     text: &str,
     negated: bool,
     most: u32,
-) -> Result<Result<WordAutomaton, BlockRefusal>, Fail> {
+) -> Result<Result<WordAutomaton, ClosureRefusal>, Fail> {
     let formula = ml_ltl::parse(alloc, text.as_bytes())?;
     Ok(automaton_of(alloc, &formula, negated, most.min(4096)))
 }

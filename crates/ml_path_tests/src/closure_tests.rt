@@ -9,7 +9,7 @@
 // has an edge.
 use ml_blocks::{graph_of, ltl_graph_of};
 use ml_front::Logic;
-use ml_graph::{BlockRefusal, ModalGraph, Node};
+use ml_graph::{ClosureRefusal, ModalGraph, Node};
 use std::alloc::Global;
 use std::test::Fail;
 
@@ -58,7 +58,7 @@ fn graph(
     text: &str,
     negated: bool,
     most: u32,
-) -> Result<Result<ModalGraph, BlockRefusal>, Fail> {
+) -> Result<Result<ModalGraph, ClosureRefusal>, Fail> {
     if logic == Logic::Ltl {
         let formula = ml_ltl::parse(alloc, text.as_bytes())?;
         Ok(ltl_graph_of(alloc, &formula, negated, most))

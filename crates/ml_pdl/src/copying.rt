@@ -3,7 +3,6 @@ ghost use Rattle.std.specs.Prelude.{◌≡◌, ◌≤◌, IfOk};
 ghost use Rattle.ml_pdl.specs.Formula.{occurrences, program_occurrences};
 ghost use Rattle.ml_pdl.specs.Term.{formula_of, program_of};
 
-use crate::signs::operator_weight;
 use crate::{Formula, Program, Term};
 use ml_base::NoMemory;
 use ml_text::MOST_OCCURRENCES;
@@ -97,9 +96,7 @@ fn count(term: &Term) -> u32
     match term {
         Term::Const(_) | Term::Prop(_) => 1,
         Term::Not(operand) => 1 + count(operand),
-        Term::Binary(operator, left, right) => {
-            operator_weight(*operator) + count(left) + count(right)
-        }
+        Term::Binary(operator, left, right) => { operator.weight() + count(left) + count(right) }
         Term::Modal(_, program, operand) => 1 + count_program(program) + count(operand),
         Term::Repeat(program) => 1 + count_program(program),
     }

@@ -1,13 +1,12 @@
 // The signs of PDL texts: what PDL adds to those that all logics have.
 ghost use Rattle.std.specs.Prelude.{◌≡◌, ℕ, ◌≤◌, List};
-ghost use Rattle.ml_text.specs.Operators as operators;
 ghost use Rattle.ml_text.specs.SignKinds.{named};
 ghost use Rattle.ml_pdl.specs.Marks.{mark_of, with_mark};
 ghost use Rattle.ml_pdl.specs.Text.{begins_modality, weight_of};
 
 use crate::Modality;
 use ml_base::Name;
-use ml_text::{Bracket, Operator, OwnSign};
+use ml_text::{Bracket, OwnSign};
 
 /// Of an opening parenthesis: is its partner directly followed by `?`?
 #[derive(Clone, Copy)]
@@ -107,16 +106,6 @@ pub(crate) fn begins_modality(kind: Kind) -> bool
     matches!(kind, Kind::Added(Own::Begins(_)))
 }
 
-/// As how many occurrences a connective counts.
-pub(crate) fn operator_weight(operator: Operator) -> u32
-    ensures { result ≡ operators.weight operator }
-{
-    match operator {
-        Operator::Iff => 3,
-        Operator::Implies | Operator::Or | Operator::And => 1,
-    }
-}
-
 /// As how many occurrences a token counts, by whether it stands directly behind `<` or `[`: the end of a modality
 /// without a program counts as the action that it has.
 pub(crate) fn weight(is_first: bool, kind: Kind) -> u32
@@ -124,7 +113,7 @@ pub(crate) fn weight(is_first: bool, kind: Kind) -> u32
     ensures small { result ≤ 3 }
 {
     match kind {
-        Kind::Connective(operator) => operator_weight(operator),
+        Kind::Connective(operator) => operator.weight(),
         Kind::Added(Own::Ends(_)) => u32::from(is_first),
         Kind::Added(Own::Paren(_)) | Kind::Open | Kind::Close | Kind::Unknown => 0,
         _ => 1,

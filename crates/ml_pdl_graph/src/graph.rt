@@ -13,9 +13,7 @@ use crate::names::names_of;
 use crate::sizes::sizes_of;
 use ml_base::NoMemory;
 use ml_graph::{ModalGraph, Node};
-use ml_nodes::{
-    Draft, Lists, Names, and, constant, lead_to, negative, or, positive, root_of, weight,
-};
+use ml_nodes::{Draft, Lists, Names, and, constant, lead_to, negative, or, positive, root_of};
 use ml_pdl::{Formula, Modality, Program, Term};
 use ml_text::{MOST_OCCURRENCES, Operator};
 use std::alloc::Global;
@@ -126,7 +124,7 @@ fn place(
             place(draft, names, l, sizes, operand)
         }
         Term::Binary(operator, left, right) => {
-            let l = at + weight(*operator);
+            let l = at + operator.weight();
             let r = l + sizes[l as usize];
             put_connective(draft, *operator, at, l, r)?;
             place(draft, names, l, sizes, left)?;

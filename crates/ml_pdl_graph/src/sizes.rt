@@ -5,7 +5,6 @@ ghost use Rattle.ml_pdl.specs.Formula.{occurrences, program_occurrences};
 ghost use Rattle.ml_pdl.specs.Term.{formula_of, program_of};
 ghost use Rattle.ml_pdl_graph.specs.private.Sizes as listed;
 
-use ml_nodes::weight;
 use ml_pdl::{Program, Term};
 use ml_text::{MOST_OCCURRENCES, Operator};
 use std::alloc::{AllocError, Global};
@@ -30,7 +29,7 @@ fn put_connective(
     ensures sizes { OnOk result (reverse sizes.new.items
         ≡ listed.operator_sizes operator (operators.weight operator + operands) ++ reverse sizes.old.items) }
 {
-    let size = weight(operator) + operands;
+    let size = operator.weight() + operands;
     match operator {
         Operator::Iff => {
             put(sizes, size)?;

@@ -3,7 +3,7 @@ ghost use Rattle.std.specs.Prelude.{◌≡◌};
 ghost use Rattle.ml_realize.specs.private.Rows as rows;
 
 use ml_base::NoMemory;
-use ml_graph::BlockRefusal;
+use ml_graph::ClosureRefusal;
 use thiserror::Error;
 
 /// Why neither a machine nor an environment was found.
@@ -31,11 +31,11 @@ impl From<NoMemory> for RealizeRefusal {
 }
 
 // what is refused where the automaton is made
-pub(crate) fn of_automaton(refusal: BlockRefusal) -> RealizeRefusal
+pub(crate) fn of_automaton(refusal: ClosureRefusal) -> RealizeRefusal
     ensures { result ≡ rows.of_automaton refusal }
 {
     match refusal {
-        BlockRefusal::ClosureTooLarge => RealizeRefusal::ClosureTooLarge,
-        BlockRefusal::NoMemory => RealizeRefusal::NoMemory,
+        ClosureRefusal::ClosureTooLarge => RealizeRefusal::ClosureTooLarge,
+        ClosureRefusal::NoMemory => RealizeRefusal::NoMemory,
     }
 }

@@ -15,7 +15,7 @@ use crate::finding::{Fault, Finding};
 use crate::verdict::Verdict;
 use ml_base::{DocRefusal, NoMemory, Version};
 use ml_front::{Answer, MOST_NODES, Problem, graph, read_head, write_head};
-use ml_graph::BlockRefusal;
+use ml_graph::ClosureRefusal;
 use ml_refutation::Refutation;
 use ml_refutation_text::{EntryLines, Lines, append_refutation, read};
 use std::alloc::Global;
@@ -88,11 +88,11 @@ fn check_shown(alloc: Global, _bytes: &[u8], shown: &Shown) -> Result<Verdict, N
 {
     let graph = match graph(alloc, &shown.problem, MOST_NODES) {
         Ok(graph) => graph,
-        Err(BlockRefusal::ClosureTooLarge) => return Ok(Verdict::Rejected {
+        Err(ClosureRefusal::ClosureTooLarge) => return Ok(Verdict::Rejected {
             line: FORMULA_LINE,
             rule: 1,
         }),
-        Err(BlockRefusal::NoMemory) => return Err(NoMemory),
+        Err(ClosureRefusal::NoMemory) => return Err(NoMemory),
     };
     match check_refutation(alloc, &graph, &shown.refutation)? {
         Finding::Accepted => Ok(Verdict::Accepted),

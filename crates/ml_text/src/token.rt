@@ -2,6 +2,7 @@
 ghost use Rattle.std.specs.Prelude.{◌≡◌, ◌<◌, ◌≤◌, ◌∷◌, [], length, IfSome, MatchOption};
 ghost use Rattle.std.specs.List.{take_while};
 ghost use Rattle.ml_text.specs.Bytes.{is_blank, is_word_byte};
+ghost use Rattle.ml_text.specs.Operators.{weight};
 ghost use Rattle.ml_text.specs.Tokens.{begins_word, front_token, longest_sign, signs, tokens_from};
 
 use crate::bytes::{is_blank, is_letter, is_lower, is_word_byte};
@@ -13,6 +14,18 @@ pub enum Operator {
     Implies,
     Or,
     And,
+}
+
+impl Operator {
+    /// As how many occurrences the connective counts.
+    pub fn weight(self) -> u32
+        ensures { result ≡ weight self }
+    {
+        match self {
+            Operator::Iff => 3,
+            Operator::Implies | Operator::Or | Operator::And => 1,
+        }
+    }
 }
 
 /// What stands at a place of a text.

@@ -9,7 +9,7 @@ ghost use Rattle.ml_word_automaton.specs.private.Numbers.{AreMarked, AreNumbered
 
 use ml_base::NoMemory;
 use ml_blocks::ltl_block_graph_of;
-use ml_graph::{BlockRefusal, ModalGraph, Node};
+use ml_graph::{ClosureRefusal, ModalGraph, Node};
 use std::alloc::Global;
 use std::marker::Model;
 
@@ -156,11 +156,11 @@ pub fn automaton_of(
     formula: &ml_ltl::Formula,
     negated: bool,
     max: u32,
-) -> Result<WordAutomaton, BlockRefusal>
+) -> Result<WordAutomaton, ClosureRefusal>
     requires { max ≤ 2 ^ 30 }
     ensures automaton { IfOk result (λ a. IsAutomatonOf a formula.now negated) }
     ensures fits { IfOk result (λ a. size a.graph ≤ max) }
-    ensures too_large { IsErrOf result BlockRefusal.ClosureTooLarge → HasMoreThan (start_block formula.now negated) max }
+    ensures too_large { IsErrOf result ClosureRefusal.ClosureTooLarge → HasMoreThan (start_block formula.now negated) max }
 {
     let graph = ltl_block_graph_of(alloc, formula, negated, max)?;
     let marks = state_marks(alloc, &graph)?;

@@ -23,6 +23,7 @@ use Rattle.ml_ctl.specs.FormulaNames as formula
 use Rattle.ml_ctl.specs.Formula.{Formula, occurrences}
 use Rattle.ml_word_graph.specs.WordGraph.{Place, Form, Root, Total, HasEdge, LeadsOn, True, Constant, Literal, And, Or, Diamond, Square, IsReached, at_root, behind, IsGraphOf}
 use Rattle.ml_word_graph.specs.WordGraph.{children, form_of, forms, priority_of, start_of}
+use Rattle.ml_nodes.specs.private.PathNames.{props_onto}
 use Rattle.ml_word_graph.specs.private.Layout as layout
 use Rattle.ml_word_graph.specs.private.Layout.{key, made, node_of}
 use Rattle.ml_word_graph.specs.private.Reached as listed
@@ -181,7 +182,7 @@ module _ (f : Formula) (negated : Bool) (ps : List (List ℕ)) where
 
 -- the nodes that are reached, by their numbers
 pub graph_made : (f : Formula) (negated : Bool) (names actions : List (List ℕ)) (vs : List Node) (qs : List ℕ)
-    → names ≡ layout.props_onto f []
+    → names ≡ props_onto f []
     → actions ≡ codes "_" ∷ []
     → IsTrimmed (layout.all_nodes names f negated) (layout.all_priorities f) vs qs
     → IsGraphOf (record { nodes = vs; priorities = qs; root = 0; props = names; actions = actions }) f negated

@@ -2,30 +2,30 @@
 ghost use Rattle.std.specs.Prelude.{◌≡◌, ◌≤◌, [], ◌∷◌, codes, IfOk};
 ghost use Rattle.ml_ctl.specs.Formula.{occurrences};
 ghost use Rattle.ml_ctl.specs.Term.{formula_of};
+ghost use Rattle.ml_nodes.specs.private.PathNames.{props_onto};
 ghost use Rattle.ml_word_graph.specs.Laws.{HoldsWhere};
 ghost use Rattle.ml_word_graph.specs.WordGraph.{IsGraphOf};
 ghost use Rattle.ml_word_graph.specs.private.Layout as layout;
 ghost use Rattle.ml_word_graph.specs.private.Reached.{IsTrimmed};
 
 use crate::layout::laid_out;
-use crate::names::names_of;
 use crate::reached::trimmed;
 use ml_base::NoMemory;
 use ml_ctl::Term;
 use ml_graph::ModalGraph;
 use ml_ltl::Formula;
-use ml_nodes::Lists;
+use ml_nodes::{Lists, Names};
 use std::alloc::Global;
 
 // the lists of a problem's graph
 fn lists_of(alloc: Global, term: &Term, negated: bool) -> Result<Lists, NoMemory>
     requires few { occurrences (formula_of term.now) ≤ 1000 }
-    ensures props { IfOk result (λ l. l.props.items ≡ layout.props_onto (formula_of term.now) []) }
+    ensures props { IfOk result (λ l. l.props.items ≡ props_onto (formula_of term.now) []) }
     ensures actions { IfOk result (λ l. l.actions.items ≡ codes "_" ∷ []) }
     ensures trimmed { IfOk result (λ l. IsTrimmed (layout.all_nodes l.props.items (formula_of term.now) negated)
         (layout.all_priorities (formula_of term.now)) l.nodes.items l.priorities.items) }
 {
-    let names = names_of(alloc, term)?;
+    let names = Names::of_paths(alloc, term)?;
     let all = laid_out(alloc, &names, term, negated)?;
     let draft = trimmed(alloc, &all)?;
     Lists::of(alloc, draft, names)

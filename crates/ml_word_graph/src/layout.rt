@@ -12,7 +12,7 @@ ghost use Rattle.ml_word_graph.specs.private.Layout as layout;
 use ml_base::NoMemory;
 use ml_ctl::{Pairing, Tense, Term, count_term};
 use ml_graph::Node;
-use ml_nodes::{Draft, Names, and, constant, lead_to, or, weight};
+use ml_nodes::{Draft, Names, and, constant, lead_to, or};
 use ml_text::Operator;
 use std::alloc::Global;
 
@@ -287,7 +287,7 @@ fn place(draft: &mut Draft, names: &Names, at: u32, term: &Term) -> Result<(), N
             place(draft, names, at + 1, operand)
         }
         Term::Binary(operator, left, right) => {
-            let first = at + weight(*operator);
+            let first = at + operator.weight();
             let second = first + count_term(left);
             let nodes = now_of_connective(*operator, at, first, second);
             put_occurrence(draft, at, nodes, (PLAIN, PLAIN), NONE)?;

@@ -13,7 +13,6 @@
 mod graph;
 pub mod laws;
 mod layout;
-mod names;
 mod reached;
 
 pub use graph::graph_of;

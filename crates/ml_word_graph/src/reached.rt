@@ -5,7 +5,7 @@ ghost use Rattle.ml_word_graph.specs.private.Reached as listed;
 ghost use Rattle.ml_word_graph.specs.private.Reached.{AreInside, IsTrimmed, form_in, rank_in};
 
 use ml_base::NoMemory;
-use ml_graph::{BlockRefusal, Node};
+use ml_graph::{ClosureRefusal, Node};
 use ml_nodes::{Draft, Form, Numbering};
 use std::alloc::Global;
 
@@ -25,7 +25,7 @@ fn form_of(node: Node) -> Form<u32>
 }
 
 // one node more
-fn step(all: &Draft, max: u32, numbering: &mut Numbering<u32>) -> Result<(), BlockRefusal>
+fn step(all: &Draft, max: u32, numbering: &mut Numbering<u32>) -> Result<(), ClosureRefusal>
     requires next { length numbering.old.draft.nodes.items < length numbering.old.values.keys }
     requires few { length numbering.old.values.keys ≤ max }
     requires inside { (n k : ℕ) → slice_get numbering.old.values.keys n ≡ Some k → k < length all.now.nodes.items }
@@ -35,7 +35,7 @@ fn step(all: &Draft, max: u32, numbering: &mut Numbering<u32>) -> Result<(), Blo
         numbering.old.draft.nodes.items numbering.new.draft.nodes.items
         numbering.old.draft.priorities.items numbering.new.draft.priorities.items) }
     ensures few { OnOk result (length numbering.new.values.keys ≤ max) }
-    ensures full { IsErrOf result BlockRefusal.ClosureTooLarge → HasNoRoom (form_in all.now.nodes.items) max
+    ensures full { IsErrOf result ClosureRefusal.ClosureTooLarge → HasNoRoom (form_in all.now.nodes.items) max
         numbering.old.values.keys (length numbering.old.draft.nodes.items) }
 {
     let old = *numbering.next() as usize;
@@ -43,12 +43,12 @@ fn step(all: &Draft, max: u32, numbering: &mut Numbering<u32>) -> Result<(), Blo
 }
 
 // the nodes that are reached, in their order: there is room for them among all
-fn numbered(alloc: Global, all: &Draft) -> Result<Draft, BlockRefusal>
+fn numbered(alloc: Global, all: &Draft) -> Result<Draft, ClosureRefusal>
     requires inside { AreInside all.now.nodes.items }
     requires few { length all.now.nodes.items < 2 ^ 31 }
     requires ranks { length all.now.priorities.items ≡ length all.now.nodes.items }
     ensures trimmed { IfOk result (λ d. IsTrimmed all.now.nodes.items all.now.priorities.items d.nodes.items d.priorities.items) }
-    ensures fits { IsErrOf result BlockRefusal.ClosureTooLarge → ⊥ }
+    ensures fits { IsErrOf result ClosureRefusal.ClosureTooLarge → ⊥ }
 {
     let max = all.nodes.len() as u32;
     let mut numbering = Numbering::of(alloc, 0, max)?;
@@ -67,7 +67,7 @@ pub(crate) fn trimmed(alloc: Global, all: &Draft) -> Result<Draft, NoMemory>
 {
     match numbered(alloc, all) {
         Ok(draft) => Ok(draft),
-        Err(BlockRefusal::NoMemory) => Err(NoMemory),
-        Err(BlockRefusal::ClosureTooLarge) => unreachable!(),
+        Err(ClosureRefusal::NoMemory) => Err(NoMemory),
+        Err(ClosureRefusal::ClosureTooLarge) => unreachable!(),
     }
 }

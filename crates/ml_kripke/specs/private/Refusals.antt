@@ -16,13 +16,13 @@ use Rattle.ml_kripke.specs.BodyRules.{Place, body, rules}
 use Rattle.ml_kripke.specs.RuleNumbers.{rule_number}
 use Rattle.ml_kripke.specs.declared.body_rule.BodyRule.{BodyRule}
 use Rattle.ml_kripke.specs.declared.body_rule.BodyRule.TheVariants.{OfKind}
-use Rattle.ml_kripke.specs.declared.read_line.LineRefusal.{LineRefusal}
-use Rattle.ml_kripke.specs.declared.read_line.LineRefusal.TheVariants as line
+use Rattle.ml_lines.specs.declared.refusal.LineRefusal.{LineRefusal}
+use Rattle.ml_lines.specs.declared.refusal.LineRefusal.TheVariants as line
 
 abbrev pub Breaks : Place → Line → BodyRule → Type 0
 Breaks place l rule = (left : List ℕ) → IsFirstBroken (rules left place) l (rule_number rule)
 
-abbrev pub TellsRule : Place → Line → LineRefusal → Type 0
+abbrev pub TellsRule : Place → Line → LineRefusal BodyRule → Type 0
 TellsRule place l (line.Breaks rule) = Breaks place l rule
 TellsRule place l line.NoMemory = ⊤
 
@@ -33,6 +33,6 @@ abbrev pub TellsFault : Place → ℕ → List ℕ → DocRefusal → Type 0
 TellsFault place k text (refused.Fault fault) = IsFault body k place text fault
 TellsFault place k text refused.NoMemory = ⊤
 
-abbrev pub at_line : ℕ → LineRefusal → DocRefusal
+abbrev pub at_line : ℕ → LineRefusal BodyRule → DocRefusal
 at_line k (line.Breaks rule) = refused.Fault (record { line = k; rule = rule_number rule })
 at_line k line.NoMemory = refused.NoMemory

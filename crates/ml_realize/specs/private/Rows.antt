@@ -10,8 +10,8 @@ use Rattle.std.specs.Prelude.{ℕ, ◌<◌, List, [], length, get_or}
 use Rattle.ml_determinise.specs.Histories.{histories_of, neutral}
 use Rattle.ml_determinise.specs.Numbering.{IsNumbered}
 use Rattle.ml_determinise.specs.declared.moves.DetMove.{DetMove}
-use Rattle.ml_graph.specs.declared.refusals.BlockRefusal.{BlockRefusal}
-use Rattle.ml_graph.specs.declared.refusals.BlockRefusal.TheVariants as block
+use Rattle.ml_graph.specs.declared.refusals.ClosureRefusal.{ClosureRefusal}
+use Rattle.ml_graph.specs.declared.refusals.ClosureRefusal.TheVariants as block
 use Rattle.ml_history.specs.HistoryStep.{start}
 use Rattle.ml_synthesis.specs.Game.{HasMorePositions}
 use Rattle.ml_synthesis.specs.Synthesis.{IsOutcome}
@@ -34,6 +34,6 @@ pub record IsPlayed (states : ℕ) (row : List (List Transition)) (i o n : ℕ) 
   pub are_numbered : IsNumbered states row 0 moves
   pub is_outcome : IsOutcome i o (neutral states) moves r
 
-abbrev pub of_automaton : BlockRefusal → RealizeRefusal
+abbrev pub of_automaton : ClosureRefusal → RealizeRefusal
 of_automaton block.ClosureTooLarge = refusal.ClosureTooLarge
 of_automaton block.NoMemory = refusal.NoMemory

@@ -10,17 +10,14 @@
 --   nodes_of ps i f      == the nodes of f as the occurrence i, and of its operands
 --   priorities_of f      == their priorities
 --   all_nodes, all_priorities == those of a problem
---   props_onto f ps      == the names ps, and behind them the propositions of f
 use Rattle.std.specs.Prelude.{ℕ, ◌+◌, ◌*◌, Bool, true, false, if◌then◌else◌, List, [], ◌∷◌, ◌++◌}
 use Rattle.ml_graph.specs.declared.node.Node.{Node}
 use Rattle.ml_graph.specs.declared.node.Node.TheVariants as node
-use Rattle.ml_text.specs.NameLists.{with_names, place_of}
-use Rattle.ml_text.specs.Names.{Proposition, of_kind}
+use Rattle.ml_text.specs.NameLists.{place_of}
 use Rattle.ml_text.specs.declared.token.Operator.{Operator}
 use Rattle.ml_text.specs.declared.token.Operator.TheVariants as operator
 use Rattle.ml_text.specs.Operators.{weight}
 use Rattle.ml_ctl.specs.Formula.{Formula, Const, Prop, Not, Binary, Temporal, Paired, Quantified}
-use Rattle.ml_ctl.specs.FormulaNames.{names}
 use Rattle.ml_nodes.specs.Nodes.{constant}
 use Rattle.ml_word_graph.specs.declared.layout.Kind.{Kind}
 use Rattle.ml_word_graph.specs.declared.layout.Kind.TheVariants as kind
@@ -116,6 +113,3 @@ all_nodes ps f negated =
 
 abbrev pub all_priorities : Formula → List ℕ
 all_priorities f = 2 ∷ 2 ∷ 2 ∷ 2 ∷ 2 ∷ priorities_of f
-
-abbrev pub props_onto : Formula → List (List ℕ) → List (List ℕ)
-props_onto f ps = with_names ps (of_kind Proposition (names f))

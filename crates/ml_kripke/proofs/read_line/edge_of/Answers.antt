@@ -8,8 +8,8 @@ use Rattle.ml_kripke.specs.declared.body_rule.BodyRule.TheVariants.{Edges, Numbe
 use Rattle.ml_kripke.proofs.BrokenRules.{lowest_edge, no_numbers, other_edge, no_end}
 use Rattle.ml_kripke.proofs.read_line.edge_of.Goals as goal
 
-pub returns-in-Err-NotAName-clause-refused : goal.returns-in-Err-NotAName-clause-refused
-returns-in-Err-NotAName-clause-refused c =
+pub returns-in-Err-OutOfPlace-clause-refused : goal.returns-in-Err-OutOfPlace-clause-refused
+returns-in-Err-OutOfPlace-clause-refused c =
     let line = words_of c.args.line.now in
     let before = option_copied c.args.before in
     let s = c.in-Some.source in
@@ -19,7 +19,7 @@ returns-in-Err-NotAName-clause-refused c =
     λ left.
     lowest_edge left c.args.states before line Edges c.edge_rule.result (no_end c.args.line.now apart) c.edge_rule.ensures (λ edged.
     other_edge left c.args.states before line (number s) c.in-Some.action.now (number t) edged.0 c.in-Some.ensures.0 s t refl refl
-    c.in-Some.ensures.1 c.in-Some.ensures.2 (c.in-Err-NotAName.ensures.refused (ap Err c.in-Err-NotAName.field-0-is)))
+    c.in-Some.ensures.1 c.in-Some.ensures.2 (c.in-Err-OutOfPlace.ensures.refused (ap Err c.in-Err-OutOfPlace.field-0-is)))
 
 pub returns-in-None-clause-refused : goal.returns-in-None-clause-refused
 returns-in-None-clause-refused c =

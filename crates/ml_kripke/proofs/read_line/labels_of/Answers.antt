@@ -15,11 +15,11 @@ returns-then-number-state-clause-refused c =
     other_number left states c.args.state line (number k) (words_behind (option_copied c.in-Some.behind)) stated.0 c.in-Some.ensures.0
     k refl c.in-Some.ensures.1 c.if-number-state.true)
 
-pub returns-in-Err-NotAName-clause-refused : goal.returns-in-Err-NotAName-clause-refused
-returns-in-Err-NotAName-clause-refused c =
+pub returns-in-Err-OutOfPlace-clause-refused : goal.returns-in-Err-OutOfPlace-clause-refused
+returns-in-Err-OutOfPlace-clause-refused c =
     let line = words_of c.args.line.now in
     let k = c.in-Some.number in
     λ states left.
-    lowest_state left states c.args.state line Labels c.state_rule-in-Err-NotAName.result c.state_rule-in-Err-NotAName.ensures (λ stated.
+    lowest_state left states c.args.state line Labels c.state_rule-in-Err-OutOfPlace.result c.state_rule-in-Err-OutOfPlace.ensures (λ stated.
     other_labels left states c.args.state line (number k) (words_behind (option_copied c.in-Some.behind)) stated.0 c.in-Some.ensures.0
-    k refl c.in-Some.ensures.1 c.if-number-state.false (c.in-Err-NotAName.ensures.refused (ap Err c.in-Err-NotAName.field-0-is)))
+    k refl c.in-Some.ensures.1 c.if-number-state.false (c.in-Err-OutOfPlace.ensures.refused (ap Err c.in-Err-OutOfPlace.field-0-is)))

@@ -1,4 +1,4 @@
--- The propositions of a formula, each once, in the order of the text.
+-- The propositions of a formula of CTL* or LTL, each once, in the order of the text.
 --
 --   props_onto f ps   == the names ps, and behind them the propositions of f
 use Rattle.std.specs.Prelude.{ℕ, List}

@@ -29,7 +29,7 @@ use Rattle.ml_parity.proofs.OneStep.{own_vertex_won, other_vertex_won}
 use Rattle.ml_parity.proofs.Opponents.{cases_player, opponent-opponent, no_own_opponent}
 use Rattle.ml_parity.proofs.SingleMoves.{single_move, sink_won}
 use Rattle.ml_parity.proofs.Winners.{Winners, winners, won, together, together-own, together-other}
-use Rattle.ml_fixpoints.specs.Binders.{IsSinkOf, Binder, HasVerdicts, MakesWithin, IsLeast, BinderIsLeast}
+use Rattle.ml_mu_graph.specs.Binders.{IsSinkOf, Binder, HasVerdicts, MakesWithin, IsLeast, BinderIsLeast}
 
 abbrev AtNone : (ℕ → ℕ) → ℕ → ℕ → Type 0
 AtNone at n v = (s : ℕ) → s < n → at s ≢ v

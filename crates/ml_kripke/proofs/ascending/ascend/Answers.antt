@@ -1,7 +1,7 @@
 use Rattle.std.proofs.lemmas.List.Filters.{dedup_is}
 use Rattle.std.proofs.lemmas.List.Kept.{Contains-dedup, Contains-from_dedup, IsStrictlySortedBy-dedup}
 use Rattle.std.proofs.lemmas.List.Sorted.{Contains-permutation, IsPermutation-sym}
-use Rattle.ml_kripke.proofs.ascending.ascending.Goals as goal
+use Rattle.ml_kripke.proofs.ascending.ascend.Goals as goal
 
 pub returns-clause-ascends : goal.returns-clause-ascends
 returns-clause-ascends g c =

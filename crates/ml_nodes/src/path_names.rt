@@ -1,12 +1,13 @@
-// The names of a formula's graph: its propositions, each once, in the order of the text, and the action `_`.
+// The names of the graph of a formula of CTL* or LTL: its propositions, each once, in the order of the text, and the
+// action `_`.
 ghost use Rattle.std.specs.Prelude.{◌≡◌, [], ◌∷◌, codes, OnOk, IfOk};
 ghost use Rattle.ml_ctl.specs.Term.{formula_of};
-ghost use Rattle.ml_blocks.specs.private.Names as listed;
+ghost use Rattle.ml_nodes.specs.private.PathNames as listed;
 
+use crate::names::{Names, add_proposition};
 use indexmap::IndexSet;
 use ml_base::{Name, NoMemory};
 use ml_ctl::Term;
-use ml_nodes::{Names, add_proposition};
 use std::alloc::Global;
 
 // the propositions of a term, in the order of the text
@@ -27,12 +28,19 @@ fn collect(term: &Term, props: &mut IndexSet<Name>) -> Result<(), NoMemory>
     }
 }
 
-// the names of a term's graph
-pub(crate) fn names_of(alloc: Global, term: &Term) -> Result<Names, NoMemory>
-    ensures props { IfOk result (λ names. names.props.keys ≡ listed.props_onto (formula_of term.now) []) }
-    ensures actions { IfOk result (λ names. names.actions.keys ≡ codes "_" ∷ []) }
-{
-    let mut props = IndexSet::new(alloc);
-    collect(term, &mut props)?;
-    Names::with_blank(alloc, props)
+impl Names {
+    /// The names of the graph of a formula of CTL* or LTL: its propositions, in the order of the text, and the action `_`.
+    ///
+    /// # Errors
+    /// `NoMemory` alone.
+    ///
+    /// Cost: linear in the occurrences and the lengths of the names, on average.
+    pub fn of_paths(alloc: Global, term: &Term) -> Result<Names, NoMemory>
+        ensures props { IfOk result (λ names. names.props.keys ≡ listed.props_onto (formula_of term.now) []) }
+        ensures actions { IfOk result (λ names. names.actions.keys ≡ codes "_" ∷ []) }
+    {
+        let mut props = IndexSet::new(alloc);
+        collect(term, &mut props)?;
+        Names::with_blank(alloc, props)
+    }
 }
