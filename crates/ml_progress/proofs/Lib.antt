@@ -46,3 +46,5 @@ pub mod ToldSolutions
 pub mod SomeLeast
 -- and a solution that both tell
 pub mod SomeMeasures
+-- and one solution at most
+pub mod OneMeasured

@@ -18,7 +18,7 @@ use Rattle.ml_progress.specs.Law.{SomeMeasured}
 use Rattle.ml_progress.specs.Measure.{IsLeastMeasure, Measure, Progresses, ProgressesFrom, is_bad, measure_at}
 use Rattle.ml_progress.specs.Measured.{IsFirstProgress, IsMeasured, MeasuredGame}
 use Rattle.ml_progress.specs.private.Bounds.{bounds_of, cut_length}
-use Rattle.ml_progress.specs.private.Choices.{AreChoices, AreWinners, IsChoiceFor, measure_for, winner_from}
+use Rattle.ml_progress.specs.private.Choices.{AreChoices, AreWinners, IsChoiceFor, measure_for, winner_from, AreReadOff}
 use Rattle.ml_progress.specs.private.Codes.{FitsIn, code, cut_level, step_of}
 use Rattle.ml_progress.proofs.Progress.{measure_fits, progress_steps, steps_progress}
 use Rattle.ml_progress.proofs.SomeLeast.{some_least}
@@ -142,13 +142,20 @@ module _ (g : ParityGame) (ok : IsGame g) where
     abbrev all : MeasuredGame
     all = record { even = me; odd = mo; solution = record { winner = winners; choice = choices } }
 
+    read : AreReadOff g me mo all
+    read = record {
+      even_is = refl;
+      odd_is = refl;
+      solution = record { winners = are_winners; choices = are_choices };
+    }
+
     are_measured : IsMeasured g all
     are_measured = record {
       even = even;
       odd = odd;
-      solution = answer_solution g ok me mo even odd winners choices are_winners are_choices all refl refl refl;
-      told = answer_told g ok me mo even odd winners choices are_winners are_choices all refl refl refl;
-      first = answer_first g ok me mo even odd winners choices are_winners are_choices all refl refl refl;
+      solution = answer_solution g ok me mo even odd all read;
+      told = answer_told g ok me mo even odd all read;
+      first = answer_first g ok me mo even odd all read;
     }
 
 -- there are both measures, with winners and choices read off them

@@ -3,7 +3,7 @@
 --   least_for                       == the measure of each player is the least one
 --   told                            == the winner is the player whose measure isn't the top
 --   told_solution, told_elsewhere   == they are a solution of the game
---   answer_solution, .., answer_first == what is said of the answer
+--   answer_even, .., answer_first == what is said of the answer
 use Rattle.std.proofs.Common.{ℕ, ◌≡◌, ◌≢◌, ◌<◌, ⊎_elim, ◌↔◌, List, get_or, Option, Some, None, refl, sym, ap, ◌∙◌, subst}
 use Rattle.ml_parity.specs.declared.players.Player.{Player}
 use Rattle.ml_parity.specs.declared.players.Player.TheVariants.{Even, Odd}
@@ -15,7 +15,7 @@ use Rattle.ml_parity.proofs.Winners.{clash, won_by_either}
 use Rattle.ml_progress.specs.Measure.{HasList}
 use Rattle.ml_progress.specs.Measure.{Measure, Progresses, IsLeastMeasure, measure_at}
 use Rattle.ml_progress.specs.Measured.{MeasuredGame, measure_of, IsTold, IsFirstProgress, FirstProgressing}
-use Rattle.ml_progress.specs.private.Choices.{winner_from, AreWinners, IsChoiceFor, measure_for, AreChoices}
+use Rattle.ml_progress.specs.private.Choices.{winner_from, AreWinners, IsChoiceFor, measure_for, AreChoices, AreReadOff}
 use Rattle.ml_progress.proofs.Winning.{progress_wins}
 use Rattle.ml_progress.proofs.WhoWins.{listed_won, won_listed}
 
@@ -122,30 +122,45 @@ module _ (g : ParityGame) (ok : IsGame g) (me mo : Measure) (even : IsLeastMeasu
       at (Some xs) is =
           absurd (other (sym ((told (owner_of g v) v low).1 (λ top. let wrong = sym is ∙ top in cc))))
 
-  -- all of it, of the answer
-  module _ (m : MeasuredGame) (is_even : m.even ≡ me) (is_odd : m.odd ≡ mo)
-      (is_solution : m.solution ≡ record { winner = winners; choice = choices }) where
-    measure_is : (p : Player) → measure_of m p ≡ measure_for p me mo
-    measure_is Even = is_even
-    measure_is Odd = is_odd
+-- all of it, of the answer
+module _ (g : ParityGame) (ok : IsGame g) (me mo : Measure) (even : IsLeastMeasure g Even me)
+    (odd : IsLeastMeasure g Odd mo)
+    (m : MeasuredGame) (read : AreReadOff g me mo m) where
+  abbrev won : AreWinners g me m.solution.winner
+  won = read.solution.winners
 
-    pub answer_solution : IsSolution g m.solution
-    answer_solution = subst (IsSolution g) (sym is_solution) told_solution
+  abbrev chosen : AreChoices g me mo m.solution.choice
+  chosen = read.solution.choices
 
-    pub answer_elsewhere : FirstElsewhere g m.solution
-    answer_elsewhere = subst (FirstElsewhere g) (sym is_solution) told_elsewhere
+  abbrev winners : List Player
+  winners = m.solution.winner
 
-    pub answer_told : IsTold g m
-    answer_told v p low =
-        subst (λ k. (winner_at m.solution.winner v ≡ p) ↔ HasList k v) (sym (measure_is p))
-        (subst (λ (s : GameSolution). (winner_at s.winner v ≡ p) ↔ HasList (measure_for p me mo) v) (sym is_solution)
-        (told p v low))
+  abbrev choices : List ℕ
+  choices = m.solution.choice
 
-    pub answer_first : FirstProgressing g m
-    answer_first v low own =
-        subst (λ k. IsFirstProgress g (owner_of g v) k v (choice_at m.solution.choice v))
-        (sym (measure_is (owner_of g v)))
-        (subst (λ (s : GameSolution). IsFirstProgress g (owner_of g v) (measure_for (owner_of g v) me mo) v
-        (choice_at s.choice v)) (sym is_solution)
-        (first v (owner_of g v) low refl
-        ((told (owner_of g v) v low).0 (sym (own ∙ ap (λ (s : GameSolution). winner_at s.winner v) is_solution)))))
+  measure_is : (p : Player) → measure_of m p ≡ measure_for p me mo
+  measure_is Even = read.even_is
+  measure_is Odd = read.odd_is
+
+  pub answer_even : IsLeastMeasure g Even m.even
+  answer_even = subst (IsLeastMeasure g Even) (sym read.even_is) even
+
+  pub answer_odd : IsLeastMeasure g Odd m.odd
+  answer_odd = subst (IsLeastMeasure g Odd) (sym read.odd_is) odd
+
+  pub answer_solution : IsSolution g m.solution
+  answer_solution = told_solution g ok me mo even odd winners choices won chosen
+
+  pub answer_elsewhere : FirstElsewhere g m.solution
+  answer_elsewhere = told_elsewhere g ok me mo even odd winners choices won chosen
+
+  pub answer_told : IsTold g m
+  answer_told v p low =
+      subst (λ k. (winner_at winners v ≡ p) ↔ HasList k v) (sym (measure_is p))
+      (told g ok me mo even odd winners choices won chosen p v low)
+
+  pub answer_first : FirstProgressing g m
+  answer_first v low own =
+      subst (λ k. IsFirstProgress g (owner_of g v) k v (choice_at choices v)) (sym (measure_is (owner_of g v)))
+      (first g ok me mo even odd winners choices won chosen v (owner_of g v) low refl
+      ((told g ok me mo even odd winners choices won chosen (owner_of g v) v low).0 (sym own)))

@@ -1,6 +1,6 @@
 // Laws about the definitions alone: empty functions, each of whose contract is a theorem.
 
-ghost use Rattle.ml_progress.specs.Law.{MeasureLaw, SomeMeasured};
+ghost use Rattle.ml_progress.specs.Law.{MeasureLaw, OneLeastMeasure, OneMeasured, SomeMeasured};
 
 /// The least progress measure of a player has a list exactly at the vertices that the player wins, in each parity game,
 /// of any number of vertices.
@@ -11,9 +11,12 @@ pub fn least_measure_tells()
 {}
 
 /// Each parity game has a least progress measure of each player, with a solution that they tell and whose moves are the
-/// first ones that progress.
+/// first ones that progress. It has one of each player at most; so the winners are given, and where the owner wins, the
+/// moves.
 ///
 /// Does nothing when called.
 pub fn some_measures()
     ensures some { SomeMeasured }
+    ensures least { OneLeastMeasure }
+    ensures one { OneMeasured }
 {}

@@ -1,7 +1,6 @@
 -- The text of a task, read line by line.
 --
---   Front text ins outs rest  == the lines of the text are those of these inputs and outputs, both good, and then the rest
---   front             == what was read so far is one
+--   front             == the signals are read
 --   formula_told      == behind it a line that is no good formula is the first bad one
 --   end_told          == behind it and the formula a further line is
 --   task_read         == with nothing behind the formula it is the text of a task
@@ -19,7 +18,7 @@ use Rattle.ml_task.specs.TaskText.{AtFormula, AtInputs, AtNothing, IsTaskText, P
 use Rattle.ml_task.specs.declared.task_rule.LineRefusal.{LineRefusal}
 use Rattle.ml_task.specs.declared.task_rule.LineRefusal.TheVariants as line
 use Rattle.ml_task.specs.declared.task_rule.TaskRule.TheVariants.{OfKind}
-use Rattle.ml_task.specs.private.Stages.{AreNamesRead, IsFormulaRead, Tells, TellsFault, at_line, first_of}
+use Rattle.ml_task.specs.private.Stages.{AreNamesRead, AreSignalsRead, IsFormulaRead, Tells, TellsFault, at_line, first_of}
 use Rattle.ml_task.proofs.FormulaRead.{given_bytes, is_formula_line}
 use Rattle.ml_task.proofs.ReadableTasks.{good_task}
 
@@ -30,17 +29,12 @@ first_bad : (k : ℕ) (place : Place) (lines : List Line) (r : ℕ)
 first_bad k place [] r broken = (refl, broken)
 first_bad k place (l ∷ lines) r broken = inl (refl, broken)
 
-pub record Front (text : List ℕ) (inputs outputs : List (List ℕ)) (rest : List Line) : Type 0 where
-  pub lines_are : task_lines text ≡ (codes "inputs" ∷ inputs) ∷ (codes "outputs" ∷ outputs) ∷ rest
-  pub inputs_good : KeepsAll (names_rules (codes "inputs") []) (codes "inputs" ∷ inputs)
-  pub outputs_good : KeepsAll (names_rules (codes "outputs") inputs) (codes "outputs" ∷ outputs)
-
 pub front : (text behind : List ℕ) (inputs outputs none seen : List (List ℕ)) (rest : List Line)
     → none ≡ []
     → AreNamesRead (codes "inputs") none (task_lines text) inputs (task_lines behind)
     → seen ≡ none ++ inputs
     → AreNamesRead (codes "outputs") seen (task_lines behind) outputs rest
-    → Front text inputs outputs rest
+    → AreSignalsRead text inputs outputs rest
 front text behind inputs outputs none seen rest empty first added second = record {
   lines_are = first.lines_are ∙ ap (λ ls. (codes "inputs" ∷ inputs) ∷ ls) second.lines_are;
   inputs_good = subst (λ s. KeepsAll (names_rules (codes "inputs") s) (codes "inputs" ∷ inputs)) empty first.keeps;
@@ -50,7 +44,7 @@ front text behind inputs outputs none seen rest empty first added second = recor
 }
 
 module _ (text : List ℕ) (inputs outputs seen : List (List ℕ)) (rest : List Line)
-    (so_far : Front text inputs outputs rest) (are : seen ≡ inputs ++ outputs) where
+    (so_far : AreSignalsRead text inputs outputs rest) (are : seen ≡ inputs ++ outputs) where
   behind : (bad r : ℕ) → IsFirstBad task 3 (AtFormula (inputs ++ outputs)) rest bad r
       → IsFirstBad task 1 AtInputs (task_lines text) bad r
   behind bad r found =

@@ -1,5 +1,7 @@
 // Laws over texts of tasks: no caller runs these functions, their contracts are the theorems.
+ghost use Rattle.std.specs.Prelude.{◌≡◌};
 ghost use Rattle.ml_task.specs.Laws.{OneTask, SomeAnswer, TaskOrFault, OneFault, TaskRulesRise};
+ghost use Rattle.ml_task.specs.Task.{most_names};
 
 /// A text is one of exactly one task, or it has exactly one first bad line with one lowest rule.
 ///
@@ -16,4 +18,11 @@ pub fn one_answer()
 /// Does nothing when called.
 pub fn rules_rise()
     ensures { TaskRulesRise }
+{}
+
+/// A task has at most 8 inputs and outputs together.
+///
+/// Does nothing when called.
+pub fn limits()
+    ensures names { most_names ≡ 8 }
 {}

@@ -5,6 +5,7 @@
 --   IsChoiceFor g p m v w    == w is the first successor to which the move progresses, or the first one where p has the top
 --   AreChoices g me mo choices == so for all vertices, with the measure of the owner
 --   IsReadOff g me mo s        == both of a solution
+--   AreReadOff g me mo m       == m has these measures, and a solution that is read off them
 use Rattle.std.specs.Prelude.{ℕ, ◌≡◌, ◌<◌, List, length, get_or, Option, Some, None}
 use Rattle.ml_parity.specs.declared.players.Player.{Player}
 use Rattle.ml_parity.specs.declared.players.Player.TheVariants.{Even, Odd}
@@ -12,7 +13,7 @@ use Rattle.ml_parity.specs.Game.{ParityGame, moves_of, owner_of, size}
 use Rattle.ml_parity.specs.Solution.{GameSolution}
 use Rattle.ml_progress.specs.Measure.{HasList}
 use Rattle.ml_progress.specs.Measure.{Measure, measure_at}
-use Rattle.ml_progress.specs.Measured.{IsFirstProgress}
+use Rattle.ml_progress.specs.Measured.{IsFirstProgress, MeasuredGame}
 
 -- Even where Even has a list, and Odd where Even has the top
 abbrev pub winner_from : Option (List ℕ) → Player
@@ -44,3 +45,9 @@ pub record AreChoices (g : ParityGame) (me mo : Measure) (choices : List ℕ) : 
 pub record IsReadOff (g : ParityGame) (me mo : Measure) (s : GameSolution) : Type 0 where
   pub winners : AreWinners g me s.winner
   pub choices : AreChoices g me mo s.choice
+
+-- m has these measures, and a solution that is read off them
+pub record AreReadOff (g : ParityGame) (me mo : Measure) (m : MeasuredGame) : Type 0 where
+  pub even_is : m.even ≡ me
+  pub odd_is : m.odd ≡ mo
+  pub solution : IsReadOff g me mo m.solution
