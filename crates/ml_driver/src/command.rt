@@ -135,15 +135,13 @@ fn taken_apart<'a>(alloc: Global, words: &'a [String]) -> Result<Option<ArgMatch
 fn cli<'a>(alloc: Global) -> Result<clap::Command<'a>, AllocError>
     ensures { IfOk result (λ c. app_of c ≡ cli) }
 {
-    let command = Arg::new(alloc, "command").required(true);
-    let limit = Arg::new(alloc, "limit").long("limit");
     clap::Command::new(alloc, "mlsolver")
         .no_binary_name(true)
         .disable_help_flag(true)
-        .arg(command)?
+        .arg(Arg::new(alloc, "command").required(true))?
         .arg(Arg::new(alloc, "subject"))?
         .arg(Arg::new(alloc, "count"))?
-        .arg(limit)
+        .arg(Arg::new(alloc, "limit").long("limit"))
 }
 
 // the words are at fault, and memory isn't

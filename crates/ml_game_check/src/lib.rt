@@ -1,0 +1,11 @@
+// Solutions of parity games, checked.
+//
+// A claim says of a vertex who wins it, and maybe by which move. Claims may be right or not, and need not be there for every
+// vertex: `specs/RightClaims.antt` says when they are right, by four rules that can be looked through one by one. `laws` says
+// what right claims are good for: each vertex is won by the player who is claimed to win it, by the moves that are claimed; and
+// of each solution the claims are right.
+//
+// Below stands `ml_parity`, for games, plays and winners.
+#![tactic(auto)]
+
+pub mod laws;
