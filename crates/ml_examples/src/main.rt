@@ -33,7 +33,7 @@ use std::fs;
 use std::io::Print;
 use std::rt::Files;
 
-const FILES: [&str; 23] = [
+const FILES: [&str; 35] = [
     "examples",
     "specifications",
     "patterns",
@@ -57,6 +57,18 @@ const FILES: [&str; 23] = [
     "automata",
     "quotients",
     "realize",
+    "meanings",
+    "random_models",
+    "random_paths",
+    "random_decisions",
+    "altered",
+    "automata_refused",
+    "automata_texts",
+    "random_automata",
+    "random_games",
+    "games_refused",
+    "random_quotients",
+    "small_tasks",
 ];
 
 const PAGES: [&str; 5] = ["GUIDE", "DOCUMENTS", "GAMES", "AUTOMATA", "REALIZE"];

@@ -3,7 +3,7 @@ ghost use Rattle.std.specs.Prelude.{◌<◌, All, IfOk, IfSome};
 ghost use Rattle.ml_graph.specs.Graph.{size};
 ghost use Rattle.ml_sequent.specs.Spread.{IsSpread};
 
-use crate::graph_tests::{NOT_P, P, graph_of};
+use crate::graphs::{NOT_P, P, graph_of};
 use ml_base::NoMemory;
 use ml_graph::{ModalGraph, Node};
 use ml_sequent::{
@@ -14,11 +14,7 @@ use std::alloc::Global;
 use std::test::Fail;
 
 // The sequent of these nodes, if they are nodes of the graph.
-pub(crate) fn sequent_of(
-    alloc: Global,
-    graph: &ModalGraph,
-    nodes: &[u32],
-) -> Result<Option<Sequent>, Fail>
+fn sequent_of(alloc: Global, graph: &ModalGraph, nodes: &[u32]) -> Result<Option<Sequent>, Fail>
     ensures { IfOk result (λ found. IfSome found (λ sequent. All (λ n. n < size graph.now) sequent)) }
 {
     let sequent = Sequent::of(alloc, nodes)?;
@@ -85,18 +81,6 @@ fn first_wrong(alloc: Global, graph: &ModalGraph, rows: &[Row]) -> Result<Option
     Ok(None)
 }
 
-// p | !p, with one bar: both signs of each occurrence
-const EXCLUDED: [Node; 8] = [
-    Node::Or { left: 2, right: 4 },
-    Node::And { left: 3, right: 5 },
-    P,
-    NOT_P,
-    Node::And { left: 7, right: 7 },
-    Node::And { left: 6, right: 6 },
-    P,
-    NOT_P,
-];
-
 // A fixpoint at 0 and its dual at 1, and a node with a diamond and False.
 const FIXPOINTS: [Node; 8] = [
     Node::And { left: 2, right: 2 },
@@ -108,19 +92,6 @@ const FIXPOINTS: [Node; 8] = [
     Node::Or { left: 7, right: 5 },
     Node::False,
 ];
-
-const OF_EXCLUDED: [Row; 3] = [
-    (1, None, (Some(ClashCause::Pair(6, 3)), None, 0)),
-    (0, None, (None, Some(0), 0)),
-    (0, Some((0, Side::Left)), (None, None, 0)),
-];
-
-#[test]
-fn spreads_of_an_excluded_middle(rt: HostRuntime) -> Result<(), Fail> {
-    let graph = graph_of(rt.alloc(), &EXCLUDED, &[2; 8], 0)?;
-    assert_eq!(rt; first_wrong(rt.alloc(), &graph, &OF_EXCLUDED)?, None);
-    Ok(())
-}
 
 const OF_FIXPOINTS: [Row; 5] = [
     (0, None, (Some(ClashCause::Cycle(0)), None, 0)),
@@ -136,44 +107,8 @@ const OF_FIXPOINTS: [Row; 5] = [
 
 #[test]
 fn spreads_of_fixpoints(rt: HostRuntime) -> Result<(), Fail> {
-    let graph = graph_of(rt.alloc(), &FIXPOINTS, &[1, 0, 2, 2, 2, 2, 2, 2], 0)?;
+    let graph = graph_of(rt.alloc(), &FIXPOINTS, &[1, 0, 2, 2, 2, 2, 2, 2])?;
     assert_eq!(rt; first_wrong(rt.alloc(), &graph, &OF_FIXPOINTS)?, None);
-    Ok(())
-}
-
-// Has the sequent these values, as its nodes and in its copy too?
-fn is_sequent(sequent: &Sequent, values: &[u32]) -> Result<bool, Fail> {
-    let nodes = sequent.nodes()?;
-    let copy = sequent.copy()?;
-    Ok(sequent.values() == values && nodes.as_slice() == values && copy.values() == values)
-}
-
-#[test]
-fn sequents_are_lists(rt: HostRuntime) -> Result<(), Fail> {
-    let sequent = Sequent::of(rt.alloc(), &[5, 2, 5, 3])?;
-    assert!(rt; is_sequent(&sequent, &[2, 3, 5])?);
-    Ok(())
-}
-
-// The right side at 4 and the left one at 1.
-fn two_sides(alloc: Global) -> Result<Choice, Fail> {
-    let one = Choice::empty(alloc).with(4, Side::Right)?;
-    Ok(one.with(1, Side::Left)?)
-}
-
-// Has the choice these two sides?
-fn has_two_sides(choice: &Choice) -> bool {
-    choice.side(0).is_none()
-        && choice.side(1) == Some(Side::Left)
-        && choice.side(4) == Some(Side::Right)
-        && !choice.is_empty()
-}
-
-#[test]
-fn choices_are_lists(rt: HostRuntime) -> Result<(), Fail> {
-    let two = two_sides(rt.alloc())?;
-    assert!(rt; has_two_sides(&two) && has_two_sides(&two.copy()?));
-    assert!(rt; Choice::empty(rt.alloc()).is_empty());
     Ok(())
 }
 
@@ -221,44 +156,6 @@ fn is_step(
     }
 }
 
-// mu X. <>X: the binder and its dual, the modalities, and the variable, twice
-const LEAST: [Node; 8] = [
-    Node::And { left: 2, right: 2 },
-    Node::And { left: 3, right: 3 },
-    Node::Diamond { action: 0, to: 4 },
-    Node::Square { action: 0, to: 5 },
-    Node::And { left: 0, right: 0 },
-    Node::And { left: 1, right: 1 },
-    P,
-    NOT_P,
-];
-
-#[test]
-fn step_of_a_least_fixpoint(rt: HostRuntime) -> Result<(), Fail> {
-    let graph = graph_of(rt.alloc(), &LEAST, &[1, 0, 2, 2, 2, 2, 2, 2], 0)?;
-    assert!(rt; is_step(rt.alloc(), &graph, &[0], &[4], &[triple(0, 1, 4)])?);
-    Ok(())
-}
-
-const SEVERAL: [Node; 8] = [
-    Node::And { left: 1, right: 2 },
-    Node::And { left: 3, right: 4 },
-    Node::And { left: 3, right: 3 },
-    Node::Diamond { action: 0, to: 6 },
-    Node::Square { action: 0, to: 7 },
-    Node::Square { action: 0, to: 0 },
-    Node::True,
-    Node::True,
-];
-
-#[test]
-fn step_with_several_lowest_priorities(rt: HostRuntime) -> Result<(), Fail> {
-    let graph = graph_of(rt.alloc(), &SEVERAL, &[4, 1, 3, 5, 5, 5, 2, 2], 0)?;
-    let wanted = [triple(0, 1, 6), triple(0, 3, 6), triple(0, 1, 7)];
-    assert!(rt; is_step(rt.alloc(), &graph, &[0], &[6, 7], &wanted)?);
-    Ok(())
-}
-
 // 0 leads to 1 and 2, 1 back to 0 and to the diamond, 2 to the square; at 5 no side is chosen
 const WALKS: [Node; 8] = [
     Node::And { left: 1, right: 2 },
@@ -273,7 +170,7 @@ const WALKS: [Node; 8] = [
 
 #[test]
 fn walks_by_hand(rt: HostRuntime) -> Result<(), Fail> {
-    let graph = graph_of(rt.alloc(), &WALKS, &[3, 1, 2, 5, 4, 0, 8, 8], 0)?;
+    let graph = graph_of(rt.alloc(), &WALKS, &[3, 1, 2, 5, 4, 0, 8, 8])?;
     // with and without the way over 1 and back; 3 leads nowhere, 5 neither
     let wanted = [
         triple(0, 1, 6),
@@ -346,7 +243,7 @@ fn first_wrong_cause(
 
 #[test]
 fn causes_in_spreads(rt: HostRuntime) -> Result<(), Fail> {
-    let graph = graph_of(rt.alloc(), &CAUSES, &[1, 2, 2, 2, 2, 2, 2, 2], 0)?;
+    let graph = graph_of(rt.alloc(), &CAUSES, &[1, 2, 2, 2, 2, 2, 2, 2])?;
     assert_eq!(rt; first_wrong_cause(rt.alloc(), &graph, &IN_SPREADS)?, None);
     Ok(())
 }
@@ -398,7 +295,7 @@ fn is_extended(
 #[test]
 fn spreads_with_a_side_more(rt: HostRuntime) -> Result<(), Fail> {
     let alloc = rt.alloc();
-    let graph = graph_of(alloc, &CAUSES, &[1, 2, 2, 2, 2, 2, 2, 2], 0)?;
+    let graph = graph_of(alloc, &CAUSES, &[1, 2, 2, 2, 2, 2, 2, 2])?;
     assert!(rt; is_extended(alloc, &graph, 7, Side::Left, Some(&[0, 1, 5, 6, 7]))?);
     assert!(rt; is_extended(alloc, &graph, 7, Side::Right, Some(&[0, 1, 3, 5, 7]))?);
     assert!(rt; is_extended(alloc, &graph, 2, Side::Left, None)?);

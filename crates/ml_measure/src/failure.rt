@@ -13,8 +13,6 @@ pub enum Failure {
     Words,
     #[error("out of memory")]
     NoMemory,
-    #[error("a text that was made is that of no automaton")]
-    Automaton,
     #[error("{0}")]
     NotMade(NotMade),
     #[error("{0}")]

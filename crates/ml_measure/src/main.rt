@@ -9,7 +9,6 @@
 // Below stands `ml_tests`, whose generators it takes, and the crates that are measured; nothing stands above it.
 #![tactic(auto)]
 
-mod automata;
 mod counts;
 mod failure;
 mod forms;

@@ -1,19 +1,16 @@
 // The measurements: what they are called, what each makes, and how its time is told.
 //
-// `measure` makes what is measured, by the generators of `ml_tests` and of `automata`, and hands it to `solve_game`, to
-// `count_heights`, to `determinised`, or a row of steps of a history (`step_along`, `print_steps`). Each prints a line with
-// numbers that depend on all of the input and of the answer, so that nothing is left out.
+// `measure` makes what is measured, by the generators of `ml_tests`, and hands it to `solve_game`, to `count_heights`, or a
+// row of steps of a history (`step_along`, `print_steps`). Each prints a line with numbers that depend on all of the input and
+// of the answer, so that nothing is left out.
 ghost use Rattle.std.specs.Prelude.{◌<◌};
 
-use crate::automata::{MOST_HISTORIES, automaton_of, determinised, text_of_automaton};
 use crate::counts::{highest, read_game, read_graph, read_letter, won_by_even};
 use crate::failure::Failure;
 use crate::forms::Form;
 use ml_base::NoMemory;
-use ml_buchi::Deterministic;
 use ml_history::History;
 use ml_history::tree::TreeHistory;
-use ml_hoa::Buchi;
 use ml_parity::{EvenCycle, Game, Heights, OneSided, Solution, heights, solve};
 use ml_progress::measures;
 use ml_tests::{
@@ -26,8 +23,8 @@ use std::rt::Clock;
 use std::time::{Duration, Instant};
 
 /// What is measured.
-#[derive(Clone, Copy, Debug, PartialEq, Eq)]
-pub enum Measurement {
+#[derive(Clone, Copy)]
+pub(crate) enum Measurement {
     /// Solving a random game of so many vertices, three successors and eight priorities.
     Games,
     /// Solving a game of so many vertices that is deep.
@@ -57,8 +54,6 @@ pub enum Measurement {
     Row,
     /// An even cycle of such a graph.
     Cycle,
-    /// Making a Büchi automaton of so many states over eight propositions deterministic.
-    Automaton,
 }
 
 impl Measurement {
@@ -80,7 +75,6 @@ impl Measurement {
             "blocks" => Some(Measurement::Blocks),
             "row" => Some(Measurement::Row),
             "cycle" => Some(Measurement::Cycle),
-            "automaton" => Some(Measurement::Automaton),
             _ => None,
         }
     }
@@ -350,47 +344,6 @@ fn count_row<R: Print + Clock + AllocGlobal>(
     count_heights(rt, &graph, is_timed)
 }
 
-/// An automaton that looks random, and how long the reading of its text took.
-fn timed_automaton<R: Clock + AllocGlobal>(
-    rt: &R,
-    states: u32,
-) -> Result<(Buchi, Duration), Failure> {
-    let text = text_of_automaton(rt.alloc(), states)?;
-    let start = Instant::now(rt)?;
-    let automaton = automaton_of(rt.alloc(), text.as_str())?;
-    Ok((automaton, start.elapsed(rt)?))
-}
-
-/// Its deterministic automaton, and how long it took.
-fn timed_deterministic<R: Clock + AllocGlobal>(
-    rt: &R,
-    automaton: &Buchi,
-) -> Result<(Option<Deterministic>, Duration), Failure> {
-    let start = Instant::now(rt)?;
-    let found = determinised(rt.alloc(), automaton)?;
-    Ok((found, start.elapsed(rt)?))
-}
-
-/// Makes an automaton that looks random deterministic.
-fn determinise_random<R: Print + Clock + AllocGlobal>(
-    rt: &R,
-    states: u32,
-    is_timed: bool,
-) -> Result<(), Failure> {
-    let (automaton, read) = timed_automaton(rt, states)?;
-    let (found, work) = timed_deterministic(rt, &automaton)?;
-    match found {
-        Some(deterministic) => {
-            let count = deterministic.moves().len();
-            println!(rt; "an automaton of {states} states: {count} histories")?;
-        }
-        None => println!(rt;
-            "an automaton of {states} states: more than {MOST_HISTORIES} histories"
-        )?,
-    }
-    print_time(rt, is_timed, read, work)
-}
-
 /// Makes what is measured, and measures it.
 pub(crate) fn measure<R: Print + Clock + AllocGlobal>(
     rt: &R,
@@ -414,7 +367,6 @@ pub(crate) fn measure<R: Print + Clock + AllocGlobal>(
         Measurement::Blocks => count_blocks(rt, size, is_timed),
         Measurement::Row => count_row(rt, size, false, is_timed),
         Measurement::Cycle => count_row(rt, size, true, is_timed),
-        Measurement::Automaton => determinise_random(rt, size, is_timed),
     }
 }
 
@@ -436,7 +388,6 @@ pub(crate) fn measure_small<R: Print + Clock + AllocGlobal>(rt: &R) -> Result<()
         (Measurement::Blocks, 1000),
         (Measurement::Row, 100),
         (Measurement::Cycle, 100),
-        (Measurement::Automaton, 3),
     ];
     for (measurement, size) in small {
         measure(rt, measurement, size, false)?;

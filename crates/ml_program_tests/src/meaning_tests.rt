@@ -1,56 +1,78 @@
-// Formulas with the states at which they hold, worked out by hand.
-use crate::meanings::{Row, first_wrong};
-use crate::structures::four_states;
-use ml_front::Logic;
+// The calls that evaluate formulas and programs on a whole structure, each once.
+use ml_kripke::{Structure, read_model};
+use ml_pdl::{Modality, Term};
 use std::alloc::Global;
 use std::test::Fail;
 
-// The place of the first row that is wrong on the four states with the actions `_` and a.
-fn wrong(alloc: Global, rows: &[Row]) -> Result<Option<usize>, Fail> {
-    let structure = four_states(alloc, b"_", b"a")?;
-    first_wrong(alloc, Logic::Mu, &structure, rows)
+// Three states: by a from 0 to 1, and 1 and 2 to each other. p holds at 2.
+const THREE_STATES: &'static [u8] =
+    b"states 3\nstart 0\nstate 0\nstate 1\nstate 2 p\nedge 0 a 1\nedge 1 a 2\nedge 2 a 1\nend\n";
+
+// Does the formula of the mu-calculus hold at these states and at no others?
+fn is_set_of_mu(
+    alloc: Global,
+    text: &[u8],
+    structure: &Structure,
+    states: &[bool],
+) -> Result<bool, Fail> {
+    let formula = ml_mu::parse(alloc, text)?;
+    Ok(ml_mu::evaluate(alloc, &formula, structure)?.as_slice() == states)
 }
 
-const MEANINGS: [Row; 13] = [
-    (b"tt", [true, true, true, true]),
-    (b"p -> q", [true, true, false, true]),
-    (b"p <-> q", [true, false, false, false]),
-    (b"!p & q", [false, true, false, true]),
-    (b"<>q", [true, false, true, false]),
-    (b"<a>q", [false, false, true, true]),
-    (b"[]q", [true, false, true, true]),
-    (b"[a]ff", [true, true, false, false]),
-    (b"!<>p", [true, false, true, true]),
-    (b"mu X. p | <>X", [true, true, true, false]),
-    (b"nu X. <>X", [true, true, true, false]),
-    (b"mu X. []X", [false, false, false, true]),
-    // its iterates grow state by state: 2 and 3, then 1, then 0
-    (b"mu X. p | []X", [true, true, true, true]),
-];
+// Does the one of PDL?
+fn is_set_of_pdl(
+    alloc: Global,
+    text: &[u8],
+    structure: &Structure,
+    states: &[bool],
+) -> Result<bool, Fail> {
+    let formula = ml_pdl::parse(alloc, text)?;
+    Ok(ml_pdl_meaning::evaluate(alloc, &formula, structure)?.as_slice() == states)
+}
+
+// Does the one of PDL hold at this one?
+fn holds(alloc: Global, text: &[u8], structure: &Structure, state: u32) -> Result<bool, Fail> {
+    let formula = ml_pdl::parse(alloc, text)?;
+    if state >= structure.states() {
+        return Err(Fail::new("too few states"));
+    }
+    Ok(ml_pdl_meaning::holds(alloc, &formula, structure, state)?)
+}
+
+// Does the program of the diamond relate these states?
+fn relates(
+    alloc: Global,
+    diamond: &[u8],
+    structure: &Structure,
+    from: u32,
+    to: u32,
+) -> Result<bool, Fail> {
+    let formula = ml_pdl::parse(alloc, diamond)?;
+    if from >= structure.states() || to >= structure.states() {
+        return Err(Fail::new("too few states"));
+    }
+    match formula.root() {
+        Term::Modal(Modality::Diamond, program, _) => Ok(ml_pdl_meaning::relates(
+            alloc, program, structure, from, to,
+        )?),
+        _ => Err(Fail::new("no diamond")),
+    }
+}
+
+// Is all evaluated so?
+fn are_right(alloc: Global, structure: &Structure) -> Result<bool, Fail> {
+    Ok(
+        is_set_of_mu(alloc, b"mu X. p | [a]X", structure, &[true, true, true])?
+            && is_set_of_pdl(alloc, b"<(a;a)*>p", structure, &[true, false, true])?
+            && holds(alloc, b"repeat(a)", structure, 0)?
+            && relates(alloc, b"<a;(p)?>tt", structure, 1, 2)?
+            && !relates(alloc, b"<a;(p)?>tt", structure, 0, 1)?,
+    )
+}
 
 #[test]
 fn meanings(rt: HostRuntime) -> Result<(), Fail> {
-    assert_eq!(rt; wrong(rt.alloc(), &MEANINGS)?, None);
-    Ok(())
-}
-
-const FIXPOINTS: [Row; 9] = [
-    // nested: p again and again, and q for ever from some time on
-    (b"nu X. mu Y. <>((p & X) | Y)", [true, true, true, false]),
-    (b"mu X. nu Y. (q & <a>Y) | <a>X", [false, false, true, true]),
-    // unguarded
-    (b"mu X. X", [false, false, false, false]),
-    (b"nu X. X", [true, true, true, true]),
-    (b"mu X. X | p", [false, false, true, false]),
-    (b"mu X. nu Y. X | Y", [true, true, true, true]),
-    (b"nu X. mu Y. X & Y", [false, false, false, false]),
-    // rebound: with the outer X inside, 1 would be left out; behind the inner binder X is the outer one again
-    (b"mu X. p | <>(nu X. <>X)", [true, true, true, false]),
-    (b"nu X. (mu X. p | <a>X) | <a>X", [false, false, true, true]),
-];
-
-#[test]
-fn meanings_of_fixpoints(rt: HostRuntime) -> Result<(), Fail> {
-    assert_eq!(rt; wrong(rt.alloc(), &FIXPOINTS)?, None);
+    let model = read_model(rt.alloc(), THREE_STATES, 1)?;
+    assert!(rt; are_right(rt.alloc(), &model.structure)?);
     Ok(())
 }

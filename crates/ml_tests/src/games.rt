@@ -2,7 +2,6 @@
 ghost use Rattle.std.specs.Prelude.{◌≡◌, ◌<◌, IfOk, length, vec_len};
 ghost use Rattle.ml_parity.specs.Game.{size};
 ghost use Rattle.ml_parity.specs.Player.{side};
-ghost use Rattle.ml_tests.specs.SmallGames.{small_moves, small_game};
 
 use crate::not_made::NotMade;
 use crate::numbers::Numbers;
@@ -10,7 +9,7 @@ use ml_parity::{Game, Player};
 use std::alloc::{AllocError, Global};
 
 /// A vertex of a game: its owner, its priority and its successors.
-#[derive(Debug, Drop)]
+#[derive(Drop)]
 struct Vertex {
     owner: Player,
     priority: u32,
@@ -135,38 +134,4 @@ pub fn ladder(alloc: Global, vertices: u32) -> Result<Game, NotMade>
         })?;
     }
     game_of(alloc, all)
-}
-
-/// How many games `small_game` knows.
-pub const SMALL_GAMES: u64 = 324;
-
-/// The successors of a vertex of a small game.
-fn small_moves(alloc: Global, digit: u64) -> Result<Vec<u64>, AllocError>
-    ensures { IfOk result (λ moves. moves.items ≡ small_moves digit) }
-{
-    match digit % 3 {
-        0 => Vec::from_slice(alloc, &[0]),
-        1 => Vec::from_slice(alloc, &[1]),
-        _ => Vec::from_slice(alloc, &[0, 1]),
-    }
-}
-
-/// The game with this number of all those that have two vertices, priorities from 0 to 2, and one or both vertices as
-/// successors of each.
-///
-/// Numbers of `SMALL_GAMES` and more give the same games again.
-///
-/// # Errors
-/// `NoMemory` alone.
-pub fn small_game(alloc: Global, number: u64) -> Result<Game, NotMade>
-    ensures { IfOk result (λ g. g ≡ small_game number) }
-{
-    let owner = Vec::from_slice(alloc, &[player(number / 3), player(number / 54)])?;
-    let low = (number / 6 % 3) as u32;
-    let high = (number / 108 % 3) as u32;
-    let priority = Vec::from_slice(alloc, &[low, high])?;
-    let mut successors = Vec::new(alloc);
-    successors.push(small_moves(alloc, number)?)?;
-    successors.push(small_moves(alloc, number / 18)?)?;
-    Ok(Game::build(owner, priority, successors)?)
 }

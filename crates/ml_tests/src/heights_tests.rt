@@ -1,6 +1,5 @@
 // Small graphs worked out by hand: heights, and even cycles.
-use crate::graphs::{chain, checked};
-use crate::not_made::NotMade;
+use crate::graphs::checked;
 use ml_parity::{Arc, Heights, OneSided, heights, heights_ok};
 use std::alloc::{AllocError, Global};
 use std::test::Fail;
@@ -164,42 +163,5 @@ fn first_told_wrong(
 fn which_numbers_are_heights(rt: HostRuntime) -> Result<(), Fail> {
     let graph = checked(2, 2, arcs_of(rt.alloc(), &[(0, 0, 1), (1, 1, 1)])?)?;
     assert_eq!(rt; first_told_wrong(rt.alloc(), &graph, &NUMBERS)?, None);
-    Ok(())
-}
-
-// The height of a vertex for the lowest priority.
-fn height(alloc: Global, graph: &OneSided, vertex: usize) -> Result<Option<u64>, Fail> {
-    let Ok(found) = heights(alloc, graph)? else {
-        return Ok(None);
-    };
-    match found.rows.get(vertex) {
-        Some(row) => Ok(row.first().copied()),
-        None => Ok(None),
-    }
-}
-
-// A chain of a thousand arcs that lead down.
-fn chain_down(alloc: Global) -> Result<OneSided, NotMade> {
-    let mut arcs = Vec::new(alloc);
-    for to in 0..1000 {
-        arcs.push(Arc {
-            from: to + 1,
-            priority: 0,
-            to,
-        })?;
-    }
-    checked(1001, 0, arcs)
-}
-
-#[test]
-fn long_chains(rt: HostRuntime) -> Result<(), Fail> {
-    assert_eq!(rt;
-        height(rt.alloc(), &chain(rt.alloc(), 1000)?, 0)?,
-        Some(1000)
-    );
-    assert_eq!(rt;
-        height(rt.alloc(), &chain_down(rt.alloc())?, 1000)?,
-        Some(1000)
-    );
     Ok(())
 }

@@ -1,15 +1,12 @@
-// Generators of games, graphs, letters and structures, and the tests of parity games, heights, traces and histories.
+// Generators of games, graphs and letters, and the tests of parity games, heights, traces and histories.
 //
 // Tests and measurements take what they try from here. Begin with `Numbers`, numbers that look random and are the same
 // in each run; `random_game`, `ladder` and `game_of_rows` give games, `chain`, `random_blocks` and `slow_row` one-sided
-// graphs, `random_letter` and `deep_letter` letters of the trace automaton; a `Draft` becomes a Kripke structure. The tests
-// compare fast programs with the plain ones that are their reference.
+// graphs, `random_letter` and `deep_letter` letters of the trace automaton.
 //
-// Below stand the crates whose programs are compared; above stands `ml_measure`. Tests of graphs and decision games stand
-// in `ml_game_tests`.
+// Above stands `ml_measure`. Tests of the local phase stand in `ml_game_tests`.
 #![tactic(auto)]
 
-pub mod drafts;
 pub mod games;
 pub mod graphs;
 #[cfg(test)]
@@ -22,12 +19,9 @@ pub mod numbers;
 #[cfg(test)]
 mod parity_tests;
 #[cfg(test)]
-mod tests;
-#[cfg(test)]
 mod trace_tests;
 
-pub use drafts::{Arrow, Draft, Label, draft_of};
-pub use games::{SMALL_GAMES, game_of_rows, ladder, random_game, small_game};
+pub use games::{game_of_rows, ladder, random_game};
 pub use graphs::{chain, random_blocks, slow_row};
 pub use letters::{deep_letter, random_letter};
 pub use not_made::NotMade;

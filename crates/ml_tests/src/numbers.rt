@@ -6,7 +6,7 @@ ghost use Rattle.ml_tests.specs.Numbers.{next_state, drawn};
 ///
 /// It is a linear congruential generator modulo 2^64 with the multiplier of Knuth's MMIX, of which the upper half is
 /// taken.
-#[derive(Clone, Copy, Debug)]
+#[derive(Clone, Copy)]
 pub struct Numbers {
     state: u64,
 }

@@ -1,8 +1,8 @@
-// Small games worked out by hand: what `Game::build` refuses, and who wins by the two solvers.
-use crate::{NotMade, game_of_rows};
+// Small games worked out by hand: who wins by the two solvers.
+use crate::game_of_rows;
 use ml_base::NoMemory;
 use ml_parity::plain::solve_plain;
-use ml_parity::{Game, GameRefusal, Player, Solution, solve};
+use ml_parity::{Game, Player, Solution, solve};
 use std::alloc::Global;
 use std::test::Fail;
 
@@ -12,31 +12,6 @@ type Row = (Player, u32, &'static [u64]);
 const E: Player = Player::Even;
 
 const O: Player = Player::Odd;
-
-// Rows, and why they are no game.
-const REFUSED: [(&'static [Row], GameRefusal); 3] = [
-    (&[(E, 0, &[])], GameRefusal::DeadEnd(0)),
-    (&[(E, 0, &[1])], GameRefusal::OutOfRange(0)),
-    (
-        &[(E, 0, &[3]), (O, 0, &[]), (O, 0, &[])],
-        GameRefusal::DeadEnd(1),
-    ),
-];
-
-// The place of the first rows that are refused otherwise.
-fn first_wrong_refusal(alloc: Global, table: &[(&'static [Row], GameRefusal)]) -> Option<usize> {
-    for (place, (rows, refusal)) in table.iter().enumerate() {
-        if game_of_rows(alloc, rows).err() != Some(NotMade::Game(*refusal)) {
-            return Some(place);
-        }
-    }
-    None
-}
-
-#[test]
-fn build_refuses_the_least_vertex(rt: HostRuntime) {
-    assert_eq!(rt; first_wrong_refusal(rt.alloc(), &REFUSED), None);
-}
 
 // A game, its winners, and the choices of both solvers.
 type Worked = (&'static [Row], &'static [Player], &'static [u64]);

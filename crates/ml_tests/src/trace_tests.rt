@@ -1,19 +1,8 @@
 // The trace automaton: worked rows, and each call once on its happy path.
 use ml_trace::{
-    AutomatonState, Letter, LocalTraces, STATE_LIMIT, Transition, Triple, letter_of, number,
-    state_of,
+    AutomatonState, Letter, LocalTraces, Transition, Triple, letter_of, number, state_of,
 };
-use std::alloc::Global;
 use std::test::Fail;
-
-// The transition from one number to another.
-fn transition(from: u32, to: u32, accepting: bool) -> Transition {
-    Transition {
-        from,
-        to,
-        accepting,
-    }
-}
 
 // The transitions of the letter of one triple.
 const OF_ONE_TRIPLE: [Transition; 3] = [
@@ -80,31 +69,4 @@ fn states_have_numbers(rt: HostRuntime) {
         odd: Some(5),
     };
     assert_eq!(rt; number(&state, &[1, 5]), 14);
-}
-
-#[test]
-fn letters_stand_by_targets(rt: HostRuntime) -> Result<(), Fail> {
-    let given = [
-        transition(1, 7, true),
-        transition(0, 3, false),
-        transition(5, 7, false),
-    ]
-    .to_vec(rt.alloc())?;
-    let first = Letter::new(given).and_then(|letter| letter.transitions().first().copied());
-    assert_eq!(rt; first, Some(transition(0, 3, false)));
-    Ok(())
-}
-
-// Whether the transition with these ends makes a letter.
-fn is_letter(alloc: Global, from: u32, to: u32) -> Result<bool, Fail> {
-    let transitions = [transition(from, to, true)].to_vec(alloc)?;
-    Ok(Letter::new(transitions).is_some())
-}
-
-#[test]
-fn letters_have_small_ends(rt: HostRuntime) -> Result<(), Fail> {
-    assert!(rt; is_letter(rt.alloc(), STATE_LIMIT - 1, 0)?);
-    assert!(rt; !is_letter(rt.alloc(), STATE_LIMIT, 0)?);
-    assert!(rt; !is_letter(rt.alloc(), 0, STATE_LIMIT)?);
-    Ok(())
 }

@@ -1,2 +1,0 @@
--- tables of moves that are automata
-pub mod AutomatonTables
