@@ -3,7 +3,7 @@
 use ml_kripke::Structure;
 
 /// A quotient, and the class of each state of the structure of which it was made: a state of the quotient.
-#[derive(Debug, Drop)]
+#[derive(Drop)]
 pub struct Quotient {
     pub structure: Structure,
     pub class: Vec<u32>,

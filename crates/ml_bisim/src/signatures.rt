@@ -10,14 +10,14 @@ use ml_kripke::Structure;
 use std::alloc::Global;
 
 /// An edge of a state: the number of its action, and the class into which it leads.
-#[derive(Debug, Clone, Copy, PartialEq, Eq, PartialOrd, Ord, Hash, Drop)]
+#[derive(Clone, Copy, PartialEq, Eq, PartialOrd, Ord, Hash, Drop)]
 pub(crate) struct Step {
     pub action: usize,
     pub class: usize,
 }
 
 /// The class of a state, and into which classes its edges lead, in ascending order.
-#[derive(Debug, PartialEq, Eq, Hash, Drop)]
+#[derive(PartialEq, Eq, Hash, Drop)]
 pub(crate) struct Signature {
     pub class: usize,
     pub steps: Vec<Step>,

@@ -120,7 +120,7 @@ pub(crate) fn others(alloc: Global, x: Asked, items: &[Asked]) -> Result<Vec<Ask
 }
 
 // The items of a block. Contracts see the list.
-#[derive(Debug, Drop)]
+#[derive(Drop)]
 pub(crate) struct Items {
     list: Vec<Asked>,
 }

@@ -14,7 +14,7 @@ use ml_text::Operator;
 use std::alloc::{AllocError, Global};
 
 // the nodes that all graphs have
-#[derive(Clone, Copy, Debug, PartialEq, Eq, Hash)]
+#[derive(Clone, Copy, PartialEq, Eq, Hash)]
 pub(crate) enum Fixed {
     Root,
     Total,
@@ -25,7 +25,7 @@ pub(crate) enum Fixed {
 }
 
 // of which part of a formula a state asks: the whole, or the two parts of an iff
-#[derive(Clone, Copy, Debug, PartialEq, Eq, Hash)]
+#[derive(Clone, Copy, PartialEq, Eq, Hash)]
 pub(crate) enum Part {
     Whole,
     Both,
@@ -33,7 +33,7 @@ pub(crate) enum Part {
 }
 
 // the item that a block begins with, its sign, its items and which eventuality is in focus
-#[derive(Debug, Drop, PartialEq, Eq, Hash)]
+#[derive(Drop, PartialEq, Eq, Hash)]
 pub(crate) struct Block {
     pub first: Asked,
     pub positive: bool,
@@ -42,14 +42,14 @@ pub(crate) struct Block {
 }
 
 // which node a graph begins with: the root, or the one that the problem starts with
-#[derive(Clone, Copy, Debug)]
+#[derive(Clone, Copy)]
 pub(crate) enum Beginning {
     Root,
     Start,
 }
 
 // a node
-#[derive(Debug, Drop, PartialEq, Eq, Hash)]
+#[derive(Drop, PartialEq, Eq, Hash)]
 pub(crate) enum Spot {
     Fixed(Fixed),
     State(Part, u32, bool),

@@ -9,7 +9,7 @@ use std::marker::Model;
 /// A deterministic parity automaton: in each state it has one move for each valuation of the propositions, and it begins in
 /// the state 0. A run is accepted if the lowest priority that it meets again and again is odd; where the automaton comes from
 /// `determinise`, all priorities are below `top`. Contracts see the record of `specs/Deterministic.antt`.
-#[derive(Debug, Drop)]
+#[derive(Drop)]
 pub struct Deterministic {
     props: Vec<Quoted>,
     top: u32,

@@ -19,7 +19,7 @@ use ml_trace::Letter;
 use std::alloc::Global;
 
 /// A move of the deterministic automaton along a letter: its priority, and the number of the state that it leads to.
-#[derive(Clone, Copy, PartialEq, Eq, Debug)]
+#[derive(Clone, Copy, PartialEq, Eq)]
 pub struct DetMove {
     pub priority: u32,
     pub to: u32,

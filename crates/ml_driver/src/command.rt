@@ -25,7 +25,7 @@ use ml_task::LONGEST_TASK_TEXT;
 use std::alloc::{AllocError, Global};
 
 /// What the words ask for.
-#[derive(Clone, Copy, Debug, PartialEq, Eq)]
+#[derive(Clone, Copy, PartialEq, Eq)]
 pub enum Command {
     /// `decide LOGIC`: is the formula on the input satisfiable? The decision game may have as many positions as the limit.
     Decide { logic: Logic, limit: u32 },

@@ -3,7 +3,7 @@ ghost use Rattle.std.specs.Prelude.{◌≡◌};
 ghost use Rattle.ml_driver.specs.Games.{engine_named, engine_word};
 
 /// How `solve-game` solves a parity game.
-#[derive(Clone, Copy, Debug, PartialEq, Eq)]
+#[derive(Clone, Copy, PartialEq, Eq)]
 pub enum Engine {
     /// By Zielonka's recursion.
     Recursive,

@@ -5,7 +5,7 @@ ghost use Rattle.ml_driver.specs.Bench.{answer_of};
 use ml_front::Answer;
 
 /// What is found of a problem: its graph, its decision game and the answer, or what came before the limit that was passed.
-#[derive(Clone, Copy, Debug, PartialEq, Eq)]
+#[derive(Clone, Copy, PartialEq, Eq)]
 pub enum Finding {
     /// The graph has so many nodes, and the game so many positions.
     Decided {

@@ -2,7 +2,7 @@
 use ml_front::Logic;
 
 /// How an answer is sought.
-#[derive(Clone, Copy, Debug, PartialEq, Eq)]
+#[derive(Clone, Copy, PartialEq, Eq)]
 pub enum Way {
     /// By the whole decision game: the limit alone tells whether there is an answer.
     WholeGame,
@@ -12,7 +12,7 @@ pub enum Way {
 
 /// What a command asks of a text: is the formula, or its negation, satisfiable? The decision game may have as many
 /// positions as the limit.
-#[derive(Clone, Copy, Debug, PartialEq, Eq)]
+#[derive(Clone, Copy, PartialEq, Eq)]
 pub struct Question {
     pub logic: Logic,
     pub negated: bool,

@@ -3,7 +3,7 @@ ghost use Rattle.std.specs.Prelude.{◌≡◌};
 ghost use Rattle.ml_front.specs.RuleNumbers.{rule_number};
 
 /// A rule that a line of the head of a document keeps.
-#[derive(Clone, Copy, Debug, PartialEq, Eq)]
+#[derive(Clone, Copy, PartialEq, Eq)]
 pub enum HeadRule {
     /// The line is there and of the kind that stands there.
     OfKind,

@@ -3,7 +3,7 @@ ghost use Rattle.std.specs.Prelude.{◌≡◌, ◌≢◌, MatchOption};
 ghost use Rattle.ml_front.specs.Logics.{logic_named, logic_word};
 
 /// The logics whose formulas are read.
-#[derive(Clone, Copy, Debug, PartialEq, Eq)]
+#[derive(Clone, Copy, PartialEq, Eq)]
 pub enum Logic {
     /// The modal mu-calculus.
     Mu,

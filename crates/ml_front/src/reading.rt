@@ -25,7 +25,7 @@ use ml_lines::{more_words, split_line, two_words};
 use std::alloc::Global;
 
 // Why a line has no formula.
-#[derive(Clone, Copy, Debug, PartialEq, Eq)]
+#[derive(Clone, Copy, PartialEq, Eq)]
 pub(crate) enum FormulaRefusal {
     /// The lowest rule that it breaks.
     Breaks(HeadRule),

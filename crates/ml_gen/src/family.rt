@@ -4,7 +4,7 @@ ghost use Rattle.ml_gen.specs.Families.{family_word, logic_name};
 ghost use Rattle.ml_gen.specs.FamilyRanges.{family_named, greatest, is_in_range};
 
 /// The families of formulas.
-#[derive(Clone, Copy, Debug, PartialEq, Eq)]
+#[derive(Clone, Copy, PartialEq, Eq)]
 pub enum Family {
     /// Of the mu-calculus: `p1 & p2 & ..`.
     And,

@@ -10,7 +10,7 @@ use std::marker::Model;
 
 /// A string of a text: the bytes between its quotes, as they stand there, a `\` and the byte behind it too. Contracts see
 /// the bytes.
-#[derive(Debug, Drop)]
+#[derive(Drop)]
 pub struct Quoted {
     bytes: Vec<u8>,
 }
@@ -54,7 +54,7 @@ impl Quoted {
 }
 
 /// An edge of an automaton: it may be taken where its guard is true.
-#[derive(Debug, Drop)]
+#[derive(Drop)]
 pub struct BuchiEdge {
     pub from: u32,
     pub guard: Guard,

@@ -2,7 +2,7 @@
 
 /// A formula over the propositions of an automaton, which are known by their numbers. Contracts see it as the plain guard of
 /// `specs/Automaton.antt`, without the places of its boxes.
-#[derive(Debug, Drop)]
+#[derive(Drop)]
 pub enum Guard {
     Const(bool),
     Ap(u32),

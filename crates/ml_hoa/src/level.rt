@@ -10,7 +10,7 @@ use ml_base::NoMemory;
 use std::alloc::Global;
 
 // the operands of `|` before, those of `&`, and how many `!` stand before the next operand
-#[derive(Debug, Drop)]
+#[derive(Drop)]
 pub(crate) struct Level {
     pub ors: Option<Guard>,
     pub ands: Option<Guard>,

@@ -69,7 +69,7 @@ pub(crate) enum Stage {
 }
 
 // which headers stood
-#[derive(Clone, Copy, Debug)]
+#[derive(Clone, Copy)]
 pub(crate) struct Stood {
     pub states: bool,
     pub start: bool,

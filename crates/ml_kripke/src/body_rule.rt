@@ -3,7 +3,7 @@ ghost use Rattle.std.specs.Prelude.{◌≡◌};
 ghost use Rattle.ml_kripke.specs.RuleNumbers.{rule_number};
 
 /// A rule that a line of the body of a satisfiable document keeps.
-#[derive(Clone, Copy, Debug, PartialEq, Eq)]
+#[derive(Clone, Copy, PartialEq, Eq)]
 pub enum BodyRule {
     /// The line is there and of the kind that stands there.
     OfKind,

@@ -2,7 +2,7 @@
 use ml_base::DocFault;
 
 /// What checking a document finds.
-#[derive(Clone, Copy, Debug, PartialEq, Eq)]
+#[derive(Clone, Copy, PartialEq, Eq)]
 pub enum Checked {
     /// The problem of the document holds at the start of its structure.
     Holds,

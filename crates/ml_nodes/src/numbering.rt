@@ -13,7 +13,7 @@ use std::hash::Hash;
 
 /// What a node is, by the values to which it leads: a constant, a proposition by its place or its negation, an and, or else
 /// an or, of two values or of one twice, a diamond, or else a square, by the action 0.
-#[derive(Debug, Drop)]
+#[derive(Drop)]
 pub enum Form<P> {
     Constant(bool),
     Literal(u32, bool),

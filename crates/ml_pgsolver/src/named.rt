@@ -10,7 +10,7 @@ use std::marker::Model;
 
 /// A parity game with the id of each vertex: the vertices stand in ascending order of their ids, and there is one.
 /// Contracts see the list of the ids, and the game.
-#[derive(Debug, Drop)]
+#[derive(Drop)]
 pub struct Named {
     ids: IdSet,
     game: Game,

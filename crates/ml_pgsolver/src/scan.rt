@@ -32,7 +32,7 @@ pub(crate) enum Sign {
 }
 
 // a sign with the place of its first byte and the place behind its last one
-#[derive(Clone, Copy, Debug)]
+#[derive(Clone, Copy)]
 pub(crate) struct PlacedSign {
     pub sign: Sign,
     pub start: usize,

@@ -3,7 +3,7 @@
 use ml_sequent::Side;
 
 /// A sequent and a history, by their numbers in the tables of a pool.
-#[derive(Clone, Copy, Debug, Drop, PartialEq, Eq, Hash)]
+#[derive(Clone, Copy, Drop, PartialEq, Eq, Hash)]
 pub struct Site {
     pub sequent: u32,
     pub history: u32,

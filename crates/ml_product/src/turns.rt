@@ -21,7 +21,7 @@ use ml_sequent::{Branch, Side};
 use std::alloc::Global;
 
 /// What is done at a position: nothing more than is recorded of it, or sides are to be chosen at an or-node.
-#[derive(Debug, Drop)]
+#[derive(Drop)]
 pub(crate) enum Turn {
     Ended(Recorded),
     Open(u32),

@@ -1,7 +1,7 @@
 // What is answered to a task.
 
 /// What is answered to a task.
-#[derive(Clone, Copy, Debug, PartialEq, Eq)]
+#[derive(Clone, Copy, PartialEq, Eq)]
 pub enum Answer {
     /// A machine realizes it.
     Realizable,

@@ -3,7 +3,7 @@ ghost use Rattle.std.specs.Prelude.{◌≡◌};
 ghost use Rattle.ml_refutation_text.specs.RuleNumbers.{rule_number};
 
 /// A rule that a line of the body of an unsatisfiable document keeps.
-#[derive(Clone, Copy, Debug, PartialEq, Eq)]
+#[derive(Clone, Copy, PartialEq, Eq)]
 pub enum BodyRule {
     /// The line is there and of a kind that stands there.
     OfKind,

@@ -1,7 +1,7 @@
 // The lines at which the parts of entries begin, as the reader of a refutation tells them.
 
 /// The first line of each part of an entry, by the numbers that lines have in refusals.
-#[derive(Clone, Copy, Debug, PartialEq, Eq)]
+#[derive(Clone, Copy, PartialEq, Eq)]
 pub struct EntryLines {
     /// The `sequent` line in version 1, and the `entry` line, which names the sequent, in version 2.
     pub sequent: u64,
@@ -14,7 +14,7 @@ pub struct EntryLines {
 }
 
 /// The lines of all entries, in the order of the entries.
-#[derive(Debug, Drop)]
+#[derive(Drop)]
 pub struct Lines {
     pub entries: Vec<EntryLines>,
 }

@@ -20,7 +20,7 @@ pub(crate) struct Rest<'a> {
 }
 
 /// Why a line is refused.
-#[derive(Clone, Copy, Debug, PartialEq, Eq)]
+#[derive(Clone, Copy, PartialEq, Eq)]
 pub(crate) enum LineRefusal {
     /// The lowest rule that it breaks.
     Breaks(BodyRule),

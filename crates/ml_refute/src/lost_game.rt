@@ -16,7 +16,7 @@ use ml_sequent::{Branch, ClashCause};
 use ml_trace::Mark;
 
 /// What is done at a position.
-#[derive(Clone, Copy, Debug)]
+#[derive(Clone, Copy)]
 pub(crate) enum Turn {
     /// The spread clashes.
     Clash(ClashCause),

@@ -13,7 +13,7 @@ pub struct Fault {
 }
 
 /// What checking a refutation against a graph finds.
-#[derive(Clone, Copy, Debug, PartialEq, Eq)]
+#[derive(Clone, Copy, PartialEq, Eq)]
 pub enum Finding {
     /// No part of it breaks a rule.
     Accepted,
@@ -22,7 +22,7 @@ pub enum Finding {
 }
 
 /// A bad part among parts in a row, by its place there, with the lowest rule that it breaks.
-#[derive(Clone, Copy, Debug, PartialEq, Eq)]
+#[derive(Clone, Copy, PartialEq, Eq)]
 pub(crate) struct BadPart {
     pub part: usize,
     pub rule: u32,

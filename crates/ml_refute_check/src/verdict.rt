@@ -2,7 +2,7 @@
 use ml_base::DocFault;
 
 /// What checking an unsatisfiable document finds.
-#[derive(Clone, Copy, Debug, PartialEq, Eq)]
+#[derive(Clone, Copy, PartialEq, Eq)]
 pub enum Verdict {
     /// The document shows a refutation that breaks no rule: its problem holds nowhere.
     Accepted,

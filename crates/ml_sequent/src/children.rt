@@ -8,7 +8,7 @@ use crate::choice::{Choice, Side};
 use ml_graph::{ModalGraph, Node};
 
 /// The local children of a node.
-#[derive(Clone, Copy, Debug, PartialEq, Eq)]
+#[derive(Clone, Copy, PartialEq, Eq)]
 pub(crate) enum LocalChildren {
     Leaf,
     One(u32),

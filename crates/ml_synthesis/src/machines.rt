@@ -7,7 +7,7 @@ ghost use Rattle.ml_synthesis.specs.declared.machines.MachineStep.{MachineStep};
 use std::marker::Model;
 
 /// What a machine does in a state where it gets a set of inputs: the set of outputs that it gives, and its next state.
-#[derive(Clone, Copy, PartialEq, Eq, Debug)]
+#[derive(Clone, Copy, PartialEq, Eq)]
 pub struct MachineStep {
     pub give: u32,
     pub next: u32,
@@ -15,7 +15,7 @@ pub struct MachineStep {
 
 /// A machine: for each state its steps, one for each set of inputs, sets ascending. It begins in state 0. Contracts see
 /// the lists of steps.
-#[derive(Debug, Drop)]
+#[derive(Drop)]
 pub struct Machine {
     pub steps: Vec<Vec<MachineStep>>,
 }
@@ -44,7 +44,7 @@ impl Model for Machine {
 
 /// An environment: for each state the set of inputs that it plays, and its next states, one for each set of outputs,
 /// sets ascending. It begins in state 0. Contracts see the two lists.
-#[derive(Debug, Drop)]
+#[derive(Drop)]
 pub struct Environment {
     pub plays: Vec<u32>,
     pub next: Vec<Vec<u32>>,

@@ -3,7 +3,7 @@
 use crate::machines::{Environment, Machine};
 
 /// What is made of an automaton: a machine, or an environment that defeats all machines.
-#[derive(Debug, Drop)]
+#[derive(Drop)]
 pub enum Outcome {
     /// No word of the machine is accepted.
     Made(Machine),

@@ -5,7 +5,7 @@ ghost use Rattle.ml_task.specs.TaskText.{rule_number};
 use ml_base::NoMemory;
 
 /// A rule that a line of a task keeps.
-#[derive(Clone, Copy, Debug, PartialEq, Eq)]
+#[derive(Clone, Copy, PartialEq, Eq)]
 pub enum TaskRule {
     /// The line is there and of the kind that stands there; nothing follows the third.
     OfKind,
@@ -38,7 +38,7 @@ impl TaskRule {
 }
 
 // Why a line was refused.
-#[derive(Clone, Copy, Debug, PartialEq, Eq)]
+#[derive(Clone, Copy, PartialEq, Eq)]
 pub(crate) enum LineRefusal {
     /// The lowest rule that it breaks.
     Breaks(TaskRule),

@@ -1,7 +1,7 @@
 // The forms of operands as a program holds them while it reads a text.
 
 /// What a sign is behind an operand.
-#[derive(Clone, Copy, Debug, PartialEq, Eq)]
+#[derive(Clone, Copy, PartialEq, Eq)]
 pub enum Role {
     /// An operator of this level; a greater level binds tighter.
     Infix(u8),

@@ -7,7 +7,7 @@ pub const MOST_OCCURRENCES: u32 = 1000;
 pub const MOST_OPEN: u32 = 1000;
 
 /// Which parenthesis a sign is.
-#[derive(Clone, Copy, Debug, PartialEq, Eq)]
+#[derive(Clone, Copy, PartialEq, Eq)]
 pub enum Bracket {
     Opening,
     Closing,

@@ -29,7 +29,7 @@ impl Operator {
 }
 
 /// What stands at a place of a text.
-#[derive(Clone, Copy, Debug, PartialEq, Eq)]
+#[derive(Clone, Copy, PartialEq, Eq)]
 pub enum Token {
     /// `!` or `~`
     Not,
@@ -42,7 +42,7 @@ pub enum Token {
 }
 
 /// Which letters begin a word; a letter that begins none is a token by itself.
-#[derive(Clone, Copy, Debug, PartialEq, Eq)]
+#[derive(Clone, Copy, PartialEq, Eq)]
 pub enum WordStart {
     AnyLetter,
     LowerCase,
@@ -59,7 +59,7 @@ fn begins_word(words: WordStart, byte: u8) -> bool
 }
 
 /// A token with the place of its first byte and the place behind its last one.
-#[derive(Clone, Copy, Debug, PartialEq, Eq)]
+#[derive(Clone, Copy, PartialEq, Eq)]
 pub struct Placed {
     pub token: Token,
     pub start: usize,

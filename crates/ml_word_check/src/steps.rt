@@ -9,7 +9,7 @@ use ml_kripke::Structure;
 use std::alloc::Global;
 
 /// Where the edges by `_` of a state lead.
-#[derive(Clone, Copy, Debug, PartialEq, Eq)]
+#[derive(Clone, Copy, PartialEq, Eq)]
 pub(crate) enum Steps {
     /// There is none.
     Nowhere,

@@ -17,7 +17,7 @@ use ml_text::Operator;
 use std::alloc::Global;
 
 // which node of an occurrence: itself, itself at the next state, or what is said beside the right operand
-#[derive(Clone, Copy, Debug)]
+#[derive(Clone, Copy)]
 pub(crate) enum Kind {
     Now,
     Later,

@@ -13,7 +13,7 @@ use ml_trace::Transition;
 use std::alloc::Global;
 
 /// An offer to a state: the stack of a source, with a new name where the transition accepts.
-#[derive(Clone, Copy, Debug)]
+#[derive(Clone, Copy)]
 pub(crate) struct Offer {
     pub(crate) target: u32,
     /// The index of the state whose stack is offered.

@@ -12,7 +12,7 @@ use std::marker::Model;
 
 /// The transitions of a letter, those of one source together, so that the targets of a state are found without a look at
 /// all transitions. Contracts see the list of the transitions.
-#[derive(Debug, Drop)]
+#[derive(Drop)]
 pub(crate) struct Moves {
     by_source: Vec<Transition>,
 }

@@ -24,7 +24,7 @@ impl Model for Heights {
 /// A cycle whose lowest priority is even.
 ///
 /// Contracts see the list of its arcs.
-#[derive(Debug, Drop)]
+#[derive(Drop)]
 pub struct EvenCycle {
     /// The arcs, each of which begins where the one before it ends; the last one ends where the first one begins.
     pub arcs: Vec<Arc>,
