@@ -3,8 +3,8 @@ ghost use Rattle.std.specs.Prelude.{ℕ, ◌≡◌, ◌<◌, ◌↔◌, length, 
 ghost use Rattle.ml_bisim.specs.Quotient.{class_of};
 ghost use Rattle.ml_bisim.specs.private.Rounds.{AreChosen, HasMembers, IsSettled, rows};
 
-use crate::ascending::ascend;
 use ml_base::NoMemory;
+use ml_kripke::ascend;
 use std::alloc::Global;
 
 /// These states, which aren't settled, and behind them one settled state of each of their classes, where there is one.

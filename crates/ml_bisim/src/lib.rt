@@ -13,7 +13,6 @@
 // Below stand `ml_kripke`, for structures, and `ml_graph`, for graphs and the game that says where they hold.
 #![tactic(auto)]
 
-mod ascending;
 mod choice;
 mod edges;
 pub mod laws;

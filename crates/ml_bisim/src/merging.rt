@@ -82,7 +82,7 @@ fn class_edges(alloc: Global, structure: &Structure, class: &[u32]) -> Result<Ve
     requires { length class.now ≡ structure.now.states }
     ensures { IfOk result (λ edges. edges.items ≡ map (between_classes class.now) structure.now.edges) }
 {
-    let _states = structure.states();
+    structure.keeps();
     let mut edges = Vec::with_capacity(alloc, structure.edge_count())?;
     for edge in structure.edges() {
         edges.push(Edge {

@@ -54,7 +54,7 @@ fn by_labels(alloc: Global, structure: &Structure) -> Result<Numbering, NoMemory
     ensures part { IfOk result (λ n. IsPartition structure.now n.numbers.items) }
     ensures in_turn { IfOk result (λ n. RunsOn 0 n.numbers.items n.count) }
 {
-    let _states = structure.states();
+    structure.keeps();
     let rows = label_rows(alloc, structure)?;
     numbered(alloc, rows)
 }

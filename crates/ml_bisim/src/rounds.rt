@@ -4,8 +4,8 @@
 // other state of each of their classes. In the first round it looks at all.
 ghost use Rattle.std.specs.Prelude.{ℕ, ◌≡◌, ◌<◌, ◌≤◌, [], length, get_or, All, Contains, IfOk, OnOk};
 ghost use Rattle.ml_bisim.specs.Quotient.{AreClasses};
-ghost use Rattle.ml_bisim.specs.private.Signatures.{AreEdges};
-ghost use Rattle.ml_bisim.specs.private.Rounds.{AreListed, AreRenamed, AreSet, Grows, HasMembers, IsCutOff, IsLoose, IsRefined, IsSettled, IsSplit, rows};
+ghost use Rattle.ml_bisim.specs.private.Signatures.{AreEdges, AreParts};
+ghost use Rattle.ml_bisim.specs.private.Rounds.{AreListed, AreRenamed, AreSet, Grows, HasMembers, IsCut, IsCutOff, IsLoose, IsRefined, IsSettled, IsSplit, rows};
 
 use crate::choice::chosen;
 use crate::edges::{Edges, edges_of};
@@ -27,7 +27,7 @@ use std::alloc::Global;
 pub(crate) fn classes(alloc: Global, structure: &Structure) -> Result<Numbering, NoMemory>
     ensures { IfOk result (λ classes. AreClasses structure.now classes.count classes.numbers.items) }
 {
-    let _states = structure.states();
+    structure.keeps();
     let edges = edges_of(alloc, structure)?;
     let mut unsettled = all_states(alloc, structure)?;
     let mut partition = Partition::by_labels(alloc, structure, &unsettled)?;
@@ -61,7 +61,7 @@ fn refine(
     ensures refined { IfOk result (λ next. IsRefined structure.now partition.new next.items) }
     ensures grows { IfOk result (λ next. Grows partition.old.class.items partition.new.class.items next.items) }
 {
-    let _states = structure.states();
+    structure.keeps();
     let renamed = split(alloc, structure, edges, partition, unsettled)?;
     unsettle(alloc, structure, edges, partition, &renamed)
 }
@@ -86,13 +86,54 @@ fn split(
         &partition.is_settled,
         unsettled,
     )?;
-    let parts = parts(alloc, structure, edges, &partition.class, &states)?;
+    cut(alloc, structure, edges, partition, &states, first)
+}
+
+// The classes of the chosen states are cut into their parts.
+fn cut(
+    alloc: Global,
+    structure: &Structure,
+    edges: &Edges,
+    partition: &mut Partition,
+    states: &[u32],
+    first: usize,
+) -> Result<Vec<u32>, NoMemory>
+    requires edges { AreEdges structure.now edges.now }
+    requires each_state { length partition.old.class.items ≡ structure.now.states }
+    requires in_range { All (λ s. s < structure.now.states) states.now }
+    requires members { HasMembers partition.old.class.items (length partition.old.class.items) (rows partition.old.members.items) }
+    requires keepers { length partition.old.keeper.items ≡ length partition.old.members.items }
+    requires flags { length partition.old.is_settled.items ≡ length partition.old.class.items }
+    requires before { first ≤ length states.now }
+    ensures { IfOk result (λ renamed. IsCut structure.now partition.old states.now first partition.new renamed.items) }
+{
+    let parts = parts(alloc, structure, edges, &partition.class, states)?;
+    name_parts(alloc, structure, partition, states, &parts, first)
+}
+
+// The states before `first` get the names of these parts.
+fn name_parts(
+    alloc: Global,
+    _structure: &Structure,
+    partition: &mut Partition,
+    states: &[u32],
+    parts: &Numbering,
+    first: usize,
+) -> Result<Vec<u32>, NoMemory>
+    requires in_range { All (λ s. s < length partition.old.class.items) states.now }
+    requires members { HasMembers partition.old.class.items (length partition.old.class.items) (rows partition.old.members.items) }
+    requires keepers { length partition.old.keeper.items ≡ length partition.old.members.items }
+    requires flags { length partition.old.is_settled.items ≡ length partition.old.class.items }
+    requires before { first ≤ length states.now }
+    requires parts { AreParts _structure.now partition.old.class.items states.now parts.now.numbers.items parts.now.count }
+    ensures { IfOk result (λ renamed. IsCut _structure.now partition.old states.now first partition.new renamed.items) }
+{
     keep(
         alloc,
         &mut partition.keeper,
         &partition.class,
-        &states,
-        &parts,
+        states,
+        parts,
         first,
     )?;
     let names = names(
@@ -100,10 +141,10 @@ fn split(
         &mut partition.members,
         &mut partition.keeper,
         &partition.class,
-        &states,
-        &parts,
+        states,
+        parts,
     )?;
-    rename(alloc, partition, &states, &parts.numbers, &names, first)
+    rename(alloc, partition, states, &parts.numbers, &names, first)
 }
 
 // The states before `first` get the names of their parts, and are settled. What comes back are those that had another name.
@@ -205,7 +246,7 @@ fn unsettle_before(
     ensures fewer { (s : ℕ) → IsSettled is_settled.new s → IsSettled is_settled.old s }
     ensures cut_off { OnOk result (IsCutOff structure.now.edges class.now structure.now.states is_settled.new state) }
 {
-    let _states = structure.states();
+    structure.keeps();
     let mut rest = edges.entering.last[state as usize];
     while rest > 0 {
         let place = rest - 1;

@@ -2,11 +2,10 @@
 ghost use Rattle.std.specs.Prelude.{◌≡◌, ◌<◌, length, All, IfOk, OnOk};
 ghost use Rattle.ml_bisim.specs.private.Signatures.{AreEdges, AreParts, AreSignatures, AreSteps};
 
-use crate::ascending::ascend;
 use crate::edges::Edges;
 use crate::numbering::{Numbering, numbered};
 use ml_base::NoMemory;
-use ml_kripke::Structure;
+use ml_kripke::{Structure, ascend};
 use std::alloc::Global;
 
 /// An edge of a state: the number of its action, and the class into which it leads.
@@ -42,7 +41,7 @@ pub(crate) fn parts(
     requires in_range { All (λ s. s < structure.now.states) states.now }
     ensures { IfOk result (λ parts. AreParts structure.now class.now states.now parts.numbers.items parts.count) }
 {
-    let _states = structure.states();
+    structure.keeps();
     let signatures = signatures(alloc, structure, edges, class, states)?;
     numbered(alloc, signatures)
 }
@@ -85,7 +84,7 @@ fn gather(
     requires in_range { state < structure.now.states }
     ensures { OnOk result (AreSteps structure.now.edges edges.now.actions.items class.now state steps.new.items) }
 {
-    let _states = structure.states();
+    structure.keeps();
     steps.clear();
     let mut rest = edges.leaving.last[state as usize];
     while rest > 0 {

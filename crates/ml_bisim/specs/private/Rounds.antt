@@ -20,6 +20,7 @@
 --   AreRenamed                  == the states that aren't settled have the names of their parts, and the others their classes
 --   different xs                == how many different numbers stand in xs
 --   Grows old new renamed       == there are no fewer numbers, and more if a state was renamed
+--   IsCut m p states k q renamed == the states before the k-th one got the names of their parts, so that p became q
 --   IsSplit m old p renamed     == a round made this of the classes `old`, and these states have new names
 --   IsAlone class n s           == no other state below n has the class of s
 --   IsLoose class n flags s     == s isn't settled, or is alone in its class
@@ -32,7 +33,7 @@ use Rattle.ml_lists.proofs.FirstEntries.{firsts}
 use Rattle.ml_bisim.specs.declared.partition.Partition.{Partition}
 use Rattle.ml_bisim.specs.Bisimilar.{Bisimilar}
 use Rattle.ml_bisim.specs.Quotient.{class_of}
-use Rattle.ml_bisim.specs.private.Signatures.{SameSteps}
+use Rattle.ml_bisim.specs.private.Signatures.{AreParts, SameSteps}
 
 pub record IsFiner (m : Structure) (class ns : List ℕ) : Type 0 where
   pub each_state : length ns ≡ m.states
@@ -133,6 +134,20 @@ different xs = length (firsts nat_eq xs)
 
 abbrev pub Grows : List ℕ → List ℕ → List ℕ → Type 0
 Grows old new renamed = (different old < different new) ⊎ ((renamed ≡ []) × (different old ≤ different new))
+
+pub record IsCut (m : Structure) (p : Partition) (states : List ℕ) (first : ℕ) (q : Partition) (renamed : List ℕ) : Type 0 where
+  pub ns : List ℕ
+  pub count : ℕ
+  pub keeper : List ℕ
+  pub names : List ℕ
+  pub new : ℕ
+  pub parts : AreParts m p.class.items states ns count
+  pub kept : AreKept p.class.items states ns keeper first
+  pub named : AreNames p.class.items states ns keeper names (length p.members.items) new
+  pub are_renamed : AreRenamed p.class.items states ns names first (length p.class.items) q.class.items renamed
+  pub set : AreSet p.is_settled.items states first q.is_settled.items
+  pub members : HasMembers q.class.items (length p.class.items) (rows q.members.items)
+  pub keepers : length q.keeper.items ≡ length q.members.items
 
 pub record IsSplit (m : Structure) (old : List ℕ) (p : Partition) (renamed : List ℕ) : Type 0 where
   pub finer : IsFiner m old p.class.items

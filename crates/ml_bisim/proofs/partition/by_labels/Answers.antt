@@ -12,7 +12,7 @@ returns-clause-part c =
     let rows = c.in_ok-rows.rows.items in
     ok_then (λ (n : Numbering). AreNumbers row_eq rows n.numbers.items n.count)
     (λ (n : Numbering). IsPartition m n.numbers.items)
-    (λ (n : Numbering) are. labelled m c.states-states.ensures.is_structure c.states-states.ensures.is_ordered rows
+    (λ (n : Numbering) are. labelled m c.keeps.ensures.is_structure c.keeps.ensures.is_ordered rows
     c.in_ok-rows.ensures n.numbers.items n.count are) c.numbered.result c.numbered.ensures
 
 pub returns-clause-in_turn : goal.returns-clause-in_turn

@@ -39,7 +39,7 @@ returns c =
     let p = c.rounds.partition in
     ok_then (λ (n : Numbering). AreNumbers nat_eq p.class.items n.numbers.items n.count)
     (λ (n : Numbering). AreClasses m n.count n.numbers.items)
-    (λ (n : Numbering) are. stable_is m c.states-states.ensures.is_structure p.class.items c.rounds.invariant.part
+    (λ (n : Numbering) are. stable_is m c.keeps.ensures.is_structure p.class.items c.rounds.invariant.part
     (nothing_left m p c.rounds.unsettled.items c.rounds.invariant (none c.rounds.unsettled c.rounds-test.ensures))
     n.numbers.items n.count are)
     c.numbered.result c.numbered.ensures

@@ -37,7 +37,7 @@ cut_off_where_ok m p q renamed (Ok next) same cut_off =
 pub returns-clause-refined : goal.returns-clause-refined
 returns-clause-refined c =
     let m = c.args.structure.now in
-    refined_where_ok m c.states-states.ensures.is_structure c.args.partition.now.class.items c.requires.refined.part
+    refined_where_ok m c.keeps.ensures.is_structure c.args.partition.now.class.items c.requires.refined.part
     c.split.new.partition
     c.unsettle.new.partition c.in_ok-renamed.renamed.items c.in_ok-renamed.ensures c.unsettle.result
     c.unsettle.ensures.class

@@ -18,7 +18,7 @@ loop-rest-init c =
 
 pub bounds-class-edge_at : goal.bounds-class-edge_at
 bounds-class-edge_at c =
-    let low = target_below c.args.structure.now c.states-states.ensures.is_structure _ c.edge_at.result.now
+    let low = target_below c.args.structure.now c.keeps.ensures.is_structure _ c.edge_at.result.now
     c.edge_at.ensures in
     omega (arith, low, c.requires.each_state)
 
