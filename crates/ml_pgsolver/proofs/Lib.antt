@@ -48,3 +48,5 @@ pub mod SomeAnswers
 mod LongestTokens
 -- one step of the reader
 mod Steps
+-- solutions that say the same have one text
+pub mod SameTexts
