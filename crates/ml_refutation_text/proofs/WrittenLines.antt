@@ -1,7 +1,7 @@
 -- Lines that are written word by word, and texts that are written part by part.
 --
 --   line_written     == a first word, further words each behind a blank, and an LF are a line
---   four_parts, rows_written, tables_written == what is written part by part
+--   four_parts, rows_written, two_parts, tables_written == what is written part by part
 --   entries_more, entries_done == the texts of entries, one more of which was written
 use Rattle.std.proofs.Common.{◌≡◌, ℕ, ◌+◌, ◌<◌, ◌≤◌, List, [], ◌∷◌, ◌++◌, length, map, get_or, drop, sym, ap, ◌∙◌, append_assoc}
 use Rattle.std.specs.List.{flat_map}
@@ -60,15 +60,19 @@ rows_written qs ks out first second is_first is_second =
     is_second ∙ ap (λ text. text ++ text_of b) is_first ∙ append_assoc out (text_of a) (text_of b)
     ∙ ap (λ text. out ++ text) (sym (flat_map-append line_text a b))
 
--- the tables and the entries, written one behind the other
-pub tables_written : (es others : List Entry) (qs ks : List (List ℕ)) (out second third : List ℕ)
+-- two parts, written one behind the other
+pub two_parts : (a b : List Line) (out second third : List ℕ)
+    → second ≡ out ++ text_of a
+    → third ≡ second ++ text_of b
+    → third ≡ out ++ text_of (a ++ b)
+two_parts a b out second third is_second is_third =
+    is_third ∙ ap (λ text. text ++ text_of b) is_second ∙ append_assoc out (text_of a) (text_of b)
+    ∙ ap (λ text. out ++ text) (sym (flat_map-append line_text a b))
+
+-- the tables and the entries, by their names
+pub tables_written : (es others : List Entry) (qs ks : List (List ℕ)) (out written : List ℕ)
     → others ≡ es → qs ≡ sequents_of es → ks ≡ stacks_of es
-    → second ≡ out ++ text_of (table_lines qs ks)
-    → third ≡ second ++ text_of (last_lines (by_tables qs ks) others)
-    → third ≡ out ++ text_of (lines_by_tables es)
-tables_written es others qs ks out second third is_es is_qs is_ks is_second is_third =
-    let a : List Line = table_lines qs ks in
-    let c : List Line = last_lines (by_tables qs ks) others in
-    is_third ∙ ap (λ text. text ++ text_of c) is_second ∙ append_assoc out (text_of a) (text_of c)
-    ∙ ap (λ text. out ++ text) (sym (flat_map-append line_text a c))
-    ∙ (λ i. out ++ text_of (table_lines (is_qs i) (is_ks i) ++ last_lines (by_tables (is_qs i) (is_ks i)) (is_es i)))
+    → written ≡ out ++ text_of (table_lines qs ks ++ last_lines (by_tables qs ks) others)
+    → written ≡ out ++ text_of (lines_by_tables es)
+tables_written es others qs ks out written is_es is_qs is_ks is =
+    is ∙ (λ i. out ++ text_of (table_lines (is_qs i) (is_ks i) ++ last_lines (by_tables (is_qs i) (is_ks i)) (is_es i)))

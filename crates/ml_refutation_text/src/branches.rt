@@ -33,7 +33,7 @@ pub(crate) enum Around {
 
 /// A line of a decision.
 #[derive(Drop)]
-pub(crate) enum Branch {
+pub(crate) enum DecisionLine {
     Split(u32),
     /// A clash or a go.
     Leaf(Decision),
@@ -65,8 +65,8 @@ pub(crate) fn read_decision<'a>(
             Err(rule) => return Err(fault(rest.line, rule)),
         };
         match branch {
-            Branch::Split(node) => around.push(Around::InLeft(node))?,
-            Branch::Leaf(leaf) => {
+            DecisionLine::Split(node) => around.push(Around::InLeft(node))?,
+            DecisionLine::Leaf(leaf) => {
                 if let Some(decision) = close(alloc, &mut around, leaf)? {
                     return Ok((decision, behind));
                 }
@@ -108,7 +108,7 @@ fn split_at(alloc: Global, node: u32, left: Decision, right: Decision) -> Result
 }
 
 // the branch that a line tells, inside so many splits
-fn branch_of(line: &[u8], names: u32, wanted: u32, depth: usize) -> Result<Branch, BodyRule>
+fn branch_of(line: &[u8], names: u32, wanted: u32, depth: usize) -> Result<DecisionLine, BodyRule>
     ensures read { IfOk result (IsBranch names wanted depth (words_of line.now)) }
     ensures refused { IfErr result (BreaksBranch names wanted depth (words_of line.now)) }
 {
@@ -132,7 +132,7 @@ fn branch_of(line: &[u8], names: u32, wanted: u32, depth: usize) -> Result<Branc
 }
 
 // the split that a line tells, which begins with `split`
-fn split_of(line: &[u8], rest: &[u8], depth: usize) -> Result<Branch, BodyRule>
+fn split_of(line: &[u8], rest: &[u8], depth: usize) -> Result<DecisionLine, BodyRule>
     requires are_words { AreWords (words_of line.now) }
     requires begins { words_of line.now ≡ codes "split" ∷ words_of rest.now }
     ensures read { IfOk result (λ b. (names wanted : ℕ) → IsBranch names wanted depth (words_of line.now) b) }
@@ -141,7 +141,7 @@ fn split_of(line: &[u8], rest: &[u8], depth: usize) -> Result<Branch, BodyRule>
     match one_number(rest) {
         Ok(node) => {
             if depth < NESTING_LIMIT as usize {
-                Ok(Branch::Split(node))
+                Ok(DecisionLine::Split(node))
             } else {
                 Err(BodyRule::Nesting)
             }
@@ -151,14 +151,14 @@ fn split_of(line: &[u8], rest: &[u8], depth: usize) -> Result<Branch, BodyRule>
 }
 
 // the clash that a line tells, which begins with `clash`
-fn clash_of(line: &[u8], rest: &[u8]) -> Result<Branch, BodyRule>
+fn clash_of(line: &[u8], rest: &[u8]) -> Result<DecisionLine, BodyRule>
     requires are_words { AreWords (words_of line.now) }
     requires begins { words_of line.now ≡ codes "clash" ∷ words_of rest.now }
     ensures read { IfOk result (λ b. (names wanted depth : ℕ) → IsBranch names wanted depth (words_of line.now) b) }
     ensures refused { IfErr result (λ rule. (names wanted depth : ℕ) → BreaksBranch names wanted depth (words_of line.now) rule) }
 {
     match cause_of(rest) {
-        Ok(cause) => Ok(Branch::Leaf(Decision::Clash(cause))),
+        Ok(cause) => Ok(DecisionLine::Leaf(Decision::Clash(cause))),
         Err(rule) => Err(rule),
     }
 }
@@ -194,7 +194,7 @@ fn cause_of(words: &[u8]) -> Result<ClashCause, BodyRule>
 }
 
 // the go that a line tells, which begins with `go`
-fn go_of(line: &[u8], rest: &[u8], names: u32, wanted: u32) -> Result<Branch, BodyRule>
+fn go_of(line: &[u8], rest: &[u8], names: u32, wanted: u32) -> Result<DecisionLine, BodyRule>
     requires are_words { AreWords (words_of line.now) }
     requires begins { words_of line.now ≡ codes "go" ∷ words_of rest.now }
     ensures read { IfOk result (λ b. (depth : ℕ) → IsBranch names wanted depth (words_of line.now) b) }
@@ -203,7 +203,7 @@ fn go_of(line: &[u8], rest: &[u8], names: u32, wanted: u32) -> Result<Branch, Bo
     match go_words(rest) {
         Ok((diamond, entry, mark)) => {
             if entry < wanted && is_mark(mark, names) {
-                Ok(Branch::Leaf(Decision::Go {
+                Ok(DecisionLine::Leaf(Decision::Go {
                     diamond,
                     entry,
                     mark,

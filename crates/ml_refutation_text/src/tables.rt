@@ -19,9 +19,9 @@ pub(crate) struct Tables<'a> {
 
 /// How the sequents and stacks of a refutation are written: in full, or by their places in tables.
 #[derive(Drop)]
-pub(crate) enum Filing<'a> {
-    InFull(&'a Refutation),
-    ByTables(Tables<'a>),
+pub(crate) enum Filing<'f, 'a> {
+    InFull(&'f Refutation),
+    ByTables(&'f Tables<'a>),
 }
 
 // the tables of a refutation

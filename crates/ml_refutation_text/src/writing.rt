@@ -2,10 +2,10 @@
 ghost use Rattle.std.specs.Prelude.{◌≡◌, ◌+◌, ◌<◌, ◌^◌, [], ◌∷◌, ◌++◌, map, length, codes, take, slice_index_or, IfOk, OnOk, OnErr, vec_len};
 ghost use Rattle.std.specs.List.{flat_map};
 ghost use Rattle.ml_lines.specs.Lines.{number, next, line_text, text_of};
-ghost use Rattle.ml_refutation.specs.Views.{decision_of, of_parts};
+ghost use Rattle.ml_refutation.specs.Views.{decision_of, entry_of, of_parts};
 ghost use Rattle.ml_refutation_text.specs.RefutationText.{numbers, guess_word, entry_line, item_line, cause_words, clash_line, mark_words, go_line, decision_lines};
 ghost use Rattle.ml_refutation_text.specs.BodyRules.{IsTextOf};
-ghost use Rattle.ml_refutation_text.specs.WrittenText.{IsCounted, written_text, entry_lines, entries_lines, table_lines, last_lines, lines_by_tables};
+ghost use Rattle.ml_refutation_text.specs.WrittenText.{IsCounted, by_tables, written_text, entry_lines, entries_lines, table_lines, last_lines, lines_by_tables};
 ghost use Rattle.ml_refutation_text.specs.Canonical.{stacks_of as used};
 ghost use Rattle.ml_refutation_text.specs.private.Collecting.{shown};
 ghost use Rattle.ml_refutation_text.specs.private.Filings.{entries_of, sequents_in, stacks_in, entry_in, item_in, writing_of};
@@ -94,12 +94,20 @@ fn write_by_tables(
     ensures front { take (vec_len out.old) out.new.items ≡ out.old.items }
 {
     let tables = tables_of(alloc, refutation)?;
-    write_tables(out, &tables)?;
-    write_last(
-        out,
-        refutation.entries.as_slice(),
-        &Filing::ByTables(tables),
-    )
+    write_filed(out, refutation.entries.as_slice(), &tables)
+}
+
+// these tables, and the entries by their places there
+fn write_filed(out: &mut Vec<u8>, entries: &[Entry], tables: &Tables) -> Result<(), NoMemory>
+    ensures text { OnOk result (out.new.items ≡ out.old.items
+        ++ text_of (table_lines tables.now.sequents.met tables.now.stacks.met
+        ++ last_lines (by_tables tables.now.sequents.met tables.now.stacks.met)
+        (map (entry_of tables.now.sequents.all tables.now.stacks.all) entries.now))) }
+    ensures counted { OnOk result (length tables.now.stacks.met < 2 ^ 64) }
+    ensures front { take (vec_len out.old) out.new.items ≡ out.old.items }
+{
+    write_tables(out, tables)?;
+    write_last(out, entries, &Filing::ByTables(tables))
 }
 
 fn write_tables(out: &mut Vec<u8>, tables: &Tables) -> Result<(), NoMemory>

@@ -13,7 +13,7 @@ use Rattle.ml_sequent.specs.Spread.{SpreadList, IsSpread, IsSpreadOf, IsOpenOr}
 use Rattle.ml_product.specs.Arena.{Arena}
 use Rattle.ml_product.specs.Position.{Position, with_chosen}
 use Rattle.ml_product.proofs.OnePlace.{same_spread}
-use Rattle.ml_refute.specs.declared.lost_game.Turn.TheVariants as turn
+use Rattle.ml_refute.specs.declared.lost_game.LostTurn.TheVariants as turn
 use Rattle.ml_refute.specs.private.Found.{IsSpreadAt, IsTurnAt, position_at}
 
 -- of the or-node that is open at the position, a side leads to the position that the arena has for it

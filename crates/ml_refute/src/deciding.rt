@@ -5,7 +5,7 @@ ghost use Rattle.ml_sequent.specs.Spread.{IsSpreadOf, IsOpenOr};
 ghost use Rattle.ml_refutation.specs.Views.{decision_of};
 ghost use Rattle.ml_refute.specs.private.Found.{OddWins, IsWon, IsSpreadAt, IsTurnAt, AreNumbered, IsNumberOf, IsDecided, AreLooked, position_at};
 
-use crate::lost_game::{LostGame, Turn};
+use crate::lost_game::{LostGame, LostTurn};
 use indexmap::IndexSet;
 use ml_base::NoMemory;
 use ml_refutation::Decision;
@@ -44,8 +44,8 @@ fn decide(
         (decision_of d)) }
 {
     match game.turn_at(branch, v)? {
-        Turn::Clash(cause) => Ok(Decision::Clash(cause)),
-        Turn::Open(node) => {
+        LostTurn::Clash(cause) => Ok(Decision::Clash(cause)),
+        LostTurn::Open(node) => {
             let (l, r) = game.sides_of(v, node);
             let left = decide_side(alloc, game, branch, vertices, node, Side::Left, l)?;
             let right = decide_side(alloc, game, branch, vertices, node, Side::Right, r)?;
@@ -55,7 +55,7 @@ fn decide(
                 right: Box::new(alloc, right)?,
             })
         }
-        Turn::Leave(diamond) => leave(game, vertices, v, diamond),
+        LostTurn::Leave(diamond) => leave(game, vertices, v, diamond),
     }
 }
 
@@ -147,7 +147,7 @@ fn leave(
     requires odd { OddWins game.now.graph.now game.now.arena.now game.now.solution.now }
     requires won { IsWon game.now.arena.now game.now.solution.now v }
     requires numbered { AreNumbered game.now.graph.now game.now.arena.now game.now.solution.now vertices.old.keys }
-    requires turn { IsTurnAt game.now.graph.now game.now.arena.now game.now.solution.now v (Turn.Leave diamond) }
+    requires turn { IsTurnAt game.now.graph.now game.now.arena.now game.now.solution.now v (LostTurn.Leave diamond) }
     ensures { IfOk result (λ d. IsDecided
         game.now.graph.now
         game.now.arena.now
@@ -245,9 +245,35 @@ impl Decided {
         ensures all { OnOk result (length self.new.decisions.items ≡ length self.new.vertices.keys) }
     {
         let mut branch = Branch::new(alloc, game.graph)?;
+        self.look_on(alloc, game, &mut branch)
+    }
+
+    /// The same by a branch of the game's graph.
+    fn look_on(
+        &mut self,
+        alloc: Global,
+        game: &LostGame,
+        branch: &mut Branch,
+    ) -> Result<(), NoMemory>
+        requires odd { OddWins game.now.graph.now game.now.arena.now game.now.solution.now }
+        requires graph { branch.old.graph ≡ game.now.graph.now }
+        requires looked { AreLooked
+            game.now.graph.now
+            game.now.arena.now
+            game.now.solution.now
+            self.old.vertices.keys
+            (map decision_of self.old.decisions.items) }
+        ensures looked { OnOk result (AreLooked
+            game.now.graph.now
+            game.now.arena.now
+            game.now.solution.now
+            self.new.vertices.keys
+            (map decision_of self.new.decisions.items)) }
+        ensures all { OnOk result (length self.new.decisions.items ≡ length self.new.vertices.keys) }
+    {
         let _size = game.arena.size();
         while self.decisions.len() < self.vertices.len() {
-            self.look_at_next(alloc, game, &mut branch)?;
+            self.look_at_next(alloc, game, branch)?;
         }
         Ok(())
     }

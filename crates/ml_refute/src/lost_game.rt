@@ -15,9 +15,9 @@ use ml_product::Arena;
 use ml_sequent::{Branch, ClashCause};
 use ml_trace::Mark;
 
-/// What is done at a position.
+/// What is done at a position of a lost game.
 #[derive(Clone, Copy)]
-pub(crate) enum Turn {
+pub(crate) enum LostTurn {
     /// The spread clashes.
     Clash(ClashCause),
     /// This is the least or-node at which a side is still to be chosen.
@@ -41,7 +41,7 @@ impl LostGame<'_> {
     /// `NoMemory` alone.
     ///
     /// Cost: that of what is asked of the branch, and linear in the moves.
-    pub(crate) fn turn_at(&self, branch: &mut Branch, v: u32) -> Result<Turn, NoMemory>
+    pub(crate) fn turn_at(&self, branch: &mut Branch, v: u32) -> Result<LostTurn, NoMemory>
         requires odd { OddWins self.now.graph.now self.now.arena.now self.now.solution.now }
         requires won { IsWon self.now.arena.now self.now.solution.now v }
         requires graph { branch.old.graph ≡ self.now.graph.now }
@@ -50,10 +50,10 @@ impl LostGame<'_> {
         ensures turn { IfOk result (IsTurnAt self.now.graph.now self.now.arena.now self.now.solution.now v) }
     {
         match branch.clash()? {
-            Some(cause) => Ok(Turn::Clash(cause)),
+            Some(cause) => Ok(LostTurn::Clash(cause)),
             None => match branch.open_or() {
-                Some(node) => Ok(Turn::Open(node)),
-                None => Ok(Turn::Leave(self.diamond_of(branch, v)?)),
+                Some(node) => Ok(LostTurn::Open(node)),
+                None => Ok(LostTurn::Leave(self.diamond_of(branch, v)?)),
             },
         }
     }
@@ -109,7 +109,7 @@ impl LostGame<'_> {
     pub(crate) fn sides_of(&self, v: u32, node: u32) -> (u32, u32)
         requires odd { OddWins self.now.graph.now self.now.arena.now self.now.solution.now }
         requires won { IsWon self.now.arena.now self.now.solution.now v }
-        requires turn { IsTurnAt self.now.graph.now self.now.arena.now self.now.solution.now v (Turn.Open node) }
+        requires turn { IsTurnAt self.now.graph.now self.now.arena.now self.now.solution.now v (LostTurn.Open node) }
         ensures { AreSides self.now.graph.now self.now.arena.now self.now.solution.now v node result.0 result.1 }
     {
         let _size = self.arena.size();

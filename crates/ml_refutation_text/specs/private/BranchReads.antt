@@ -27,8 +27,8 @@ use Rattle.ml_refutation_text.specs.private.ItemReads.{knows}
 use Rattle.ml_refutation_text.specs.declared.body_rule.BodyRule.{BodyRule}
 use Rattle.ml_refutation_text.specs.declared.body_rule.BodyRule.TheVariants.{OfKind, Numbers}
 use Rattle.ml_refutation_text.specs.declared.branches.Around as split
-use Rattle.ml_refutation_text.specs.declared.branches.Branch.{Branch}
-use Rattle.ml_refutation_text.specs.declared.branches.Branch.TheVariants as branch
+use Rattle.ml_refutation_text.specs.declared.branches.DecisionLine.{DecisionLine}
+use Rattle.ml_refutation_text.specs.declared.branches.DecisionLine.TheVariants as branch
 
 -- ---- splits around
 
@@ -58,7 +58,7 @@ pub record IsLeaf (names wanted : ℕ) (line : Line) (d : Decision) : Type 0 whe
   pub is_decided : IsDecided names wanted d
   pub no_split : nesting d ≡ 0
 
-abbrev pub IsBranch : ℕ → ℕ → ℕ → Line → Branch → Type 0
+abbrev pub IsBranch : ℕ → ℕ → ℕ → Line → DecisionLine → Type 0
 IsBranch names wanted depth line (branch.Split n) = (line ≡ split_line n) × Fits n × (depth < NESTING_LIMIT)
 IsBranch names wanted depth line (branch.Leaf d) = IsLeaf names wanted line (decision_of d)
 

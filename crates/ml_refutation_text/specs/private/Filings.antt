@@ -21,11 +21,11 @@ entries_of r = map (entry_of r.sequents r.stacks) r.entries.items
 
 abbrev pub sequents_in : Filing → List (List ℕ)
 sequents_in (InFull r) = r.now.sequents
-sequents_in (ByTables tables) = tables.sequents.all
+sequents_in (ByTables tables) = tables.now.sequents.all
 
 abbrev pub stacks_in : Filing → List (List ℕ)
 stacks_in (InFull r) = r.now.stacks
-stacks_in (ByTables tables) = tables.stacks.all
+stacks_in (ByTables tables) = tables.now.stacks.all
 
 abbrev pub entry_in : Filing → Entry → plain.Entry
 entry_in f e = entry_of (sequents_in f) (stacks_in f) e
@@ -35,4 +35,4 @@ item_in f a = item_of (stacks_in f) a
 
 abbrev pub writing_of : Filing → Writing
 writing_of (InFull r) = in_full
-writing_of (ByTables tables) = by_tables tables.sequents.met tables.stacks.met
+writing_of (ByTables tables) = by_tables tables.now.sequents.met tables.now.stacks.met

@@ -32,8 +32,8 @@ use Rattle.ml_sequent.specs.FirstCause.{IsFirstCause}
 use Rattle.ml_trace.specs.declared.marks.Mark.{Mark}
 use Rattle.ml_trace.specs.Marks.{priority}
 use Rattle.ml_trace.specs.MarkOrder.{FitsBelow}
-use Rattle.ml_refute.specs.declared.lost_game.Turn.{Turn}
-use Rattle.ml_refute.specs.declared.lost_game.Turn.TheVariants as turn
+use Rattle.ml_refute.specs.declared.lost_game.LostTurn.{LostTurn}
+use Rattle.ml_refute.specs.declared.lost_game.LostTurn.TheVariants as turn
 use Rattle.ml_refute.specs.Extracted.{IsDecisionAt, IsLeastTo, leads_to}
 
 pub record OddWins (g : Graph) (a : Arena) (s : GameSolution) : Type 0 where
@@ -63,7 +63,7 @@ pub record LeavesTo (g : Graph) (a : Arena) (s : GameSolution) (v : ℕ) (sp : S
   pub is_mark : FitsBelow (neutral g) mark
   pub unchosen : (position_at g a (choice_at s.choice v)).choice ≡ []
 
-abbrev pub IsTurnAt : Graph → Arena → GameSolution → ℕ → Turn → Type 0
+abbrev pub IsTurnAt : Graph → Arena → GameSolution → ℕ → LostTurn → Type 0
 IsTurnAt g a s v (turn.Clash x) =
     OfSpread g (position_at g a v).sequent (position_at g a v).choice (λ sp. IsFirstCause g sp x)
 IsTurnAt g a s v (turn.Open o) =

@@ -10,19 +10,18 @@ pub returns-clause-text : goal.returns-clause-text
 returns-clause-text c =
     let tables = c.in_ok-tables.tables in
     let are = c.in_ok-tables.ensures in
-    on_ok_weaker c.write_last.result
+    on_ok_weaker c.write_filed.result
     (tables_written (entries_of c.args.refutation.now)
     (map (entry_of tables.sequents.all tables.stacks.all) c.as_slice.result.now)
     tables.sequents.met tables.stacks.met
-    c.args.out.now.items c.write_tables.new.out.items c.write_last.new.out.items
+    c.args.out.now.items c.write_filed.new.out.items
     (λ i. map (entry_of (are.sequents i).all (are.stacks i).all) (c.as_slice.ensures.value i))
-    (ap (λ (t : Collected). t.met) are.sequents) (ap (λ (t : Collected). t.met) are.stacks)
-    c.in_ok-write_tables.ensures.text)
-    c.write_last.ensures.text
+    (ap (λ (t : Collected). t.met) are.sequents) (ap (λ (t : Collected). t.met) are.stacks))
+    c.write_filed.ensures.text
 
 pub returns-clause-counted : goal.returns-clause-counted
 returns-clause-counted c =
-    on_ok_weaker c.write_last.result
-    (λ _. subst (λ (ks : List (List ℕ)). length ks < 2 ^ 64)
-    (ap (λ (t : Collected). t.met) c.in_ok-tables.ensures.stacks) c.in_ok-write_tables.ensures.counted)
-    c.write_last.ensures.text
+    on_ok_weaker c.write_filed.result
+    (subst (λ (ks : List (List ℕ)). length ks < 2 ^ 64)
+    (ap (λ (t : Collected). t.met) c.in_ok-tables.ensures.stacks))
+    c.write_filed.ensures.counted

@@ -1,7 +1,7 @@
 use Rattle.std.proofs.Common.{◌≡◌, length, map, ◌-◌}
 use Rattle.ml_refutation.specs.Views.{decision_of}
 use Rattle.ml_refute.specs.private.Found.{AreLooked}
-use Rattle.ml_refute.proofs.deciding.Decided.look.Given as goal
+use Rattle.ml_refute.proofs.deciding.Decided.look_on.Given as goal
 
 abbrev pub invariant-loop-alloc : goal.invariant-loop-alloc
 invariant-loop-alloc l =

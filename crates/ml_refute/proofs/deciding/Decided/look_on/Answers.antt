@@ -1,7 +1,7 @@
 use Rattle.std.proofs.Common.{map, arith}
 use Rattle.ml_refutation.specs.Views.{decision_of}
 use Rattle.ml_refute.proofs.FoundEntries.{looked_few}
-use Rattle.ml_refute.proofs.deciding.Decided.look.Goals as goal
+use Rattle.ml_refute.proofs.deciding.Decided.look_on.Goals as goal
 
 pub loop-alloc-smaller : goal.loop-alloc-smaller
 loop-alloc-smaller c =
