@@ -22,7 +22,7 @@ use Rattle.ml_blocks.specs.Items.{now}
 use Rattle.ml_blocks.specs.Places as places
 use Rattle.ml_blocks.specs.Places.{Place, forms}
 use Rattle.ml_blocks.specs.private.Forms.{begin_in, form_in, priority_in, start_in}
-use Rattle.ml_nodes.specs.private.PathNames.{props_onto}
+use Rattle.ml_nodes.specs.PathNames.{props_onto}
 use Rattle.ml_blocks.specs.private.Occurrences.{spread, formula_here, occurrence_here, eventualities_here}
 use Rattle.ml_blocks.specs.private.Views.{Kept, Stands, Fits, begin_place, place_of, start_place}
 use Rattle.ml_blocks.specs.declared.table.Occurrence.{Occurrence}

@@ -4,6 +4,8 @@ pub mod Nodes
 pub mod ClosureGraph
 -- values that are numbered as they are met
 pub mod NumberedValues
+-- the propositions of a formula of CTL* or LTL
+pub mod PathNames
 -- graphs that are alike
 pub mod AlikeNodes
 -- what private contracts cite

@@ -2,5 +2,3 @@
 
 -- the lists of a connective
 pub mod Connectives
--- the propositions of a formula of CTL* or LTL
-pub mod PathNames

@@ -2,7 +2,7 @@
 // action `_`.
 ghost use Rattle.std.specs.Prelude.{◌≡◌, [], ◌∷◌, codes, OnOk, IfOk};
 ghost use Rattle.ml_ctl.specs.Term.{formula_of};
-ghost use Rattle.ml_nodes.specs.private.PathNames as listed;
+ghost use Rattle.ml_nodes.specs.PathNames as listed;
 
 use crate::names::{Names, add_proposition};
 use indexmap::IndexSet;

@@ -23,7 +23,7 @@ use Rattle.ml_ctl.specs.FormulaNames as formula
 use Rattle.ml_ctl.specs.Formula.{Formula, occurrences}
 use Rattle.ml_word_graph.specs.WordGraph.{Place, Form, Root, Total, HasEdge, LeadsOn, True, Constant, Literal, And, Or, Diamond, Square, IsReached, at_root, behind, IsGraphOf}
 use Rattle.ml_word_graph.specs.WordGraph.{children, form_of, forms, priority_of, start_of}
-use Rattle.ml_nodes.specs.private.PathNames.{props_onto}
+use Rattle.ml_nodes.specs.PathNames.{props_onto}
 use Rattle.ml_word_graph.specs.private.Layout as layout
 use Rattle.ml_word_graph.specs.private.Layout.{key, made, node_of}
 use Rattle.ml_word_graph.specs.private.Reached as listed

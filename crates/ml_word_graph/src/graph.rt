@@ -2,7 +2,7 @@
 ghost use Rattle.std.specs.Prelude.{◌≡◌, ◌≤◌, [], ◌∷◌, codes, IfOk};
 ghost use Rattle.ml_ctl.specs.Formula.{occurrences};
 ghost use Rattle.ml_ctl.specs.Term.{formula_of};
-ghost use Rattle.ml_nodes.specs.private.PathNames.{props_onto};
+ghost use Rattle.ml_nodes.specs.PathNames.{props_onto};
 ghost use Rattle.ml_word_graph.specs.Laws.{HoldsWhere};
 ghost use Rattle.ml_word_graph.specs.WordGraph.{IsGraphOf};
 ghost use Rattle.ml_word_graph.specs.private.Layout as layout;
