@@ -150,7 +150,7 @@ fn is_step(
     match sequent_of(alloc, graph, from)? {
         Some(sequent) => {
             let (found, traces) = first_step(alloc, graph, &sequent)?;
-            Ok(found.values() == next && are_these(&traces, wanted))
+            Ok(found.nodes()?.as_slice() == next && are_these(&traces, wanted))
         }
         None => Ok(false),
     }

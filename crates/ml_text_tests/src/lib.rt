@@ -2,7 +2,7 @@
 // those is proved a second time for its tests. Texts with what they stand for, or with their refusals, are rows of
 // `ml_examples`.
 //
-//   writing_tests   a model, and a refutation in version 1
+//   writing_tests   a model, a refutation in version 1, and formulas alone
 #![tactic(auto)]
 
 #[cfg(test)]

@@ -1,5 +1,6 @@
-// What no command writes: the text of a model, and of a refutation in version 1.
+// What no command writes: the text of a model, of a refutation in version 1, and of a formula alone.
 use ml_base::{Action, DocRefusal, Version};
+use ml_front::Logic;
 use ml_kripke::{Model, read_model, write_model};
 use ml_refutation_text::{read, write};
 use std::alloc::Global;
@@ -45,5 +46,38 @@ fn written_in_full(alloc: Global, text: &[u8]) -> Result<Vec<u8>, DocRefusal> {
 #[test]
 fn a_refutation_in_version_1(rt: HostRuntime) -> Result<(), Fail> {
     assert!(rt; written_in_full(rt.alloc(), ENDLESS_BY_TABLES)?.as_slice() == ENDLESS);
+    Ok(())
+}
+
+// A logic, and the canonical text of a formula.
+type Formula = (Logic, &'static [u8]);
+
+const FORMULAS: [Formula; 5] = [
+    (Logic::Mu, b"(nu X. (mu Y. (<a>X | [b](Y & p))))"),
+    (Logic::Pdl, b"(<(a;(p)?)*>!p & [a]p)"),
+    (Logic::Ctl, b"(E (p W q) -> A (q R p))"),
+    (Logic::Ltl, b"((p U q) W r)"),
+    (Logic::Word, b"(p <-> G q)"),
+];
+
+// Is the formula of the text printed as it stands there?
+fn is_printed(alloc: Global, logic: Logic, text: &[u8]) -> Result<bool, Fail> {
+    let problem = ml_front::read(alloc, logic, text)?;
+    Ok(ml_front::print(alloc, &problem)?.as_slice() == text)
+}
+
+// The place of the first formula that is printed otherwise.
+fn first_wrong(alloc: Global, rows: &[Formula]) -> Result<Option<usize>, Fail> {
+    for (place, (logic, text)) in rows.iter().enumerate() {
+        if !is_printed(alloc, *logic, text)? {
+            return Ok(Some(place));
+        }
+    }
+    Ok(None)
+}
+
+#[test]
+fn formulas(rt: HostRuntime) -> Result<(), Fail> {
+    assert_eq!(rt; first_wrong(rt.alloc(), &FORMULAS)?, None);
     Ok(())
 }
