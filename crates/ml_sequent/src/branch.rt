@@ -82,13 +82,13 @@ impl<'a> Branch<'a> {
         ensures graph { IfOk result (λ branch. branch.graph ≡ graph.now) }
         ensures before { IfOk result (λ branch. branch.before ≡ []) }
     {
-        let phase = LocalPhase::new(alloc, graph)?;
-        let trail = Trail::new(alloc, graph.size())?;
         let descent = Descent::of(alloc, graph)?;
+        let trail = Trail::new(alloc, graph.size())?;
         let notes = Notes::new(alloc, graph)?;
+        let phase = LocalPhase::new(alloc, graph)?;
         Ok(Branch {
             phase,
-            sequent: Sequent::of(alloc, &[])?,
+            sequent: Sequent::empty(alloc),
             choice: Choice::empty(alloc),
             trail,
             taken: Vec::new(alloc),

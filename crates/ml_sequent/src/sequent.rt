@@ -1,5 +1,5 @@
 // Sequents: the sets of nodes that hold together at a state.
-ghost use Rattle.std.specs.Prelude.{◌≡◌, IfOk, nat_eq};
+ghost use Rattle.std.specs.Prelude.{◌≡◌, [], IfOk, nat_eq};
 ghost use Rattle.std.specs.Cmp.{partial_equiv_from_equiv};
 ghost use Rattle.std.specs.Cmp.Lexicographic.{pointwise, nat_list_eq_equiv, bytes_decides};
 ghost use Rattle.std.specs.Hash as fed;
@@ -30,6 +30,15 @@ impl Model for Sequent {
 }
 
 impl Sequent {
+    /// The set of no nodes. It takes no memory.
+    pub fn empty(alloc: Global) -> Sequent
+        ensures { result ≡ [] }
+    {
+        Sequent {
+            nodes: Vec::new(alloc),
+        }
+    }
+
     /// The set of the given nodes, in any order and with any repeats.
     ///
     /// # Errors
