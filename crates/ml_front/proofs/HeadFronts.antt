@@ -32,7 +32,7 @@ use Rattle.ml_front.specs.declared.head_rule.HeadRule.{HeadRule}
 use Rattle.ml_front.specs.declared.head_rule.HeadRule.TheVariants.{Parses}
 use Rattle.ml_front.specs.declared.logic.Logic.{Logic}
 use Rattle.ml_front.specs.declared.problem.AnyFormula.{AnyFormula}
-use Rattle.ml_front.specs.declared.reading.FormulaRefusal.TheVariants as formula
+use Rattle.ml_lines.specs.declared.refusal.LineRefusal.TheVariants as formula
 use Rattle.ml_front.specs.Logics.{logic_of, IsParsedAs, IsRefusedBy}
 use Rattle.ml_front.proofs.Logics.{formula_or_refused, logic_read}
 use Rattle.ml_front.proofs.ReadableHeads.{Begins, formula_line, head_of_lines}

@@ -3,11 +3,9 @@
 // Each of its five lines has a function that reads it and answers the rest of the text, or the rule that it breaks:
 // title, answer, logic, sense, formula. `read_lines` calls them in order and counts the lines. The formula's line is cut out
 // first, and then read by the parser of the logic.
-ghost use Rattle.std.specs.Prelude.{◌≡◌, ℕ, List, [], ◌∷◌, IfOk, IfErr, IsErrOf, MatchOption, codes};
+ghost use Rattle.std.specs.Prelude.{◌≡◌, ℕ, List, [], ◌∷◌, IfOk, IfErr, IsErrOf, MatchOption};
 ghost use Rattle.ml_base.specs.declared.doc_fault.DocFault.{DocFault};
 ghost use Rattle.ml_base.specs.declared.version.Version.{Version};
-ghost use Rattle.ml_lines.specs.Lines.{Word, Line};
-ghost use Rattle.ml_lines.specs.Reading.{words_of};
 ghost use Rattle.ml_lines.specs.private.Fronts.{GoesOn};
 ghost use Rattle.ml_front.specs.Head.{title_line, answer_line, logic_line, sense_line};
 ghost use Rattle.ml_front.specs.HeadRules.{IsHead, IsHeadFault, AtTitle, AtAnswer, AtLogic, AtSense};
@@ -21,16 +19,8 @@ use crate::logic::Logic;
 use crate::problem::{AnyFormula, Problem, parse};
 use crate::title::version_of;
 use ml_base::{DocFault, DocRefusal, ParseRefusal, Version};
-use ml_lines::{more_words, split_line, two_words};
+use ml_lines::{LineRefusal, split_line, text_behind, two_words};
 use std::alloc::Global;
-
-// Why a line has no formula.
-#[derive(Clone, Copy, PartialEq, Eq)]
-pub(crate) enum FormulaRefusal {
-    /// The lowest rule that it breaks.
-    Breaks(HeadRule),
-    NoMemory,
-}
 
 /// What a head says, in which version; and what stands behind it.
 #[derive(Drop)]
@@ -83,8 +73,8 @@ fn read_lines(alloc: Global, text: &[u8], wanted: Answer) -> Result<Head, DocRef
             version,
             rest,
         }),
-        Err(FormulaRefusal::Breaks(rule)) => Err(fault(5, rule)),
-        Err(FormulaRefusal::NoMemory) => Err(DocRefusal::NoMemory),
+        Err(LineRefusal::Breaks(rule)) => Err(fault(5, rule)),
+        Err(LineRefusal::NoMemory) => Err(DocRefusal::NoMemory),
     }
 }
 
@@ -169,51 +159,34 @@ fn read_formula(
     alloc: Global,
     logic: Logic,
     text: &[u8],
-) -> Result<(AnyFormula, &[u8]), FormulaRefusal>
+) -> Result<(AnyFormula, &[u8]), LineRefusal<HeadRule>>
     ensures read { IfOk result (λ r. IsFormulaRead logic text.now r.0 r.1.now) }
     ensures refused { IfErr result (λ e. (a : Answer) → TellsFormula a logic text.now e) }
 {
     match split_line(text) {
-        Some((line, rest)) => match formula_text(line) {
+        Some((line, rest)) => match text_behind(line, b"formula") {
             Some(given) => match parse(alloc, logic, given) {
                 Ok(formula) => Ok((formula, rest)),
                 Err(refusal) => Err(formula_refusal(refusal)),
             },
-            None => Err(FormulaRefusal::Breaks(HeadRule::OfKind)),
+            None => Err(LineRefusal::Breaks(HeadRule::OfKind)),
         },
-        None => Err(FormulaRefusal::Breaks(HeadRule::OfKind)),
+        None => Err(LineRefusal::Breaks(HeadRule::OfKind)),
     }
 }
 
 // the refusal of a line whose text the parser refuses
-fn formula_refusal(refusal: ParseRefusal) -> FormulaRefusal
+fn formula_refusal(refusal: ParseRefusal) -> LineRefusal<HeadRule>
     ensures { result ≡ parts.formula_refusal refusal }
 {
     match refusal {
-        ParseRefusal::NoMemory => FormulaRefusal::NoMemory,
+        ParseRefusal::NoMemory => LineRefusal::NoMemory,
         ParseRefusal::Syntax { .. }
         | ParseRefusal::Unbound { .. }
         | ParseRefusal::NotPositive { .. }
         | ParseRefusal::TooMany { .. }
         | ParseRefusal::TooNested { .. }
-        | ParseRefusal::NameTooLong { .. } => FormulaRefusal::Breaks(HeadRule::Parses),
-    }
-}
-
-// what stands behind `formula` and a blank
-fn formula_text(line: &[u8]) -> Option<&[u8]>
-    ensures { MatchOption result (¬ ((w : Word) × (ws : Line) × (words_of line.now ≡ codes "formula" ∷ w ∷ ws)))
-        (λ text. words_of line.now ≡ codes "formula" ∷ words_of text.now) }
-{
-    match more_words(line) {
-        Some((first, rest)) => {
-            if first == b"formula".as_slice() {
-                Some(rest)
-            } else {
-                None
-            }
-        }
-        None => None,
+        | ParseRefusal::NameTooLong { .. } => LineRefusal::Breaks(HeadRule::Parses),
     }
 }
 

@@ -25,8 +25,8 @@ use Rattle.ml_front.specs.declared.head_rule.HeadRule.{HeadRule}
 use Rattle.ml_front.specs.declared.head_rule.HeadRule.TheVariants.{Parses}
 use Rattle.ml_front.specs.declared.logic.Logic.{Logic}
 use Rattle.ml_front.specs.declared.problem.AnyFormula.{AnyFormula}
-use Rattle.ml_front.specs.declared.reading.FormulaRefusal.{FormulaRefusal}
-use Rattle.ml_front.specs.declared.reading.FormulaRefusal.TheVariants as formula
+use Rattle.ml_lines.specs.declared.refusal.LineRefusal.{LineRefusal}
+use Rattle.ml_lines.specs.declared.refusal.LineRefusal.TheVariants as formula
 
 abbrev pub first_line : List ℕ → Line
 first_line text = slice_index_or (lines_of text) 0 []
@@ -47,10 +47,10 @@ abbrev pub TellsHead : Answer → List ℕ → DocRefusal → Type 0
 TellsHead a text (head.Fault fault) = IsHeadFault a text fault
 TellsHead a text head.NoMemory = ⊤
 
-abbrev pub TellsFormula : Answer → Logic → List ℕ → FormulaRefusal → Type 0
+abbrev pub TellsFormula : Answer → Logic → List ℕ → LineRefusal HeadRule → Type 0
 TellsFormula a l text (formula.Breaks rule) = Breaks a (AtFormula l) (first_line text) rule
 TellsFormula a l text formula.NoMemory = ⊤
 
-abbrev pub formula_refusal : ParseRefusal → FormulaRefusal
+abbrev pub formula_refusal : ParseRefusal → LineRefusal HeadRule
 formula_refusal parser.NoMemory = formula.NoMemory
 formula_refusal _ = formula.Breaks Parses
