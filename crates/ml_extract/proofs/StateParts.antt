@@ -2,8 +2,8 @@
 --
 --   numbered_few    == there are at most as many states as positions
 --   Here, here_at   == the state that ends at this position
+--   sequent_fits    == the sequent of a position with a spread has nodes of the graph
 --   spread_is       == the spread of the position is that of the state
---   sequent_fits    == its sequent has nodes of the graph
 --   diamonds_fit, are_diamonds, all_begin == what is asked of the diamonds of its spread, and where they lead
 --   gathered_more   == with the parts of one state more
 --   all_in_range    == the labels and edges of all states are of states that there are
@@ -26,7 +26,7 @@ use Rattle.ml_lists.proofs.Member.{member_of_get}
 use Rattle.ml_lists.proofs.Entries.{find-none}
 use Rattle.ml_product.proofs.NeutralPriority.{sequent_low}
 use Rattle.ml_extract.specs.Model.{State, SpreadAt, Chooses, ends as choice_ends, moves, nexts}
-use Rattle.ml_extract.specs.private.Gathered.{names_in, labelled, edge_to, AreGathered}
+use Rattle.ml_extract.specs.private.Gathered.{HasSpread, names_in, labelled, edge_to, AreGathered}
 use Rattle.ml_extract.specs.private.Numbered.{AreNumbered}
 use Rattle.ml_extract.proofs.GatheredParts.{once, begins_there, one_more}
 use Rattle.ml_extract.proofs.GrowingFirst.{few_below}
@@ -39,6 +39,14 @@ first_low : (g : Graph) (a : Arena) (s : GameSolution) (v w : ℕ) (sp : SpreadL
     → v < length a.positions
 first_low g a s v w sp (choice_ends _ _ h none) = slice_get_within a.positions v h.position h.stands
 first_low g a s v w sp (moves _ _ n here _ h is_open rest) = slice_get_within a.positions v h.position h.stands
+
+-- a position with a spread
+module _ (g : Graph) (a : Arena) (v : ℕ) (h : HasSpread g a v) where
+  pub sequent_fits : (p : Position) → slice_get a.positions v ≡ Some p → All (λ k. k < size g) p.sequent
+  sequent_fits p stands =
+      let same = same_entry a.positions v h.1.position p h.1.stands stands in
+      member-All (λ k. k < size g) p.sequent
+      (λ k m. sequent_low g p h.0 (subst (λ (q : Position). IsSpreadOf g q.sequent q.choice h.0) same h.1.is_spread) k m)
 
 module _ (g : Graph) (a : Arena) (s : GameSolution) (fs ls : List ℕ) (n : AreNumbered g a s fs ls) where
   pub same_lengths : length fs ≡ length ls
@@ -80,33 +88,17 @@ module _ (g : Graph) (a : Arena) (s : GameSolution) (fs ls : List ℕ) (n : AreN
       record { state = x; is = is; last_is = same; at = subst (λ v. SpreadAt g a v x.spread) same at }
 
   module _ (i last : ℕ) (h : Here i last) where
-    pub position_low : last < length a.positions
-    position_low = slice_get_within a.positions last h.at.position h.at.stands
+    pub spread_is : (sp : SpreadList) → SpreadAt g a last sp → sp ≡ h.state.spread
+    spread_is sp at = spread_here g a s last sp h.state.spread at h.at
 
-    pub spread_is : (p : Position) → slice_get a.positions last ≡ Some p → (sp : SpreadList)
-        → IsSpreadOf g p.sequent p.choice sp
-        → sp ≡ h.state.spread
-    spread_is p stands sp is =
-        spread_here g a s last sp h.state.spread (record { position = p; stands = stands; is_spread = is }) h.at
-
-    pub sequent_fits : (p : Position) → slice_get a.positions last ≡ Some p → All (λ k. k < size g) p.sequent
-    sequent_fits p stands =
-        let same = same_entry a.positions last h.at.position p h.at.stands stands in
-        member-All (λ k. k < size g) p.sequent
-        (λ k m. sequent_low g p h.state.spread (subst (λ (q : Position). IsSpreadOf g q.sequent q.choice h.state.spread)
-        same h.at.is_spread) k m)
-
-    -- the diamonds as they are read from a spread of the position, in a graph that is g
-    pub diamonds_are : (p : Position)
-        → slice_get a.positions last ≡ Some p
-        → (f : Graph) (sp : SpreadList) (ds : List ℕ)
+    -- the diamonds as they are read from the spread
+    pub diamonds_are : (f : Graph) (sp : SpreadList) (ds : List ℕ)
         → f ≡ g
-        → IsSpreadOf f p.sequent p.choice sp
+        → SpreadAt g a last sp
         → ds ≡ diamonds_of f sp
         → ds ≡ diamonds_of g h.state.spread
-    diamonds_are p stands f sp ds same is ds_is =
-        ds_is ∙ ap (λ k. diamonds_of k sp) same
-        ∙ ap (diamonds_of g) (spread_is p stands sp (subst (λ k. IsSpreadOf k p.sequent p.choice sp) same is))
+    diamonds_are f sp ds same at ds_is =
+        ds_is ∙ ap (λ k. diamonds_of k sp) same ∙ ap (diamonds_of g) (spread_is sp at)
 
     pub diamonds_fit : (ds : List ℕ) → ds ≡ diamonds_of g h.state.spread → All (λ k. k < size g) ds
     diamonds_fit ds is =

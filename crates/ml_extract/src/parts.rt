@@ -4,6 +4,7 @@ ghost use Rattle.std.specs.List.{zip};
 ghost use Rattle.ml_lists.specs.Member.{IsMember};
 ghost use Rattle.ml_graph.specs.Graph.{size, node_at};
 ghost use Rattle.ml_sequent.specs.Spread.{IsSpread, is_diamond};
+ghost use Rattle.ml_extract.specs.Model.{SpreadAt};
 ghost use Rattle.ml_extract.specs.private.Gathered as gathered;
 ghost use Rattle.ml_extract.specs.private.Numbered.{AreNumbered};
 
@@ -100,13 +101,59 @@ impl Parts {
             self.new.labels.items
             self.new.edges.items) }
     {
+        let last = states.lasts[state as usize];
+        let spread = spread_at(game, phase, last)?;
+        self.add_spread(game, phase, states, state, &spread)
+    }
+
+    /// Adds the labels and the edges of a state by its spread.
+    fn add_spread(
+        &mut self,
+        game: &WonGame,
+        phase: &LocalPhase,
+        states: &States,
+        state: u32,
+        spread: &Spread,
+    ) -> Result<(), NoMemory>
+        requires numbered { AreNumbered
+            game.now.graph.now
+            game.now.arena.now
+            game.now.solution.now
+            states.now.firsts.keys
+            states.now.lasts.items }
+        requires state { state < length states.now.lasts.items }
+        requires phase { phase.now ≡ game.now.graph.now }
+        requires spread { SpreadAt
+            game.now.graph.now
+            game.now.arena.now
+            (get_or states.now.lasts.items state 0)
+            spread.now }
+        requires is_spread { IsSpread game.now.graph.now spread.now }
+        ensures { OnOk result ((n : AreNumbered
+            game.now.graph.now
+            game.now.arena.now
+            game.now.solution.now
+            states.now.firsts.keys
+            states.now.lasts.items)
+            → gathered.AreGathered
+            game.now.graph.now
+            game.now.arena.now
+            n.states
+            state
+            self.old.labels.items
+            self.old.edges.items
+            → gathered.AreGathered
+            game.now.graph.now
+            game.now.arena.now
+            n.states
+            (state + 1)
+            self.new.labels.items
+            self.new.edges.items) }
+    {
         let _size = game.arena.size();
         let last = states.lasts[state as usize];
-        let position = game.arena.position(last);
-        let choice = position.choice()?;
-        let spread = phase.spread(position.sequent, &choice)?;
-        let diamonds = phase.diamonds(&spread)?;
-        add_labels(&mut self.labels, game.graph, state, &spread)?;
+        add_labels(&mut self.labels, game.graph, state, spread)?;
+        let diamonds = phase.diamonds(spread)?;
         add_edges(
             &mut self.edges,
             game.graph,
@@ -116,6 +163,19 @@ impl Parts {
             game.arena.moves(last),
         )
     }
+}
+
+/// The spread of a position.
+fn spread_at(game: &WonGame, phase: &mut LocalPhase, position: u32) -> Result<Spread, NoMemory>
+    requires phase { phase.old ≡ game.now.graph.now }
+    requires has_spread { gathered.HasSpread game.now.graph.now game.now.arena.now position }
+    ensures phase { phase.new ≡ phase.old }
+    ensures spread { IfOk result (SpreadAt game.now.graph.now game.now.arena.now position) }
+    ensures is_spread { IfOk result (IsSpread game.now.graph.now) }
+{
+    let view = game.arena.position(position);
+    let choice = view.choice()?;
+    phase.spread(view.sequent, &choice)
 }
 
 /// Adds as a label of the state the proposition of the node, if it is a positive literal.

@@ -1,5 +1,6 @@
 -- Labels and edges as they are gathered. Only private contracts cite this.
 --
+--   HasSpread g a v         == some spread is that of the position with the number v
 --   names_of g x            == the name of the proposition, if the node is a positive literal
 --   names_in g sp           == those of the nodes of a spread, in their order
 --   labelled i names        == these names as labels of the state i
@@ -18,7 +19,10 @@ use Rattle.ml_graph.specs.declared.node.Node.TheVariants as node
 use Rattle.ml_graph.specs.Graph.{Graph, node_at, prop_at, action_at}
 use Rattle.ml_sequent.specs.Spread.{SpreadList}
 use Rattle.ml_product.specs.Arena.{Arena}
-use Rattle.ml_extract.specs.Model.{State, IsLabel, IsModelEdge}
+use Rattle.ml_extract.specs.Model.{SpreadAt, State, IsLabel, IsModelEdge}
+
+abbrev pub HasSpread : Graph → Arena → ℕ → Type 0
+HasSpread g a v = (sp : SpreadList) × SpreadAt g a v sp
 
 abbrev pub names_of : Graph → Node → List (List ℕ)
 names_of g node.True = []
