@@ -9,9 +9,10 @@ ghost use Rattle.ml_task.specs.private.Stages.{TellsFault};
 
 use crate::lines::{formula_line, names_line, next_line};
 use crate::task::Task;
-use crate::task_rule::{LineRefusal, TaskRule};
+use crate::task_rule::TaskRule;
 use indexmap::IndexSet;
 use ml_base::{DocFault, DocRefusal};
+use ml_lines::LineRefusal;
 use std::alloc::Global;
 
 /// The task whose text this is.
@@ -59,7 +60,7 @@ fn read_lines(alloc: Global, bytes: &[u8]) -> Result<Task, DocRefusal>
     }
 }
 
-fn at_line(line: u64, refusal: LineRefusal) -> DocRefusal
+fn at_line(line: u64, refusal: LineRefusal<TaskRule>) -> DocRefusal
     ensures { result ≡ stages.at_line line refusal }
 {
     match refusal {
