@@ -2,9 +2,8 @@
 ghost use Rattle.std.specs.Prelude.{◌≡◌, ◌<◌, length};
 
 use ml_base::{Action, Name};
-use ml_graph::{GraphRefusal, ModalGraph, Node, checking_game};
+use ml_graph::{GraphRefusal, ModalGraph, Node, holds_at};
 use ml_kripke::Structure;
-use ml_parity::{Player, solve};
 use ml_tests::draft_of;
 use std::alloc::Global;
 use std::test::Fail;
@@ -85,17 +84,8 @@ fn three_states(alloc: Global) -> Result<Structure, Fail> {
     Ok(draft.structure(alloc, 3)?)
 }
 
-// Does the graph hold at the state, by its checking game?
-fn holds(alloc: Global, graph: &ModalGraph, structure: &Structure, state: u32) -> Result<bool, Fail>
-    requires { state < structure.now.states }
-{
-    let (game, vertex) = checking_game(alloc, graph, structure, state)?;
-    let solution = solve(alloc, &game)?;
-    Ok(solution.winner.get(vertex as usize) == Some(&Player::Even))
-}
-
-// Does it at just these of the states?
-fn holds_at(
+// Does the graph hold at just these of the states?
+fn holds_just_at(
     alloc: Global,
     graph: &ModalGraph,
     structure: &Structure,
@@ -103,7 +93,7 @@ fn holds_at(
 ) -> Result<bool, Fail> {
     for state in 0..structure.states() {
         let wanted = states.get(state as usize) == Some(&true);
-        if holds(alloc, graph, structure, state)? != wanted {
+        if holds_at(alloc, graph, structure, state)? != wanted {
             return Ok(false);
         }
     }
@@ -167,7 +157,7 @@ fn first_wrong(alloc: Global, structure: &Structure, rows: &[Row]) -> Result<Opt
     for (place, (nodes, priorities, root, odds, states)) in rows.iter().enumerate() {
         let graph = graph_of(alloc, nodes, priorities, *root)?;
         if graph.odd_priorities()?.as_slice() != *odds
-            || !holds_at(alloc, &graph, structure, *states)?
+            || !holds_just_at(alloc, &graph, structure, *states)?
         {
             return Ok(Some(place));
         }

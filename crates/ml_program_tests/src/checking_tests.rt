@@ -5,10 +5,9 @@ use crate::meanings::by_meaning;
 use crate::random_texts::{of_pdl, of_the_mu_calculus};
 use crate::structures::random_structure;
 use ml_front::{Logic, Problem, graph, negated, read};
-use ml_graph::checking_game;
+use ml_graph::holds_at;
 use ml_kripke::Structure;
 use ml_model_check::holds;
-use ml_parity::{Player, solve};
 use ml_tests::Numbers;
 use std::alloc::Global;
 use std::test::Fail;
@@ -23,9 +22,7 @@ fn by_game(
     requires { state < structure.now.states }
 {
     let graph = graph(alloc, problem, 4096)?;
-    let (game, vertex) = checking_game(alloc, &graph, structure, state)?;
-    let solution = solve(alloc, &game)?;
-    Ok(solution.winner.get(vertex as usize) == Some(&Player::Even))
+    Ok(holds_at(alloc, &graph, structure, state)?)
 }
 
 // do the meaning, the game and the checker agree at each state?
