@@ -6,5 +6,3 @@ pub mod Findings
 pub mod OneCheck
 -- what is written is read back
 pub mod ReadBack
--- the winner of a checking game tells where the graph holds
-pub mod Winners

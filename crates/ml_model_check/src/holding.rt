@@ -1,7 +1,6 @@
 // Whether a problem holds at a state of a structure.
 ghost use Rattle.std.specs.Prelude.{◌↔◌, ◌<◌, ℕ, IfOk, OnOk, IsErrOf, IsTrue, MatchOption};
 ghost use Rattle.ml_ctl.specs.Problem as ctl;
-ghost use Rattle.ml_graph.specs.CheckingGame.{Holds};
 ghost use Rattle.ml_front.specs.Graphs.{HasLargeClosure};
 ghost use Rattle.ml_front.specs.Logics.{logic_of};
 ghost use Rattle.ml_front.specs.Problems.{HoldsAs, HoldsAt, IsAdmitted, IsDeadlock, IsFirstDeadlock, IsFirstFork};
@@ -12,10 +11,9 @@ ghost use Rattle.ml_word_graph.specs.Problem as words;
 use crate::check_refusal::CheckRefusal;
 use ml_base::{Action, NoMemory};
 use ml_front::{AnyFormula, MOST_NODES, Problem, graph};
-use ml_graph::{ClosureRefusal, ModalGraph, checking_game};
+use ml_graph::{ClosureRefusal, holds_at};
 use ml_kripke::Structure;
 use ml_mu::{Formula, Term};
-use ml_parity::{Player, solve};
 use ml_word_check::WordRefusal;
 use std::alloc::Global;
 
@@ -52,8 +50,7 @@ pub fn holds(
     ensures fits { IsErrOf result CheckRefusal.ClosureTooLarge
         → IsAdmitted (logic_of problem.now.formula) structure.now × HasLargeClosure problem.now MOST_NODES }
 {
-    // whoever asks a structure for its states learns what its type keeps
-    let _states = structure.states();
+    structure.keeps();
     match &problem.formula {
         AnyFormula::Mu(formula) => {
             if nests_deeper(formula.root(), MOST_NESTED) {
@@ -80,7 +77,7 @@ fn first_deadlock(alloc: Global, structure: &Structure) -> Result<Option<u32>, N
     ensures { IfOk result (λ found. MatchOption found (ctl.IsAdmitted structure.now)
         (IsFirst (IsDeadlock structure.now) structure.now.states)) }
 {
-    let _states = structure.states();
+    structure.keeps();
     let step = Action::blank(alloc)?;
     Ok(structure.dead_state(&step))
 }
@@ -142,27 +139,8 @@ fn holds_by_game(
         Err(ClosureRefusal::ClosureTooLarge) => return Err(CheckRefusal::ClosureTooLarge),
         Err(ClosureRefusal::NoMemory) => return Err(CheckRefusal::NoMemory),
     };
-    let holds = graph_holds(alloc, &graph, structure, state)?;
+    let holds = holds_at(alloc, &graph, structure, state)?;
     Ok(holds)
-}
-
-// does a graph hold at the state?
-fn graph_holds(
-    alloc: Global,
-    graph: &ModalGraph,
-    structure: &Structure,
-    state: u32,
-) -> Result<bool, NoMemory>
-    requires { state < structure.now.states }
-    ensures { IfOk result (λ holds. IsTrue holds ↔ Holds graph.now structure.now state) }
-{
-    let _root = graph.root();
-    let (game, vertex) = checking_game(alloc, graph, structure, state)?;
-    let solution = solve(alloc, &game)?;
-    match solution.winner[vertex as usize] {
-        Player::Even => Ok(true),
-        Player::Odd => Ok(false),
-    }
 }
 
 // has the term more than so many binders one inside the other?

@@ -20,8 +20,8 @@ use Rattle.ml_refutation_text.specs.RuleNumbers.{rule_number}
 use Rattle.ml_refutation_text.specs.private.Reads.{HasRoom, IsNext, Goes, Breaks, TellsRule, TellsFault, at_line}
 use Rattle.ml_refutation_text.specs.declared.body_rule.BodyRule.{BodyRule}
 use Rattle.ml_refutation_text.specs.declared.rest.Rest.{Rest}
-use Rattle.ml_refutation_text.specs.declared.rest.LineRefusal.{LineRefusal}
-use Rattle.ml_refutation_text.specs.declared.rest.LineRefusal.TheVariants as line
+use Rattle.ml_lines.specs.declared.refusal.LineRefusal.{LineRefusal}
+use Rattle.ml_lines.specs.declared.refusal.LineRefusal.TheVariants as line
 use Rattle.ml_refutation_text.proofs.Runs.{Runs}
 
 pub goes_on : {v : Version} {p q r : Place} {at mid rest : Rest} → Goes v p at q mid → Goes v q mid r rest → Goes v p at r rest
@@ -82,7 +82,7 @@ module _ (v : Version) where
   fault_line p at rest line rule next breaks =
       fault_here (body v) at.line p at.text.now (rule_number rule) line (lines_of rest.text.now) next.begins (breaks (left_of at.text.now))
 
-  pub refused_line : (p : Place) (at rest : Rest) (l : Line) (e : LineRefusal) → IsNext at l rest → TellsRule p l e
+  pub refused_line : (p : Place) (at rest : Rest) (l : Line) (e : LineRefusal BodyRule) → IsNext at l rest → TellsRule p l e
       → TellsFault v p at (at_line at.line e)
   refused_line p at rest l (line.Breaks rule) next breaks = fault_line p at rest l rule next breaks
   refused_line p at rest l line.NoMemory next breaks = tt

@@ -25,8 +25,9 @@ use Rattle.ml_refutation_text.specs.LineKinds.{IsSpelt, IsOfKind}
 use Rattle.ml_refutation_text.specs.BodyRules.{Place, AtItem, item_kind, rules}
 use Rattle.ml_refutation_text.specs.private.ListKinds.{heights_kind}
 use Rattle.ml_refutation_text.specs.private.Reads.{Breaks, TellsRule}
-use Rattle.ml_refutation_text.specs.declared.rest.LineRefusal.{LineRefusal}
-use Rattle.ml_refutation_text.specs.declared.rest.LineRefusal.TheVariants as refusal
+use Rattle.ml_lines.specs.declared.refusal.LineRefusal.{LineRefusal}
+use Rattle.ml_refutation_text.specs.declared.body_rule.BodyRule.{BodyRule}
+use Rattle.ml_lines.specs.declared.refusal.LineRefusal.TheVariants as refusal
 use Rattle.ml_refutation_text.specs.private.WordReads.{FitsAGuess}
 use Rattle.ml_refutation_text.specs.private.ItemReads.{knows, AreNames, IsItemed, AtItems, IsItemOf, HasStack, LacksStack}
 use Rattle.ml_refutation_text.specs.declared.body_rule.BodyRule.TheVariants.{OfKind, Numbers, ItemsAscend, HeightForEach, InTables}
@@ -242,7 +243,7 @@ module _ (names wanted : ℕ) (es : List Entry) (q : List ℕ) (traces : traced.
             outside_none rows i out = get_or_past rows i [] out
 
         -- the stack of this number isn't there, or may not be the item's
-        pub table_lacks : (place : ℕ) (e : LineRefusal)
+        pub table_lacks : (place : ℕ) (e : LineRefusal BodyRule)
             → place ≡ min (value p) (2 ^ 64 - 1)
             → IsAbove before s
             → LacksStack ks place live e

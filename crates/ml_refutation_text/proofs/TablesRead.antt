@@ -20,7 +20,8 @@ use Rattle.ml_refutation_text.specs.BodyRules.{Place, AtSequents, AtTableSequent
 use Rattle.ml_refutation_text.specs.private.Reads.{HasRoom, IsNext, Goes, IsUsual, TellsRule, TellsFault, at_line}
 use Rattle.ml_refutation_text.specs.private.EntryReads.{IsSequentRead, TellsSequent}
 use Rattle.ml_refutation_text.specs.declared.rest.Rest.{Rest}
-use Rattle.ml_refutation_text.specs.declared.rest.LineRefusal.{LineRefusal}
+use Rattle.ml_lines.specs.declared.refusal.LineRefusal.{LineRefusal}
+use Rattle.ml_refutation_text.specs.declared.body_rule.BodyRule.{BodyRule}
 use Rattle.ml_refutation_text.proofs.Runs.{Runs}
 use Rattle.ml_refutation_text.proofs.RowLines.{sequents_first, sequent_row, stacks_first, stack_row}
 use Rattle.ml_refutation_text.proofs.Going.{goes_begin, goes_on, goes_run, fault_on, refused_line, room_on}
@@ -128,7 +129,7 @@ module _ (names size : ℕ) (at : Rest) where
           (missing v (AtTableStack names qs size rows) tt)
 
       module _ (line : Line) (behind : Rest) (next : IsNext rest line behind) where
-        pub stack_refused : (e : LineRefusal) (told : DocRefusal) → told ≡ at_line rest.line e
+        pub stack_refused : (e : LineRefusal BodyRule) (told : DocRefusal) → told ≡ at_line rest.line e
             → ((qs rows : List (List ℕ)) (size : ℕ) → TellsRule (AtTableStack names qs size rows) line e)
             → (v : Version) (qs : List (List ℕ)) → TellsFault v (at_stack_table names qs size []) at told
         stack_refused e told is tells v qs =

@@ -25,7 +25,8 @@ use Rattle.ml_refutation_text.specs.private.Reads.{HasRoom, IsNext, Goes, IsUsua
 use Rattle.ml_refutation_text.specs.private.ItemReads.{knows, before_of, AtItems, IsItemOf, IsHeights, TellsTrace}
 use Rattle.ml_refutation_text.specs.declared.known.Tables.{Tables}
 use Rattle.ml_refutation_text.specs.declared.rest.Rest.{Rest}
-use Rattle.ml_refutation_text.specs.declared.rest.LineRefusal.{LineRefusal}
+use Rattle.ml_lines.specs.declared.refusal.LineRefusal.{LineRefusal}
+use Rattle.ml_refutation_text.specs.declared.body_rule.BodyRule.{BodyRule}
 use Rattle.ml_refutation_text.proofs.GoodEntries.{item_run, heights_run}
 use Rattle.ml_refutation_text.proofs.TablesGrow.{grows_none, grows_on, same_form}
 use Rattle.ml_refutation_text.proofs.Going.{goes_begin, goes_on, goes_run, fault_on, refused_line, room_on}
@@ -77,7 +78,7 @@ module _ (V : Version) (names live : ℕ) (old : Tables) (at : Rest) where
       same : F ≡ form_of V old
       same = same_form V old tables so_far.grown
 
-      pub items_broken : (e : LineRefusal) (told : DocRefusal)
+      pub items_broken : (e : LineRefusal BodyRule) (told : DocRefusal)
           → told ≡ at_line rest.line e
           → TellsTrace F names live before line e
           → (v : Version) (wanted : ℕ) (es : List Entry) (q : List ℕ) → TellsFault v (place wanted es q []) at told

@@ -16,7 +16,6 @@ ghost use Rattle.ml_refutation_text.specs.private.BranchReads.{IsClosed, IsBranc
 
 use crate::body_rule::BodyRule;
 use crate::rest::{Rest, fault, next_line};
-use crate::words::word_behind;
 use ml_base::{DocRefusal, NoMemory};
 use ml_lines::{are_words, more_words, one_word, read_number, split_word, two_words};
 use ml_refutation::{Decision, NESTING_LIMIT};

@@ -1,4 +1,4 @@
-// What is left of a text, and why a line of it is refused.
+// What is left of a text, and how a refused line of it is told.
 ghost use Rattle.std.specs.Prelude.{◌≡◌, IfOk, IfErr};
 ghost use Rattle.ml_base.specs.declared.version.Version.{Version};
 ghost use Rattle.ml_lines.specs.Reading.{words_of};
@@ -8,53 +8,14 @@ ghost use Rattle.ml_refutation_text.specs.private.Reads as reads;
 ghost use Rattle.ml_refutation_text.specs.private.Reads.{HasRoom, IsNext, IsUsual, TellsFault};
 
 use crate::body_rule::BodyRule;
-use ml_base::{DocFault, DocRefusal, NoMemory};
-use ml_lines::split_line;
-use std::alloc::{AllocError, AllocFailed};
+use ml_base::{DocFault, DocRefusal};
+use ml_lines::{LineRefusal, split_line};
 
 /// What is left of a text, and the number of the line with which it begins.
 #[derive(Clone, Copy)]
 pub(crate) struct Rest<'a> {
     pub(crate) text: &'a [u8],
     pub(crate) line: u64,
-}
-
-/// Why a line is refused.
-#[derive(Clone, Copy, PartialEq, Eq)]
-pub(crate) enum LineRefusal {
-    /// The lowest rule that it breaks.
-    Breaks(BodyRule),
-    NoMemory,
-}
-
-impl From<NoMemory> for LineRefusal {
-    ghost use Rattle.ml_refutation_text.specs.declared.rest.LineRefusal.TheVariants as refusal;
-
-    ghost from_gives = { λ _ e. e ≡ refusal.NoMemory };
-
-    fn from(_: NoMemory) -> LineRefusal {
-        LineRefusal::NoMemory
-    }
-}
-
-impl From<AllocError> for LineRefusal {
-    ghost use Rattle.ml_refutation_text.specs.declared.rest.LineRefusal.TheVariants as refusal;
-
-    ghost from_gives = { λ _ e. e ≡ refusal.NoMemory };
-
-    fn from(_: AllocError) -> LineRefusal {
-        LineRefusal::NoMemory
-    }
-}
-
-impl<T: Drop> From<AllocFailed<T>> for LineRefusal {
-    ghost use Rattle.ml_refutation_text.specs.declared.rest.LineRefusal.TheVariants as refusal;
-
-    ghost from_gives = { λ _ e. e ≡ refusal.NoMemory };
-
-    fn from(_: AllocFailed<T>) -> LineRefusal {
-        LineRefusal::NoMemory
-    }
 }
 
 // the next line, and what stands behind it
@@ -84,7 +45,7 @@ pub(crate) fn fault(line: u64, rule: BodyRule) -> DocRefusal
     })
 }
 
-pub(crate) fn at_line(line: u64, refusal: LineRefusal) -> DocRefusal
+pub(crate) fn at_line(line: u64, refusal: LineRefusal<BodyRule>) -> DocRefusal
     ensures { result ≡ reads.at_line line refusal }
 {
     match refusal {

@@ -14,10 +14,10 @@ ghost use Rattle.ml_refutation_text.specs.private.EntryReads.{IsSequentRead, Tel
 use crate::body_rule::BodyRule;
 use crate::known::Tables;
 use crate::lists::{are_names, ascends};
-use crate::rest::{LineRefusal, Rest, at_line, fault, next_line};
-use crate::words::{listed_words, read_any, read_numbered, read_numbers, word_behind};
+use crate::rest::{Rest, at_line, fault, next_line};
+use crate::words::{listed_words, read_any, read_numbered, read_numbers};
 use ml_base::DocRefusal;
-use ml_lines::{are_words, more_words};
+use ml_lines::{LineRefusal, are_words, more_words, word_behind};
 use ml_refutation::Lists;
 use std::alloc::Global;
 
@@ -41,7 +41,7 @@ pub(crate) fn read_sequent<'a>(
 }
 
 // the sequent that a line tells
-fn sequent_of(alloc: Global, line: &[u8]) -> Result<Vec<u32>, LineRefusal>
+fn sequent_of(alloc: Global, line: &[u8]) -> Result<Vec<u32>, LineRefusal<BodyRule>>
     ensures read { IfOk result (λ q. (words_of line.now ≡ sequent_line q.items) × All plain.Fits q.items × IsAscending q.items) }
     ensures table { IfErr result (λ e. (names size : ℕ) (rows : List (List ℕ)) → TellsRule (AtTableSequent names size rows) (words_of line.now) e) }
     ensures entry { IfErr result (λ e. (k : Known) (es : List plain.Entry) → TellsRule (AtSequent k es) (words_of line.now) e) }
@@ -181,7 +181,7 @@ fn stacks_of(line: &[u8]) -> Result<u64, BodyRule>
 }
 
 // the stack that a line of its table tells
-fn stack_of(alloc: Global, line: &[u8], names: u32) -> Result<Vec<u32>, LineRefusal>
+fn stack_of(alloc: Global, line: &[u8], names: u32) -> Result<Vec<u32>, LineRefusal<BodyRule>>
     ensures read { IfOk result (λ ns. (words_of line.now ≡ stack_line ns.items) × plain.IsStack names ns.items) }
     ensures refused { IfErr result (λ e. (qs rows : List (List ℕ)) (size : ℕ) → TellsRule (AtTableStack names qs size rows) (words_of line.now) e) }
 {

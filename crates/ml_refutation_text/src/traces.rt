@@ -20,10 +20,10 @@ ghost use Rattle.ml_refutation_text.specs.private.ItemReads.{knows, AreNames, Is
 use crate::body_rule::BodyRule;
 use crate::known::Tables;
 use crate::lists::{are_names, ascend_below};
-use crate::rest::{LineRefusal, Rest, at_line, next_line};
+use crate::rest::{Rest, at_line, next_line};
 use crate::words::{listed_words, read_any, read_guess, read_numbers};
 use ml_base::{DocRefusal, Version};
-use ml_lines::{are_words, more_words, one_word, read_number};
+use ml_lines::{LineRefusal, are_words, more_words, one_word, read_number};
 use ml_refutation::{Item, Lists};
 use std::alloc::Global;
 
@@ -81,7 +81,7 @@ fn trace_line(
     tables: &mut Tables,
     live: u32,
     before: Option<&Item>,
-) -> Result<TraceLine, LineRefusal>
+) -> Result<TraceLine, LineRefusal<BodyRule>>
     ensures read { IfOk result (λ told. (later : Tables) → Grows version tables.new later
         → IsTraceLine (form_of version tables.old) names live (before_of (option_copied before.entry)) (words_of line.now) later.stacks told) }
     ensures grows { Grows version tables.old tables.new }
@@ -107,7 +107,7 @@ fn item_at(
     tables: &mut Tables,
     live: u32,
     before: Option<&Item>,
-) -> Result<Item, LineRefusal>
+) -> Result<Item, LineRefusal<BodyRule>>
     ensures read { IfOk result (λ a. (later : Tables) → Grows version tables.new later
         → IsItemOf (form_of version tables.old) live (before_of (option_copied before.entry)) (words_of line.now) (item_of later.stacks a)) }
     ensures grows { Grows version tables.old tables.new }
@@ -132,7 +132,7 @@ fn heights_of(
     line: &[u8],
     names: u32,
     behind: Option<&[u8]>,
-) -> Result<Vec<u32>, LineRefusal>
+) -> Result<Vec<u32>, LineRefusal<BodyRule>>
     requires are_words { AreWords (words_of line.now) }
     requires begins { words_of line.now ≡ codes "heights" ∷ words_behind (option_copied behind) }
     ensures read { IfOk result (λ hs. IsHeights names (words_of line.now) hs.items) }
@@ -156,7 +156,7 @@ fn item_in_full(
     line: &[u8],
     live: u32,
     before: Option<&Item>,
-) -> Result<(u32, Option<u32>, Vec<u32>), LineRefusal>
+) -> Result<(u32, Option<u32>, Vec<u32>), LineRefusal<BodyRule>>
     ensures read { IfOk result (λ a. IsItemOf text.InFull live (before_of (option_copied before.entry)) (words_of line.now)
         (record { state = record { node = a.0; odd = a.1 }; stack = a.2.items })) }
     ensures refused { IfErr result (λ e. (names : ℕ) → TellsItem text.InFull names live (before_of (option_copied before.entry)) (words_of line.now) e) }
@@ -185,7 +185,7 @@ fn item_by_table(
     tables: &Tables,
     live: u32,
     before: Option<&Item>,
-) -> Result<Item, LineRefusal>
+) -> Result<Item, LineRefusal<BodyRule>>
     ensures read { IfOk result (λ a. (qs : List (List ℕ)) → IsItemOf (text.ByTables qs tables.now.stacks) live (before_of (option_copied before.entry)) (words_of line.now) (item_of tables.now.stacks a)) }
     ensures refused { IfErr result (λ e. (names : ℕ) (qs : List (List ℕ))
         → TellsItem (text.ByTables qs tables.now.stacks) names live (before_of (option_copied before.entry)) (words_of line.now) e) }
@@ -214,7 +214,7 @@ fn item_by_table(
 }
 
 // the place of the stack of this number, whose names have to be in use
-fn stack_at(tables: &Tables, number: u64, live: u32) -> Result<usize, LineRefusal>
+fn stack_at(tables: &Tables, number: u64, live: u32) -> Result<usize, LineRefusal<BodyRule>>
     ensures read { IfOk result (HasStack tables.now.stacks number live) }
     ensures refused { IfErr result (LacksStack tables.now.stacks number live) }
 {

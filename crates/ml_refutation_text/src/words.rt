@@ -10,31 +10,14 @@ ghost use Rattle.ml_refutation_text.specs.LineKinds.{Spells};
 ghost use Rattle.ml_refutation_text.specs.LineKinds.{IsSpelt, IsOfKind, open_kind, Fixed};
 ghost use Rattle.ml_refutation.specs.Guesses.{FitsGuess};
 ghost use Rattle.ml_refutation.specs.Refutation as refutation;
-ghost use Rattle.ml_refutation_text.specs.private.Reads.{IsNumbered, IsPlaced, HasRoom, IsNext, IsUsual, TellsFault};
+ghost use Rattle.ml_refutation_text.specs.private.Reads.{IsPlaced, HasRoom, IsNext, IsUsual, TellsFault};
 ghost use Rattle.ml_refutation_text.specs.private.WordReads.{FitsAGuess};
 
 use crate::body_rule::BodyRule;
 use crate::rest::{Rest, fault, next_line};
 use ml_base::{DocRefusal, NoMemory};
-use ml_lines::{are_words, more_words, one_word, read_number, split_word, two_words};
+use ml_lines::{are_words, more_words, read_number, split_word, two_words, word_behind};
 use std::alloc::Global;
-
-// the word behind a fixed one, where the line is these two
-pub(crate) fn word_behind<'a>(line: &'a [u8], fixed: &[u8]) -> Option<&'a [u8]>
-    ensures { MatchOption result (¬ (IsNumbered fixed.now (words_of line.now)))
-        (λ w. AreWords (words_of line.now) × (words_of line.now ≡ fixed.now ∷ w.now ∷ [])) }
-{
-    match two_words(line) {
-        Some((first, second)) => {
-            if first == fixed && are_words(line) {
-                Some(second)
-            } else {
-                None
-            }
-        }
-        None => None,
-    }
-}
 
 // the number of a line that is a fixed word and a number, at each place of that kind
 pub(crate) fn read_numbered<'a>(at: Rest<'a>, fixed: &[u8]) -> Result<(u32, Rest<'a>), DocRefusal>

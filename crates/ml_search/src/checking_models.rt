@@ -2,15 +2,13 @@
 ghost use Rattle.std.specs.Prelude.{◌≡◌, ◌+◌, ◌<◌, ◌≤◌, ℕ, true, false, length, slice_index_or, IfOk, IsTrue};
 ghost use Rattle.ml_lists.specs.Member.{IsMember};
 ghost use Rattle.ml_extract.specs.Extraction.{IsReachedFrom};
-ghost use Rattle.ml_graph.specs.CheckingGame.{Holds};
 ghost use Rattle.ml_graph.specs.Graph.{size};
 ghost use Rattle.ml_search.specs.Found.{IsModelFound, HasFewEdges, diamonds_with, has_diamond};
 ghost use Rattle.ml_search.specs.private.Checked.{AreAlike, AreReached};
 
 use ml_base::{Action, Edge, NoMemory};
-use ml_graph::{ModalGraph, Node, checking_game};
+use ml_graph::{ModalGraph, Node, holds_at};
 use ml_kripke::{Model, Structure};
-use ml_parity::{Player, solve};
 use std::alloc::Global;
 
 /// Is the node a Diamond of the action?
@@ -57,7 +55,7 @@ fn goes_on(edges: &[Edge], place: usize, many: usize) -> bool
 fn has_few_edges(graph: &ModalGraph, structure: &Structure) -> bool
     ensures { IsTrue result → HasFewEdges graph.now structure.now }
 {
-    let _states = structure.states();
+    structure.keeps();
     let edges = structure.edges();
     for (place, edge) in edges.iter().enumerate() {
         if goes_on(edges, place, diamonds_with(graph, &edge.action)) {
@@ -111,29 +109,9 @@ fn reach(structure: &Structure, _start: u32, flags: &mut [bool])
     ensures size { length flags.new ≡ length flags.old }
     ensures reached { AreReached structure.now _start flags.new }
 {
-    let _states = structure.states();
+    structure.keeps();
     for edge in structure.edges() {
         pass(structure, _start, edge, flags);
-    }
-}
-
-/// Does the graph hold at the state?
-fn holds(
-    alloc: Global,
-    graph: &ModalGraph,
-    structure: &Structure,
-    state: u32,
-) -> Result<bool, NoMemory>
-    requires { state < structure.now.states }
-    ensures { IfOk result (λ b. IsTrue b → Holds graph.now structure.now state) }
-{
-    graph.keeps();
-    let _states = structure.states();
-    let (game, vertex) = checking_game(alloc, graph, structure, state)?;
-    let solution = solve(alloc, &game)?;
-    match solution.winner.get(vertex as usize) {
-        Some(Player::Even) => Ok(true),
-        _ => Ok(false),
     }
 }
 
@@ -144,11 +122,11 @@ pub(crate) fn is_model(alloc: Global, graph: &ModalGraph, model: &Model) -> Resu
     ensures { IfOk result (λ b. IsTrue b → IsModelFound graph.now model.now.structure model.now.start) }
 {
     graph.keeps();
-    let _states = model.structure.states();
+    model.structure.keeps();
     if has_few_edges(graph, &model.structure) {
         let reached = all_reached(alloc, &model.structure, model.start)?;
         if reached {
-            let is_met = holds(alloc, graph, &model.structure, model.start)?;
+            let is_met = holds_at(alloc, graph, &model.structure, model.start)?;
             return Ok(is_met);
         }
     }

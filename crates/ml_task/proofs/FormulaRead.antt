@@ -14,17 +14,17 @@ use Rattle.ml_ctl.specs.Parsing.{IsParsedAs, IsRefusedBy}
 use Rattle.ml_ctl.specs.declared.language.Language.TheVariants.{Ltl}
 use Rattle.ml_ctl.proofs.OneAnswer.{one_answer}
 use Rattle.ml_lines.specs.Lines.{Line}
-use Rattle.ml_lines.specs.Reading.{words_of, is_blank}
+use Rattle.ml_lines.specs.Reading.{IsTextBehind, words_of, is_blank}
 use Rattle.ml_lines.proofs.Cuts.{some_part}
 use Rattle.ml_task.specs.Task.{knows}
-use Rattle.ml_task.specs.TaskText.{IsFormulaLine, formula_bytes, rules, AtFormula}
-use Rattle.ml_task.specs.declared.task_rule.LineRefusal.{LineRefusal}
-use Rattle.ml_task.specs.declared.task_rule.LineRefusal.TheVariants as line
+use Rattle.ml_task.specs.TaskText.{formula_bytes, rules, AtFormula}
+use Rattle.ml_lines.specs.declared.refusal.LineRefusal.{LineRefusal}
+use Rattle.ml_lines.specs.declared.refusal.LineRefusal.TheVariants as line
 use Rattle.ml_task.specs.declared.task_rule.TaskRule.{TaskRule}
 use Rattle.ml_task.specs.declared.task_rule.TaskRule.TheVariants.{Parses, Known}
 use Rattle.ml_task.specs.private.Stages.{Breaks, Tells, formula_refusal}
 
-abbrev rule_told : LineRefusal → TaskRule
+abbrev rule_told : LineRefusal TaskRule → TaskRule
 rule_told (line.Breaks r) = r
 rule_told line.NoMemory = Parses
 
@@ -42,11 +42,11 @@ told_other (parser.TooMany at) r told = (λ is. cc, same_rule r told)
 told_other (parser.TooNested at) r told = (λ is. cc, same_rule r told)
 told_other (parser.NameTooLong at) r told = (λ is. cc, same_rule r told)
 
-formula_line : (ws : Line) → 0 < length ws → IsFormulaLine (codes "formula" ∷ ws)
+formula_line : (ws : Line) → 0 < length ws → IsTextBehind (codes "formula") (codes "formula" ∷ ws)
 formula_line [] some = absurd (omega arith)
 formula_line (w ∷ ws) some = (w, ws, refl)
 
-pub is_formula_line : (given : List ℕ) → IsFormulaLine (codes "formula" ∷ words_of given)
+pub is_formula_line : (given : List ℕ) → IsTextBehind (codes "formula") (codes "formula" ∷ words_of given)
 is_formula_line given = formula_line (words_of given) (some_part is_blank given)
 
 pub given_bytes : (given : List ℕ) → formula_bytes (codes "formula" ∷ words_of given) ≡ given
@@ -71,7 +71,7 @@ module _ (names : List (List ℕ)) (words : Line) (given : List ℕ) (is : words
       → Tells (rules (AtFormula names)) words (formula_refusal e)
   refused_broken e refused = go (formula_refusal e) refl
     where
-      go : (r : LineRefusal) → formula_refusal e ≡ r → Tells (rules (AtFormula names)) words r
+      go : (r : LineRefusal TaskRule) → formula_refusal e ≡ r → Tells (rules (AtFormula names)) words r
       go line.NoMemory told = tt
       go (line.Breaks rule) told =
           let some = told_other e rule told in

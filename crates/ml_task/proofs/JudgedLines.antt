@@ -10,13 +10,14 @@ use Rattle.ml_ctl.specs.Parsing.{IsParsedAs, IsRefusedBy}
 use Rattle.ml_ctl.specs.declared.language.Language.TheVariants.{Ltl}
 use Rattle.ml_ctl.proofs.OneAnswer.{one_answer}
 use Rattle.ml_lines.specs.Lines.{Word, Line}
+use Rattle.ml_lines.specs.Reading.{IsTextBehind}
 use Rattle.ml_lines.proofs.DecidedWords.{decided_line, decided_words}
 use Rattle.ml_lists.specs.Readings.{Judges, IsJudged}
 use Rattle.ml_lists.proofs.Decided as is
 use Rattle.ml_lists.proofs.Decided.{Decided}
 use Rattle.ml_lists.proofs.Documents.{judged}
 use Rattle.ml_task.specs.Task.{are_new, is_named, knows, most_names}
-use Rattle.ml_task.specs.TaskText.{AtInputs, AtOutputs, AtFormula, AtNothing, IsFormulaLine, IsNamesLine, formula_bytes, names_rules, rules, task}
+use Rattle.ml_task.specs.TaskText.{AtInputs, AtOutputs, AtFormula, AtNothing, IsNamesLine, formula_bytes, names_rules, rules, task}
 
 is_names_line : (fixed : Word) (line : Line) → Decided (IsNamesLine fixed line)
 is_names_line fixed line = is.decided_both (decided_words line) (decided_line line (fixed ∷ drop 1 line))
@@ -37,7 +38,7 @@ names_judged fixed seen line =
       ),
     )
 
-is_formula_line : (line : Line) → Decided (IsFormulaLine line)
+is_formula_line : (line : Line) → Decided (IsTextBehind (codes "formula") line)
 is_formula_line [] = inr (λ (w, ws, same). cc)
 is_formula_line (x ∷ []) = inr (λ (w, ws, same). cc)
 is_formula_line (x ∷ w ∷ ws) =

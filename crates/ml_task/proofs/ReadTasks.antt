@@ -15,8 +15,8 @@ use Rattle.ml_lines.proofs.Cuts.{some_part}
 use Rattle.ml_lists.specs.Documents.{IsFirstBad, IsFirstBroken, KeepsAll}
 use Rattle.ml_task.specs.Task.{knows, task_of}
 use Rattle.ml_task.specs.TaskText.{AtFormula, AtInputs, AtNothing, IsTaskText, Place, names_rules, rules, task, task_lines}
-use Rattle.ml_task.specs.declared.task_rule.LineRefusal.{LineRefusal}
-use Rattle.ml_task.specs.declared.task_rule.LineRefusal.TheVariants as line
+use Rattle.ml_lines.specs.declared.refusal.LineRefusal.{LineRefusal}
+use Rattle.ml_lines.specs.declared.refusal.LineRefusal.TheVariants as line
 use Rattle.ml_task.specs.declared.task_rule.TaskRule.TheVariants.{OfKind}
 use Rattle.ml_task.specs.private.Stages.{AreNamesRead, AreSignalsRead, IsFormulaRead, Tells, TellsFault, at_line, first_of}
 use Rattle.ml_task.proofs.FormulaRead.{given_bytes, is_formula_line}
@@ -51,7 +51,7 @@ module _ (text : List ℕ) (inputs outputs seen : List (List ℕ)) (rest : List 
       subst (λ ls. IsFirstBad task 1 AtInputs ls bad r) (sym so_far.lines_are)
       (inr (so_far.inputs_good, inr (so_far.outputs_good, found)))
 
-  pub formula_told : (e : LineRefusal) → Tells (rules (AtFormula seen)) (first_of rest) e → TellsFault text (at_line 3 e)
+  pub formula_told : (e : LineRefusal TaskRule) → Tells (rules (AtFormula seen)) (first_of rest) e → TellsFault text (at_line 3 e)
   formula_told line.NoMemory told = tt
   formula_told (line.Breaks rule) told =
       behind 3 _ (first_bad 3 (AtFormula (inputs ++ outputs)) rest _

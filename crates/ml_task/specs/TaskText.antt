@@ -10,7 +10,6 @@
 --   Place, after           == what stands at a line, and behind it
 --   rule_number r          == the number of a rule, from 41 on
 --   IsNamesLine w line     == the line is the word w, and then words
---   IsFormulaLine line     == the line is `formula`, a blank, and anything
 --   formula_bytes line     == what stands behind the first blank of a line
 --   names_rules w seen     == the rules of a line of names, where `seen` were named before
 --   task                   == the places with their rules
@@ -22,7 +21,7 @@ use Rattle.ml_ctl.specs.Formula.{Formula}
 use Rattle.ml_ctl.specs.Parsing.{IsParsedAs}
 use Rattle.ml_ctl.specs.declared.language.Language.TheVariants.{Ltl}
 use Rattle.ml_lines.specs.Lines.{Word, Line}
-use Rattle.ml_lines.specs.Reading.{AreWords, is_word, lines_of, left_of, words_of}
+use Rattle.ml_lines.specs.Reading.{AreWords, IsTextBehind, is_word, lines_of, left_of, words_of}
 use Rattle.ml_lists.specs.Documents.{Format, Rule, rule, IsFirstBad}
 use Rattle.ml_task.specs.Task.{Task, IsTask, most_names, is_named, are_new, knows}
 use Rattle.ml_task.specs.declared.task_rule.TaskRule.{TaskRule}
@@ -59,9 +58,6 @@ after AtNothing line = AtNothing
 abbrev pub IsNamesLine : Word → Line → Type 0
 IsNamesLine fixed line = AreWords line × (line ≡ fixed ∷ drop 1 line)
 
-abbrev pub IsFormulaLine : Line → Type 0
-IsFormulaLine line = (w : Word) × (ws : Line) × (line ≡ codes "formula" ∷ w ∷ ws)
-
 abbrev pub formula_bytes : Line → List ℕ
 formula_bytes line = join_with_byte 32 (drop 1 line)
 
@@ -88,7 +84,7 @@ abbrev pub rules : Place → List (Rule Line)
 rules AtInputs = names_rules (codes "inputs") []
 rules (AtOutputs inputs) = names_rules (codes "outputs") inputs
 rules (AtFormula names) =
-    asks OfKind IsFormulaLine
+    asks OfKind (IsTextBehind (codes "formula"))
     ∷ asks Parses (λ line. (f : Formula) × IsParsedAs Ltl (formula_bytes line) f)
     ∷ asks Known (λ line. (f : Formula) → IsParsedAs Ltl (formula_bytes line) f → IsTrue (knows names f))
     ∷ []

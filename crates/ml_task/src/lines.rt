@@ -1,18 +1,18 @@
 // The three lines of a task, each with the rules that it may break.
-ghost use Rattle.std.specs.Prelude.{◌≡◌, ◌∷◌, [], IfOk, IfErr, IsTrue, MatchOption, ◌++◌, length, codes};
+ghost use Rattle.std.specs.Prelude.{◌≡◌, ◌∷◌, [], IfOk, IfErr, IsTrue, MatchOption, ◌++◌, length};
 ghost use Rattle.std.specs.Option.{option_copied};
 ghost use Rattle.ml_lines.specs.Lines.{Word, Line};
 ghost use Rattle.ml_lines.specs.Reading.{words_of, words_behind, AreWords};
-ghost use Rattle.ml_task.specs.TaskText.{IsNamesLine, IsFormulaLine, names_rules, rules, task_lines, AtFormula};
+ghost use Rattle.ml_task.specs.TaskText.{IsNamesLine, names_rules, rules, task_lines, AtFormula};
 ghost use Rattle.ml_task.specs.private.Stages as stages;
 ghost use Rattle.ml_task.specs.private.Stages.{first_of, Tells, AreNamesRead, IsFormulaRead};
 
 use crate::task::MOST_NAMES;
-use crate::task_rule::{LineRefusal, TaskRule};
+use crate::task_rule::TaskRule;
 use crate::words::{add_names, knows, names_behind};
 use indexmap::IndexSet;
 use ml_base::{Name, ParseRefusal};
-use ml_lines::{are_words, more_words, split_line, split_word};
+use ml_lines::{LineRefusal, are_words, split_line, split_word, text_behind};
 use ml_ltl::{Formula, parse};
 use std::alloc::Global;
 
@@ -54,7 +54,7 @@ pub(crate) fn names_line<'a>(
     text: &'a [u8],
     fixed: &[u8],
     seen: &mut IndexSet<Name>,
-) -> Result<(Vec<Name>, &'a [u8]), LineRefusal>
+) -> Result<(Vec<Name>, &'a [u8]), LineRefusal<TaskRule>>
     ensures read { IfOk result (λ r. AreNamesRead fixed.now seen.old.keys (task_lines text.now) r.0.items (task_lines r.1.now)) }
     ensures seen { IfOk result (λ r. seen.new.keys ≡ seen.old.keys ++ r.0.items) }
     ensures refused { IfErr result (Tells (names_rules fixed.now seen.old.keys) (first_of (task_lines text.now))) }
@@ -71,7 +71,7 @@ fn names_of(
     line: &[u8],
     fixed: &[u8],
     seen: &mut IndexSet<Name>,
-) -> Result<Vec<Name>, LineRefusal>
+) -> Result<Vec<Name>, LineRefusal<TaskRule>>
     ensures read { IfOk result (λ names. AreNamesRead fixed.now seen.old.keys (words_of line.now ∷ []) names.items []) }
     ensures seen { IfOk result (λ names. seen.new.keys ≡ seen.old.keys ++ names.items) }
     ensures refused { IfErr result (Tells (names_rules fixed.now seen.old.keys) (words_of line.now)) }
@@ -96,7 +96,7 @@ pub(crate) fn formula_line<'a>(
     alloc: Global,
     text: &'a [u8],
     seen: &IndexSet<Name>,
-) -> Result<(Formula, &'a [u8]), LineRefusal>
+) -> Result<(Formula, &'a [u8]), LineRefusal<TaskRule>>
     ensures read { IfOk result (λ r. IsFormulaRead seen.now.keys (task_lines text.now) r.0 (task_lines r.1.now)) }
     ensures refused { IfErr result (Tells (rules (AtFormula seen.now.keys)) (first_of (task_lines text.now))) }
 {
@@ -111,11 +111,11 @@ fn formula_of_line(
     alloc: Global,
     line: &[u8],
     seen: &IndexSet<Name>,
-) -> Result<Formula, LineRefusal>
+) -> Result<Formula, LineRefusal<TaskRule>>
     ensures read { IfOk result (λ f. IsFormulaRead seen.now.keys (words_of line.now ∷ []) f []) }
     ensures refused { IfErr result (Tells (rules (AtFormula seen.now.keys)) (words_of line.now)) }
 {
-    let Some(given) = formula_text(line) else {
+    let Some(given) = text_behind(line, b"formula") else {
         return Err(LineRefusal::Breaks(TaskRule::OfKind));
     };
     match parse(alloc, given) {
@@ -131,7 +131,7 @@ fn formula_of_line(
 }
 
 // the refusal of a line whose text the parser refuses
-fn formula_refusal(refusal: ParseRefusal) -> LineRefusal
+fn formula_refusal(refusal: ParseRefusal) -> LineRefusal<TaskRule>
     ensures { result ≡ stages.formula_refusal refusal }
 {
     match refusal {
@@ -142,22 +142,5 @@ fn formula_refusal(refusal: ParseRefusal) -> LineRefusal
         | ParseRefusal::TooMany { .. }
         | ParseRefusal::TooNested { .. }
         | ParseRefusal::NameTooLong { .. } => LineRefusal::Breaks(TaskRule::Parses),
-    }
-}
-
-// what stands behind `formula` and a blank
-fn formula_text(line: &[u8]) -> Option<&[u8]>
-    ensures { MatchOption result (¬ (IsFormulaLine (words_of line.now)))
-        (λ text. words_of line.now ≡ codes "formula" ∷ words_of text.now) }
-{
-    match more_words(line) {
-        Some((first, rest)) => {
-            if first == b"formula".as_slice() {
-                Some(rest)
-            } else {
-                None
-            }
-        }
-        None => None,
     }
 }

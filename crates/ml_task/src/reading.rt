@@ -9,9 +9,10 @@ ghost use Rattle.ml_task.specs.private.Stages.{AreSignalsRead, IsFormulaRead, Te
 
 use crate::lines::{formula_line, names_line, next_line};
 use crate::task::Task;
-use crate::task_rule::{LineRefusal, TaskRule};
+use crate::task_rule::TaskRule;
 use indexmap::IndexSet;
 use ml_base::{DocFault, DocRefusal, Name};
+use ml_lines::LineRefusal;
 use ml_ltl::Formula;
 use std::alloc::Global;
 
@@ -86,7 +87,7 @@ fn formula_to_end(alloc: Global, text: &[u8], seen: &IndexSet<Name>) -> Result<F
     }
 }
 
-fn at_line(line: u64, refusal: LineRefusal) -> DocRefusal
+fn at_line(line: u64, refusal: LineRefusal<TaskRule>) -> DocRefusal
     ensures { result ≡ stages.at_line line refusal }
 {
     match refusal {

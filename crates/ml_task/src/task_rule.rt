@@ -2,8 +2,6 @@
 ghost use Rattle.std.specs.Prelude.{◌≡◌};
 ghost use Rattle.ml_task.specs.TaskText.{rule_number};
 
-use ml_base::NoMemory;
-
 /// A rule that a line of a task keeps.
 #[derive(Clone, Copy, PartialEq, Eq)]
 pub enum TaskRule {
@@ -34,23 +32,5 @@ impl TaskRule {
             TaskRule::Parses => 45,
             TaskRule::Known => 46,
         }
-    }
-}
-
-// Why a line was refused.
-#[derive(Clone, Copy, PartialEq, Eq)]
-pub(crate) enum LineRefusal {
-    /// The lowest rule that it breaks.
-    Breaks(TaskRule),
-    NoMemory,
-}
-
-impl From<NoMemory> for LineRefusal {
-    ghost use Rattle.ml_task.specs.declared.task_rule.LineRefusal.TheVariants as refusal;
-
-    ghost from_gives = { λ _ e. e ≡ refusal.NoMemory };
-
-    fn from(_: NoMemory) -> LineRefusal {
-        LineRefusal::NoMemory
     }
 }

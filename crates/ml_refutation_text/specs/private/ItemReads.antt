@@ -33,8 +33,9 @@ use Rattle.ml_refutation_text.specs.private.TextLines.{ItemLine}
 use Rattle.ml_refutation_text.specs.BodyRules.{Known, AtItem}
 use Rattle.ml_refutation_text.specs.private.ListKinds.{heights_kind}
 use Rattle.ml_refutation_text.specs.private.Reads.{TellsRule}
-use Rattle.ml_refutation_text.specs.declared.rest.LineRefusal.{LineRefusal}
-use Rattle.ml_refutation_text.specs.declared.rest.LineRefusal.TheVariants as refusal
+use Rattle.ml_lines.specs.declared.refusal.LineRefusal.{LineRefusal}
+use Rattle.ml_refutation_text.specs.declared.body_rule.BodyRule.{BodyRule}
+use Rattle.ml_lines.specs.declared.refusal.LineRefusal.TheVariants as refusal
 use Rattle.ml_refutation_text.specs.declared.body_rule.BodyRule.TheVariants.{ItemsAscend, InTables}
 use Rattle.ml_refutation_text.specs.declared.traces.TraceLine.{TraceLine}
 use Rattle.ml_refutation_text.specs.declared.traces.TraceLine.TheVariants as trace
@@ -78,7 +79,7 @@ pub record IsItemOf (F : Form) (live : ℕ) (before : Option AutomatonState) (li
   pub some : SomeIn F a.stack
   pub is_above : IsAbove before a.state
 
-abbrev pub TellsItem : Form → ℕ → ℕ → Option AutomatonState → Line → LineRefusal → Type 0
+abbrev pub TellsItem : Form → ℕ → ℕ → Option AutomatonState → Line → LineRefusal BodyRule → Type 0
 TellsItem F names live before line e =
     (wanted : ℕ) (es : List Entry) (q : List ℕ) (traces : traced.Entry AutomatonState)
     → ¬ (IsOfKind heights_kind line) → AtItems live before traces → TellsRule (AtItem (knows names F wanted) es q traces) line e
@@ -91,7 +92,7 @@ pub record HasStack (stacks : List (List ℕ)) (number live place : ℕ) : Type 
   pub names : AreNames live (slice_index_or stacks place [])
 
 -- no stack of this number, or one whose names aren't as they must be
-abbrev pub LacksStack : List (List ℕ) → ℕ → ℕ → LineRefusal → Type 0
+abbrev pub LacksStack : List (List ℕ) → ℕ → ℕ → LineRefusal BodyRule → Type 0
 LacksStack stacks place live (refusal.Breaks rule) =
     ((rule ≡ InTables) × (length stacks ≤ place))
     ⊎ ((rule ≡ ItemsAscend) × (place < 2 ^ 64 - 1) × (¬ (AreNames live (slice_index_or stacks place []))))
@@ -106,7 +107,7 @@ abbrev pub IsTraceLine : Form → ℕ → ℕ → Option AutomatonState → Line
 IsTraceLine F names live before line stacks (trace.Item a) = IsItemOf F live before line (item_of stacks a)
 IsTraceLine F names live before line stacks (trace.Heights hs) = IsHeights names line hs.items
 
-abbrev pub TellsTrace : Form → ℕ → ℕ → Option AutomatonState → Line → LineRefusal → Type 0
+abbrev pub TellsTrace : Form → ℕ → ℕ → Option AutomatonState → Line → LineRefusal BodyRule → Type 0
 TellsTrace F names live before line e =
     (wanted : ℕ) (es : List Entry) (q : List ℕ) (traces : traced.Entry AutomatonState)
     → AtItems live before traces → TellsRule (AtItem (knows names F wanted) es q traces) line e

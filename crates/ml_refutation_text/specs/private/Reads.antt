@@ -12,7 +12,7 @@
 --   TellsRule p line e     == the refusal e tells it, if it isn't for want of memory
 --   TellsFault v p at e    == the refusal e tells the first bad line of what is left, which stands at p, if it isn't
 --   at_line k e            == the refusal e of a line, with the line's number k
---   IsNumbered, IsPlaced   == the line is a fixed word with one word behind it, with two
+--   IsPlaced               == the line is a fixed word with two words behind it
 use Rattle.std.specs.Prelude.{ℕ, ◌+◌, ◌≤◌, ◌<◌, ◌≡◌, ◌^◌, ⊤, List, [], ◌∷◌, length}
 use Rattle.ml_base.specs.declared.doc_refusal.DocRefusal.{DocRefusal}
 use Rattle.ml_base.specs.declared.doc_refusal.DocRefusal.TheVariants as refused
@@ -28,8 +28,8 @@ use Rattle.ml_refutation_text.specs.BodyRules.{Place, AtNothing, rules}
 use Rattle.ml_refutation_text.specs.RuleNumbers.{rule_number}
 use Rattle.ml_refutation_text.specs.declared.body_rule.BodyRule.{BodyRule}
 use Rattle.ml_refutation_text.specs.declared.rest.Rest.{Rest}
-use Rattle.ml_refutation_text.specs.declared.rest.LineRefusal.{LineRefusal}
-use Rattle.ml_refutation_text.specs.declared.rest.LineRefusal.TheVariants as line
+use Rattle.ml_lines.specs.declared.refusal.LineRefusal.{LineRefusal}
+use Rattle.ml_lines.specs.declared.refusal.LineRefusal.TheVariants as line
 use Rattle.ml_refutation_text.specs.declared.branches.Around.{Around}
 use Rattle.ml_refutation_text.specs.declared.branches.Around.TheVariants as around
 
@@ -72,7 +72,7 @@ IsUsual _ = ⊤
 abbrev pub Breaks : Place → Line → BodyRule → Type 0
 Breaks p l rule = (left : List ℕ) → IsFirstBroken (rules left p) l (rule_number rule)
 
-abbrev pub TellsRule : Place → Line → LineRefusal → Type 0
+abbrev pub TellsRule : Place → Line → LineRefusal BodyRule → Type 0
 TellsRule p l (line.Breaks rule) = Breaks p l rule
 TellsRule p l line.NoMemory = ⊤
 
@@ -80,14 +80,11 @@ abbrev pub TellsFault : Version → Place → Rest → DocRefusal → Type 0
 TellsFault v p at (refused.Fault fault) = IsFault (body.body v) at.line p at.text.now fault
 TellsFault v p at refused.NoMemory = ⊤
 
-abbrev pub at_line : ℕ → LineRefusal → DocRefusal
+abbrev pub at_line : ℕ → LineRefusal BodyRule → DocRefusal
 at_line k (line.Breaks rule) = refused.Fault (record { line = k; rule = rule_number rule })
 at_line k line.NoMemory = refused.NoMemory
 
 -- ---- lines
-
-abbrev pub IsNumbered : Word → Line → Type 0
-IsNumbered fixed line = AreWords line × (line ≡ fixed ∷ word line 1 ∷ [])
 
 abbrev pub IsPlaced : Word → Line → Type 0
 IsPlaced fixed line = AreWords line × (line ≡ fixed ∷ word line 1 ∷ word line 2 ∷ [])

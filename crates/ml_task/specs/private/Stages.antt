@@ -26,8 +26,8 @@ use Rattle.ml_task.specs.Task.{knows}
 use Rattle.ml_task.specs.TaskText.{IsTaskFault, names_rules, rule_number, task_lines}
 use Rattle.ml_task.specs.declared.task_rule.TaskRule.{TaskRule}
 use Rattle.ml_task.specs.declared.task_rule.TaskRule.TheVariants.{Parses}
-use Rattle.ml_task.specs.declared.task_rule.LineRefusal.{LineRefusal}
-use Rattle.ml_task.specs.declared.task_rule.LineRefusal.TheVariants as line
+use Rattle.ml_lines.specs.declared.refusal.LineRefusal.{LineRefusal}
+use Rattle.ml_lines.specs.declared.refusal.LineRefusal.TheVariants as line
 
 abbrev pub first_of : List Line → Line
 first_of lines = slice_index_or lines 0 []
@@ -35,7 +35,7 @@ first_of lines = slice_index_or lines 0 []
 abbrev pub Breaks : List (Rule Line) → Line → TaskRule → Type 0
 Breaks rs l r = IsFirstBroken rs l (rule_number r)
 
-abbrev pub Tells : List (Rule Line) → Line → LineRefusal → Type 0
+abbrev pub Tells : List (Rule Line) → Line → LineRefusal TaskRule → Type 0
 Tells rs l (line.Breaks rule) = Breaks rs l rule
 Tells rs l line.NoMemory = ⊤
 
@@ -65,10 +65,10 @@ TellsFaultBehind names lines e =
     → names ≡ inputs ++ outputs
     → TellsFault text e
 
-abbrev pub at_line : ℕ → LineRefusal → DocRefusal
+abbrev pub at_line : ℕ → LineRefusal TaskRule → DocRefusal
 at_line k (line.Breaks rule) = refused.Fault (record { line = k; rule = rule_number rule })
 at_line k line.NoMemory = refused.NoMemory
 
-abbrev pub formula_refusal : ParseRefusal → LineRefusal
+abbrev pub formula_refusal : ParseRefusal → LineRefusal TaskRule
 formula_refusal parser.NoMemory = line.NoMemory
 formula_refusal _ = line.Breaks Parses

@@ -8,7 +8,7 @@ returns-then-reached c =
     let few = c.has_few_edges.ensures c.if-has_few_edges.true in
     record {
       extracted = record {
-        is_structure = c.states-states.ensures.is_structure;
+        is_structure = c.keeps.ensures.is_structure;
         is_state = search rules;
         holds = c.in_ok-is_met.ensures yes;
         reached = c.in_ok-reached.ensures c.if-reached.true;
