@@ -28,8 +28,8 @@ same_lines line other (id ∷ ids) k same =
 
 module _ (named : NamedGame) (s t : GameSolution) (ok : IsNamed named) (winners : s.winner ≡ t.winner)
     (moves : (v : ℕ) → v < size named.game
-        → owner_of named.game v ≡ winner_at s.winner v
-        → choice_at s.choice v ≡ choice_at t.choice v) where
+    → owner_of named.game v ≡ winner_at s.winner v
+    → choice_at s.choice v ≡ choice_at t.choice v) where
   abbrev line_by : GameSolution → ℕ × ℕ → List ℕ
   line_by = vertex_line named.ids named.game.owner
 

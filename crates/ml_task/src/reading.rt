@@ -35,11 +35,7 @@ pub fn read(alloc: Global, bytes: &[u8]) -> Result<Task, DocRefusal>
 }
 
 // The task of a text. The names are added to those that were seen, of which there are none.
-fn read_lines(
-    alloc: Global,
-    text: &[u8],
-    seen: &mut IndexSet<Name>,
-) -> Result<Task, DocRefusal>
+fn read_lines(alloc: Global, text: &[u8], seen: &mut IndexSet<Name>) -> Result<Task, DocRefusal>
     requires { seen.old.keys ≡ [] }
     ensures text { IfOk result (λ t. IsTaskText text.now (task_of t.inputs.items t.outputs.items t.formula)) }
     ensures refused { IfErr result (TellsFault text.now) }
@@ -76,11 +72,7 @@ fn names_lines<'a>(
 }
 
 // The formula of the third line, behind which nothing stands. It has names that were seen alone.
-fn formula_to_end(
-    alloc: Global,
-    text: &[u8],
-    seen: &IndexSet<Name>,
-) -> Result<Formula, DocRefusal>
+fn formula_to_end(alloc: Global, text: &[u8], seen: &IndexSet<Name>) -> Result<Formula, DocRefusal>
     ensures read { IfOk result (λ f. IsFormulaRead seen.now.keys (task_lines text.now) f []) }
     ensures refused { IfErr result (TellsFaultBehind seen.now.keys (task_lines text.now)) }
 {
