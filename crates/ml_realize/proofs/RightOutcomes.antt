@@ -60,7 +60,7 @@ quantifiers_decided m l (plain.Paired p f g) linear =
     (quantifiers_decided m l f parts.0, quantifiers_decided m l g parts.1)
 quantifiers_decided m l (plain.Quantified q f) linear = absurd (cc)
 
-linear_decided : (w : WordLasso Letter) (f : Formula) → is_linear f ≡ true → w.loop_start < length w.word
+pub linear_decided : (w : WordLasso Letter) (f : Formula) → is_linear f ≡ true → w.loop_start < length w.word
     → IsDecided (SatisfiedBy w f)
 linear_decided w f linear loops =
     let m = word_structure w in

@@ -1,11 +1,19 @@
 // Laws over the definitions alone: no caller runs these functions, their contracts are the theorems.
-ghost use Rattle.ml_realize.specs.Laws.{FoundAreRight, NeverBoth, OneGame, OneSize, SomeOutcome, ValuationsAreSets};
+ghost use Rattle.ml_realize.specs.Laws.{FoundAreRight, NeverBoth, OneFails, OneGame, OneSize, SomeOutcome, ValuationsAreSets};
 
 /// No task has both a machine that realizes it and an environment that defeats it.
 ///
 /// Does nothing when called.
 pub fn never_both()
     ensures { NeverBoth }
+{}
+
+/// Whatever machine and environment have the inputs and outputs of a task: some word of the machine doesn't satisfy the
+/// task's formula, or some word of the environment does.
+///
+/// Does nothing when called.
+pub fn one_fails()
+    ensures { OneFails }
 {}
 
 /// A task is large exactly where the graph of its word automaton has more than the most nodes, and its game has as many
