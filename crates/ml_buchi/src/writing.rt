@@ -17,9 +17,6 @@ use std::alloc::Global;
 /// The text of a deterministic automaton, in HOA's first version. Its acceptance says in full that the lowest set that is
 /// met again and again is odd; a label has a literal for each proposition.
 ///
-/// `top` is odd; there are at most 8 propositions and some state; each state has one move for each valuation of the
-/// propositions, with a priority below `top` and to one of the states. What `determinise` gives is so.
-///
 /// # Errors
 /// `NoMemory` alone.
 ///
@@ -28,7 +25,6 @@ use std::alloc::Global;
 /// Source: Babiak, Blahoudek, Duret-Lutz, Klein, Kretinsky, Mueller, Parker and Strejcek, The Hanoi Omega-Automata Format
 /// (2015).
 pub fn write(alloc: Global, automaton: &Deterministic) -> Result<Vec<u8>, NoMemory>
-    requires { IsWritable automaton.now }
     ensures { IfOk result (λ text. text.items ≡ automaton_text automaton.now) }
 {
     let mut out = Vec::new(alloc);

@@ -13,6 +13,7 @@
 --                       yes, or no, or is due for `decide` (`valid`), with the same output
 --   OneMeasure       == one output is due at most for `gen` and `bench`
 --   SameWinners      == both engines of `solve-game` name the same winners
+--   OneSolutionDue   == one status and one output are due at most for `solve-game measures`
 --   OneQuotientDue   == one status and one output are due at most for `quotient`
 --   QuotientsAreRead == what is written for `quotient` is read as a document of the same problem, with the quotient
 --   WrittenHoldsTheSame == where its logic speaks of the structure, the problem holds at the start that is written exactly
@@ -38,7 +39,7 @@ use Rattle.ml_gen.specs.declared.family.Family.{Family}
 use Rattle.ml_graph.specs.Graph.{Graph, IsGraph}
 use Rattle.ml_product.specs.Arena.{Arena, IsArenaOf}
 use Rattle.ml_product.specs.DecisionGame.{HasMoreThan}
-use Rattle.ml_driver.specs.declared.command.Command.TheVariants.{Decide, Valid, Find, Prove, CheckModel, CheckRefutation, Quotient, Determinise, Gen, Bench}
+use Rattle.ml_driver.specs.declared.command.Command.TheVariants.{Decide, Valid, Find, Prove, CheckModel, CheckRefutation, Quotient, SolveGame, Determinise, Gen, Bench}
 use Rattle.ml_driver.specs.declared.command.Command.{Command}
 use Rattle.ml_bisim.specs.Quotient.{class_of}
 use Rattle.ml_model_check.specs.Checked.{IsCheckedAs, IsDocument}
@@ -57,6 +58,7 @@ use Rattle.ml_trace.specs.WordAutomata.{IsAcceptedFrom, IsDetAcceptedFrom, IsWor
 use Rattle.ml_driver.specs.Automata.{IsWrittenFor, StandsForOne}
 use Rattle.ml_driver.specs.Games.{IsSolved}
 use Rattle.ml_driver.specs.declared.engine.Engine.{Engine}
+use Rattle.ml_driver.specs.declared.engine.Engine.TheVariants.{Measures}
 use Rattle.ml_driver.specs.declared.cause.Cause.{Cause}
 use Rattle.ml_driver.specs.declared.status.Status.TheVariants.{Yes, No, Undecided}
 use Rattle.ml_driver.specs.Decision.{IsAnswered, IsClosed, IsProblem, Refuted, Satisfied, StaysOpen}
@@ -173,6 +175,13 @@ abbrev pub SameWinners : Type 0
 SameWinners = (d e : Engine) (text out more : List ℕ) (x : IsSolved d text out) (y : IsSolved e text more)
     → (x.named ≡ y.named)
     × ((v : ℕ) → v < size x.named.game → winner_at x.solution.winner v ≡ winner_at y.solution.winner v)
+
+-- the moves are those that progress first in the least measures
+abbrev pub OneSolutionDue : Type 0
+OneSolutionDue = (text : List ℕ) (s t : Status) (out more : List ℕ)
+    → IsDue (Some (SolveGame Measures)) text s out
+    → IsDue (Some (SolveGame Measures)) text t more
+    → (s ≡ t) × (out ≡ more)
 
 abbrev pub OneQuotientDue : Type 0
 OneQuotientDue = (text : List ℕ) (s t : Status) (out more : List ℕ)

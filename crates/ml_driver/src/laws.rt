@@ -4,7 +4,7 @@ ghost use Rattle.ml_realize.specs.TaskGame.{most_nodes};
 ghost use Rattle.ml_task.specs.declared.limits.TheConstants.{LONGEST_TASK_TEXT};
 ghost use Rattle.ml_driver.specs.declared.command.TheConstants.{DEFAULT_LIMIT, GREATEST_LIMIT, LONGEST_DOCUMENT, LONGEST_NUMBER, LONGEST_TEXT};
 ghost use Rattle.ml_driver.specs.Laws.{AnswersAreExact, DecideIsChecked, DecidedAreChecked, FindIsChecked, FindsAsDecided, GraphsFit, OneAutomatonDue};
-ghost use Rattle.ml_driver.specs.Laws.{OneAutomatonWritten, OneDue, OneMeasure, OneQuotientDue, OneUnlessOpen, ProveIsChecked, ProvesAsDecided};
+ghost use Rattle.ml_driver.specs.Laws.{OneAutomatonWritten, OneDue, OneMeasure, OneQuotientDue, OneSolutionDue, OneUnlessOpen, ProveIsChecked, ProvesAsDecided};
 ghost use Rattle.ml_driver.specs.Laws.{QuotientsAreCheckedAlike, QuotientsAreRead, RefutedAreAccepted, SameWinners, SomeDue, SomeDueForWords, SomeGame};
 ghost use Rattle.ml_driver.specs.Laws.{ValidIsChecked, WrittenAcceptsTheSame, WrittenHoldsTheSame};
 
@@ -75,6 +75,12 @@ pub fn some_game()
 /// Whichever engine solves the game of a text: the text stands for one game, and the winners are the same.
 pub fn same_winners()
     ensures { SameWinners }
+{}
+
+/// For `solve-game measures` one status is due, with one output: the moves are those that progress first in the least progress
+/// measures, of which each player has one.
+pub fn one_solution()
+    ensures { OneSolutionDue }
 {}
 
 /// For `quotient` one status is due, with one output. What is written is a document of the same problem with the quotient of

@@ -1,10 +1,11 @@
 // A machine or an environment, from a deterministic parity automaton.
 ghost use Rattle.std.specs.Prelude.{◌≡◌, ◌+◌, ◌^◌, ◌<◌, ◌≤◌, length, IfOk, OnOk, IsErrOf};
-ghost use Rattle.ml_parity.specs.Solution.{winner_at};
+ghost use Rattle.ml_parity.specs.Game.{size};
+ghost use Rattle.ml_parity.specs.Solution.{IsSolution, winner_at};
 ghost use Rattle.ml_determinise.specs.Numbering.{automaton_of, rows_of};
 ghost use Rattle.ml_synthesis.specs.Game.{HasMorePositions};
 ghost use Rattle.ml_synthesis.specs.Synthesis.{IsAccessible, IsAutomaton, IsOutcome};
-ghost use Rattle.ml_synthesis.specs.private.Solved.{IsArenaOver};
+ghost use Rattle.ml_synthesis.specs.private.Solved.{IsArenaOver, IsOverSome};
 ghost use Rattle.ml_synthesis.specs.declared.refusals.SynthesisRefusal.TheVariants as refusal;
 
 use crate::arena::{Arena, Automaton};
@@ -65,6 +66,39 @@ fn arena_over(
     Ok(arena)
 }
 
+/// What the solution of the game makes: a machine where Even wins the start, and else an environment.
+fn read_off(alloc: Global, arena: &Arena, solution: &Solution) -> Result<Outcome, NoMemory>
+    requires over { IsOverSome arena.now.input_sets arena.now.base arena.now.arrivals.keys arena.now.game }
+    requires small { size arena.now.game ≤ 2 ^ 32 }
+    requires solution { IsSolution arena.now.game solution.now }
+    ensures { IfOk result (λ outcome. (a : IsOverSome
+        arena.now.input_sets
+        arena.now.base
+        arena.now.arrivals.keys
+        arena.now.game)
+        → IsOutcome a.inputs a.outputs a.neutral a.moves outcome) }
+{
+    match winner(solution, arena.base) {
+        Player::Even => Ok(Outcome::Made(machine_of(alloc, arena, solution)?)),
+        Player::Odd => Ok(Outcome::Defeated(environment_of(alloc, arena, solution)?)),
+    }
+}
+
+/// What the game over an automaton makes.
+fn outcome_of(alloc: Global, arena: &Arena) -> Result<Outcome, NoMemory>
+    requires over { IsOverSome arena.now.input_sets arena.now.base arena.now.arrivals.keys arena.now.game }
+    requires small { size arena.now.game ≤ 2 ^ 32 }
+    ensures { IfOk result (λ outcome. (a : IsOverSome
+        arena.now.input_sets
+        arena.now.base
+        arena.now.arrivals.keys
+        arena.now.game)
+        → IsOutcome a.inputs a.outputs a.neutral a.moves outcome) }
+{
+    let solution = solve(alloc, &arena.game)?;
+    read_off(alloc, arena, &solution)
+}
+
 /// A machine none of whose words a deterministic parity automaton accepts, or an environment all of whose words it
 /// accepts.
 ///
@@ -108,9 +142,5 @@ pub fn synthesise(
     if arena.game.size() > limit as usize {
         return Err(SynthesisRefusal::Passed);
     }
-    let solution = solve(alloc, &arena.game)?;
-    match winner(&solution, arena.base) {
-        Player::Even => Ok(Outcome::Made(machine_of(alloc, &arena, &solution)?)),
-        Player::Odd => Ok(Outcome::Defeated(environment_of(alloc, &arena, &solution)?)),
-    }
+    Ok(outcome_of(alloc, &arena)?)
 }

@@ -3,6 +3,7 @@
 --   IsSolved n base ks g s == g, with the arrivals ks, is the game over some automaton with n sets of inputs, and s
 --                             solves it
 --   IsArenaOver i o neutral moves n base ks g == g, with the arrivals ks, is the game over this automaton
+--   IsOverSome n base ks g == it is the game over some automaton
 --   HasFewMoves g         == each vertex has so few moves that 8 bits tell them
 use Rattle.std.specs.Prelude.{ℕ, ◌≡◌, ◌*◌, ◌^◌, ◌≤◌, List, length}
 use Rattle.ml_parity.specs.Game.{ParityGame, moves_of}
@@ -32,3 +33,10 @@ pub record IsArenaOver (i o neutral : ℕ) (moves : List (List DetMove)) (n base
   pub base_is : base ≡ length moves * n
   pub arena : IsArena (2 ^ i) (2 ^ o) neutral moves ks g
   pub few_moves : HasFewMoves g
+
+pub record IsOverSome (n base : ℕ) (ks : List Arrival) (g : ParityGame) : Type 0 where
+  pub inputs : ℕ
+  pub outputs : ℕ
+  pub neutral : ℕ
+  pub moves : List (List DetMove)
+  pub is_over : IsArenaOver inputs outputs neutral moves n base ks g

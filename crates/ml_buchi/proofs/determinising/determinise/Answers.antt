@@ -1,4 +1,4 @@
-use Rattle.std.proofs.Common.{◌∙◌}
+use Rattle.std.proofs.Common.{◌+◌, ◌*◌, refl, ◌∙◌}
 use Rattle.std.proofs.lemmas.Result.{err_from_is_err_and}
 use Rattle.ml_determinise.specs.Numbering.{rows_of}
 use Rattle.ml_determinise.proofs.HandedOn.{handed_on}
@@ -18,6 +18,15 @@ returns-in_err-moves-clause-passed c = λ e.
     made_many c.args.automaton.now c.in_ok-letters.letters.items c.deref.result.now c.states-states.result c.start.result
     c.in_ok-letters.ensures c.deref.ensures.value c.states-states.ensures.value c.start.ensures.value c.args.limit
     (c.in_err-moves.ensures.passed (handed_on c.from_residual-in_err-moves.result c.in_err-moves.field-0.0 p e))
+
+pub new-requires : goal.new-requires
+new-requires c =
+    let rows = rows_of c.in_ok-moves.moves.items in
+    let d = record { props = c.in_ok-props.props.items; top = 2 * c.states-states.result + 3; moves = rows } in
+    determinised_writable c.args.automaton.now d c.states-states.ensures.automaton
+    (made_determinised c.args.automaton.now c.in_ok-letters.letters.items c.deref.result.now c.states-states.result
+    c.start.result c.in_ok-letters.ensures c.deref.ensures.value c.states-states.ensures.value c.start.ensures.value
+    c.in_ok-props.props.items rows d (c.in_ok-props.ensures ∙ c.props.ensures.value) c.in_ok-moves.ensures.numbered refl)
 
 pub returns-clause-determinised : goal.returns-clause-determinised
 returns-clause-determinised c =

@@ -1,11 +1,11 @@
 -- The game is made and solved, and its solution tells what is made.
-use Rattle.std.proofs.Common.{sym, ◌∙◌, arith}
+use Rattle.std.proofs.Common.{arith}
 use Rattle.std.specs.Global.{Vec}
 use Rattle.std.proofs.lemmas.List.{length-map}
 use Rattle.ml_determinise.specs.Numbering.{rows_of}
 use Rattle.ml_determinise.specs.declared.moves.DetMove.{DetMove}
 use Rattle.ml_synthesis.proofs.Automata.{accessible_by, are_moves}
-use Rattle.ml_synthesis.proofs.Outcomes.{base_inside, defeated, few_positions, is_solved, made, too_many}
+use Rattle.ml_synthesis.proofs.Outcomes.{few_positions, too_many}
 use Rattle.ml_synthesis.proofs.Positions.{more_states}
 use Rattle.ml_synthesis.proofs.synthesising.synthesise.Goals as goal
 
@@ -25,65 +25,21 @@ returns-then-size-limit-clause-passed c = λ e.
     a.game c.in_ok-arena.ensures c.args.limit c.requires.accessible
     (let more = c.if-size-limit.true in let size = c.size.ensures.vertices in omega (arith, more, size))
 
-pub winner-requires : goal.winner-requires
-winner-requires c =
-    let a = c.in_ok-arena.arena in
-    let inside = base_inside c.args.inputs c.args.outputs c.args.neutral (rows_of c.args.moves.now) a.input_sets a.base
-    a.arrivals.keys a.game c.in_ok-arena.ensures c.in_ok-solution.solution c.in_ok-solution.ensures.ok in
-    let long = c.in_ok-solution.ensures.ok.winners in
-    omega (arith, inside, long)
+pub outcome_of-requires-clause-over : goal.outcome_of-requires-clause-over
+outcome_of-requires-clause-over c = record {
+  inputs = c.args.inputs;
+  outputs = c.args.outputs;
+  neutral = c.args.neutral;
+  moves = rows_of c.args.moves.now;
+  is_over = c.in_ok-arena.ensures;
+}
 
-pub machine_of-requires-clause-solved : goal.machine_of-requires-clause-solved
-machine_of-requires-clause-solved c =
-    let a = c.in_ok-arena.arena in
-    is_solved c.args.inputs c.args.outputs c.args.neutral (rows_of c.args.moves.now) a.input_sets a.base a.arrivals.keys
-    a.game c.in_ok-arena.ensures c.in_ok-solution.solution c.in_ok-solution.ensures.ok
-
-pub machine_of-requires-clause-small : goal.machine_of-requires-clause-small
-machine_of-requires-clause-small c =
+pub outcome_of-requires-clause-small : goal.outcome_of-requires-clause-small
+outcome_of-requires-clause-small c =
     let few = c.if-size-limit.false in
     let size = c.size.ensures.vertices in
     let fits = c.ranges.limit.fits in
     omega (arith, few, size, fits)
-
-pub machine_of-requires-clause-few : goal.machine_of-requires-clause-few
-machine_of-requires-clause-few c = c.in_ok-arena.ensures.few_moves
-
-pub environment_of-requires-clause-solved : goal.environment_of-requires-clause-solved
-environment_of-requires-clause-solved c =
-    let a = c.in_ok-arena.arena in
-    is_solved c.args.inputs c.args.outputs c.args.neutral (rows_of c.args.moves.now) a.input_sets a.base a.arrivals.keys
-    a.game c.in_ok-arena.ensures c.in_ok-solution.solution c.in_ok-solution.ensures.ok
-
-pub environment_of-requires-clause-small : goal.environment_of-requires-clause-small
-environment_of-requires-clause-small c =
-    let few = c.if-size-limit.false in
-    let size = c.size.ensures.vertices in
-    let fits = c.ranges.limit.fits in
-    omega (arith, few, size, fits)
-
-pub returns-in-Even-clause-outcome : goal.returns-in-Even-clause-outcome
-returns-in-Even-clause-outcome c =
-    let a = c.in_ok-arena.arena in
-    made c.args.inputs c.args.outputs c.args.neutral (rows_of c.args.moves.now) a.input_sets a.base a.arrivals.keys
-    a.game
-    c.in_ok-arena.ensures c.in_ok-solution.solution c.in_ok-solution.ensures.ok c.in_ok-machine_of-in-Even.field-0
-    (sym c.winner.ensures ∙ c.in-Even.is) c.in_ok-machine_of-in-Even.ensures
-
-pub returns-in-Even-clause-not_passed : goal.returns-in-Even-clause-not_passed
-returns-in-Even-clause-not_passed c =
-    let a = c.in_ok-arena.arena in
-    few_positions c.args.inputs c.args.outputs c.args.neutral (rows_of c.args.moves.now) a.input_sets a.base
-    a.arrivals.keys a.game c.in_ok-arena.ensures c.args.limit c.requires.accessible
-    (let few = c.if-size-limit.false in let size = c.size.ensures.vertices in omega (arith, few, size))
-
-pub returns-clause-outcome : goal.returns-clause-outcome
-returns-clause-outcome c =
-    let a = c.in_ok-arena.arena in
-    defeated c.args.inputs c.args.outputs c.args.neutral (rows_of c.args.moves.now) a.input_sets a.base a.arrivals.keys
-    a.game
-    c.in_ok-arena.ensures c.in_ok-solution.solution c.in_ok-solution.ensures.ok c.in_ok-environment_of-in-Odd.field-0
-    (sym c.winner.ensures ∙ c.in-Odd.is) c.in_ok-environment_of-in-Odd.ensures
 
 pub returns-clause-not_passed : goal.returns-clause-not_passed
 returns-clause-not_passed c =
