@@ -35,7 +35,7 @@ fn next_states(alloc: Global, structure: &Structure) -> Result<Vec<u32>, WordRef
     ensures admitted { OnOk result (IsAdmitted structure.now) }
     ensures fork { (s : ℕ) → IsErrOf result (WordRefusal.NotAWord s) → IsFirst (IsFork structure.now) structure.now.states s }
 {
-    structure.keeps();
+    let _states = structure.states();
     let steps = steps_of(alloc, structure)?;
     match first_fork(steps.as_slice()) {
         Some(state) => Err(WordRefusal::NotAWord(state as u32)),

@@ -14,7 +14,7 @@ same_state P t s holds is = let same : t ≡ s = cc in subst P same holds
 pub returns-in-Some-clause-fork : goal.returns-in-Some-clause-fork
 returns-in-Some-clause-fork c = λ s is.
     same_state (IsFirst (IsFork c.args.structure.now) c.args.structure.now.states) c.in-Some.state s
-    (word_found c.args.structure.now c.keeps.ensures.is_structure c.in_ok-steps.steps.items c.in_ok-steps.ensures
+    (word_found c.args.structure.now c.states-states.ensures.is_structure c.in_ok-steps.steps.items c.in_ok-steps.ensures
     (Some c.in-Some.state)
     (sym c.in-Some.is ∙ c.first_fork.ensures ∙ ap (position (λ x. not (is_only x))) c.as_slice.ensures.value)) is
 
@@ -24,17 +24,17 @@ targets-requires c =
     let none : position (λ x. not (is_only x)) c.in_ok-steps.steps.items ≡ None =
     ap (position (λ x. not (is_only x))) (sym value) ∙ sym c.first_fork.ensures ∙ c.in-None.is in
     subst (λ rows. All (λ x. is_only x ≡ true) rows) (sym c.as_slice-in-None.ensures.value)
-    (all_only c.args.structure.now c.keeps.ensures.is_structure c.in_ok-steps.steps.items c.in_ok-steps.ensures none)
+    (all_only c.args.structure.now c.states-states.ensures.is_structure c.in_ok-steps.steps.items c.in_ok-steps.ensures none)
 
 pub returns-clause-leads : goal.returns-clause-leads
 returns-clause-leads c =
     let value = c.as_slice.ensures.value in
     let none : position (λ x. not (is_only x)) c.in_ok-steps.steps.items ≡ None =
     ap (position (λ x. not (is_only x))) (sym value) ∙ sym c.first_fork.ensures ∙ c.in-None.is in
-    leads_along c.args.structure.now c.keeps.ensures.is_structure c.in_ok-steps.steps.items c.in_ok-steps.ensures
+    leads_along c.args.structure.now c.states-states.ensures.is_structure c.in_ok-steps.steps.items c.in_ok-steps.ensures
     none _ (c.in_ok-targets-in-None.ensures ∙ ap (map target_of) c.as_slice-in-None.ensures.value)
 
 pub returns-clause-admitted : goal.returns-clause-admitted
 returns-clause-admitted c =
-    word_found c.args.structure.now c.keeps.ensures.is_structure c.in_ok-steps.steps.items c.in_ok-steps.ensures
+    word_found c.args.structure.now c.states-states.ensures.is_structure c.in_ok-steps.steps.items c.in_ok-steps.ensures
     None (sym c.in-None.is ∙ c.first_fork.ensures ∙ ap (position (λ x. not (is_only x))) c.as_slice.ensures.value)
