@@ -30,15 +30,15 @@ environment_of-requires-clause-solved c =
     is_solved o.inputs o.outputs o.neutral o.moves a.input_sets a.base a.arrivals.keys a.game o.is_over
     c.args.solution.now c.requires.solution
 
-pub returns-in-Even : goal.returns-in-Even
-returns-in-Even c = λ o.
+pub returns-in_ok-machine_of-in-Even : goal.returns-in_ok-machine_of-in-Even
+returns-in_ok-machine_of-in-Even c = λ o.
     let a = c.args.arena.now in
     made o.inputs o.outputs o.neutral o.moves a.input_sets a.base a.arrivals.keys a.game o.is_over c.args.solution.now
-    c.requires.solution c.in_ok-machine_of.field-0 (sym c.winner.ensures ∙ c.in-Even.is) c.in_ok-machine_of.ensures
+    c.requires.solution c.in_ok-machine_of-in-Even.field-0 (sym c.winner.ensures ∙ c.in-Even.is) c.in_ok-machine_of-in-Even.ensures
 
-pub returns : goal.returns
-returns c = λ o.
+pub returns-in_ok-environment_of-in-Odd : goal.returns-in_ok-environment_of-in-Odd
+returns-in_ok-environment_of-in-Odd c = λ o.
     let a = c.args.arena.now in
     defeated o.inputs o.outputs o.neutral o.moves a.input_sets a.base a.arrivals.keys a.game o.is_over
-    c.args.solution.now c.requires.solution c.in_ok-environment_of.field-0 (sym c.winner.ensures ∙ c.in-Odd.is)
-    c.in_ok-environment_of.ensures
+    c.args.solution.now c.requires.solution c.in_ok-environment_of-in-Odd.field-0 (sym c.winner.ensures ∙ c.in-Odd.is)
+    c.in_ok-environment_of-in-Odd.ensures

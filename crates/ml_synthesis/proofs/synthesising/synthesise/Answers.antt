@@ -47,3 +47,12 @@ returns-clause-not_passed c =
     few_positions c.args.inputs c.args.outputs c.args.neutral (rows_of c.args.moves.now) a.input_sets a.base
     a.arrivals.keys a.game c.in_ok-arena.ensures c.args.limit c.requires.accessible
     (let few = c.if-size-limit.false in let size = c.size.ensures.vertices in omega (arith, few, size))
+
+pub returns-clause-outcome : goal.returns-clause-outcome
+returns-clause-outcome c = c.in_ok-outcome_of.ensures (record {
+  inputs = c.args.inputs;
+  outputs = c.args.outputs;
+  neutral = c.args.neutral;
+  moves = rows_of c.args.moves.now;
+  is_over = c.in_ok-arena.ensures;
+})
