@@ -3,17 +3,15 @@
 --   found_next, found_behind, found_before, none_behind == a bad part behind one that keeps its rules, or behind
 --                       several; one with more behind it; parts none of which is bad
 --   first_of_part    == a part that breaks a rule is the first bad one of itself alone
---   entry_found      == what is found of an entry of the same refutation in the same graph
+--   entry_found      == what is found of an entry, by its other name
 --   as_accepted, as_first_bad == what is found of the parts of an entry, as acceptance says it
 use Rattle.std.proofs.Common.{◌≡◌, ℕ, zero, suc, ◌+◌, ◌<◌, List, [], ◌∷◌, ◌++◌, Option, None, Some, length, get_or, inl, inr, refl, sym, subst, arith}
 use Rattle.ml_lists.specs.Member.{IsMember}
 use Rattle.ml_lists.specs.Documents.{KeepsAll, IsFirstBroken}
-use Rattle.ml_graph.specs.Graph.{Graph}
 use Rattle.ml_refutation.specs.Refutation.{Entry}
-use Rattle.ml_refutation.specs.declared.refutation.Refutation as held
 use Rattle.ml_refutation.specs.Acceptance.{entry_at, Part, Sequent, parts, rules, IsAccepted, IsFirstBad}
 use Rattle.ml_refute_check.specs.declared.finding.BadPart.{BadPart}
-use Rattle.ml_refute_check.specs.private.Parts.{Question, question, Keeps, KeepEach, FirstBadIn, Finds, front_parts, branch_parts}
+use Rattle.ml_refute_check.specs.private.Parts.{Question, Keeps, KeepEach, FirstBadIn, Finds, front_parts, branch_parts}
 
 module _ (q : Question) (e : ℕ) where
   first_behind : (front parts : List Part) (k n j : ℕ)
@@ -146,20 +144,14 @@ parts_are e = refl
 
 -- ---- all entries
 
-pub entry_found : (e : ℕ) {g h : Graph} {r s : held.Refutation} {found made : Option BadPart}
-    → g ≡ h
-    → r ≡ s
-    → found ≡ made
-    → Finds (question g r) e (parts (entry_at (question g r).refutation e)) found
-    → Finds (question h s) e (parts (entry_at (question h s).refutation e)) made
-entry_found e {g = g} {h = h} {r = r} {s = s} {found = found} graphs refutations is finds =
-    subst (Finds (question h s) e (parts (entry_at (question h s).refutation e))) is
-    (subst (λ x. Finds (question h x) e (parts (entry_at (question h x).refutation e)) found) refutations
-    (subst (λ x. Finds (question x r) e (parts (entry_at (question x r).refutation e)) found) graphs finds))
-
 module _ (q : Question) where
   abbrev pub EntryKept : ℕ → Type 0
   EntryKept d = Finds q d (parts (entry_at q.refutation d)) None
+
+  pub entry_found : (e : ℕ) {found made : Option BadPart} → found ≡ made
+      → Finds q e (parts (entry_at q.refutation e)) found
+      → Finds q e (parts (entry_at q.refutation e)) made
+  entry_found e is finds = subst (Finds q e (parts (entry_at q.refutation e))) is finds
 
   pub as_accepted : ((d : ℕ) → d < length q.refutation.entries → EntryKept d) → IsAccepted q.graph q.refutation
   as_accepted kept e part low member = kept_parts q e (parts (entry_at q.refutation e)) (kept e low) part member

@@ -4,7 +4,7 @@ ghost use Rattle.ml_refutation.specs.Views.{of_parts};
 ghost use Rattle.ml_refute_check.specs.Findings.{IsFinding};
 
 use crate::checker::Checker;
-use crate::finding::{Fault, Finding};
+use crate::finding::Finding;
 use crate::stepping::KeptBranch;
 use ml_base::NoMemory;
 use ml_graph::ModalGraph;
@@ -33,15 +33,5 @@ pub fn check_refutation(
 {
     let checker = Checker::new(alloc, graph, refutation)?;
     let mut branch = KeptBranch::new(alloc, graph, &refutation.sequents)?;
-    for place in 0..refutation.entries.len() {
-        match checker.check_entry(&mut branch, place)? {
-            Some(bad) => return Ok(Finding::Rejected(Fault {
-                entry: place,
-                part: bad.part,
-                rule: bad.rule,
-            })),
-            None => {}
-        }
-    }
-    Ok(Finding::Accepted)
+    checker.check_entries(&mut branch)
 }

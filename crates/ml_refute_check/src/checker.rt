@@ -14,12 +14,13 @@ ghost use Rattle.ml_sequent.specs.Choice.{with_side};
 ghost use Rattle.ml_sequent.specs.Spread.{SpreadList, IsOpenOr};
 ghost use Rattle.ml_sequent.specs.Step.{IsDiamondOf};
 ghost use Rattle.ml_refutation.specs.Views.{decision_of, item_of};
+ghost use Rattle.ml_refute_check.specs.Findings.{IsFinding};
 ghost use Rattle.ml_refute_check.specs.private.Sources.{StandAmong, RiseByTarget};
 ghost use Rattle.ml_refute_check.specs.private.Parts.{Finds, Stands, IsEntryOf, Asks, question, plain_entry, front_parts, branch_parts, count_branches};
 ghost use Rattle.ml_refute_check.specs.private.Stepping.{IsStepFrom};
 
 use crate::branches::{heights_fall, mark_priority};
-use crate::finding::BadPart;
+use crate::finding::{BadPart, Fault, Finding};
 use crate::names::keeps_names;
 use crate::parts::{item_stands, names_stand, starts_well};
 use crate::stepping::{KeptBranch, KeptStep};
@@ -75,8 +76,28 @@ impl<'a> Checker<'a> {
         self.refutation.sequents.at(entry.sequent)
     }
 
+    /// The first bad part of the entries, which are checked in order on this branch.
+    pub(crate) fn check_entries(&self, branch: &mut KeptBranch) -> Result<Finding, NoMemory>
+        requires asks { Asks self.now.graph.now self.now.odds.items }
+        requires graph { branch.old.on.graph ≡ self.now.graph.now }
+        requires sequents { branch.old.sequents ≡ self.now.refutation.now.sequents }
+        ensures { IfOk result (IsFinding self.now.graph.now (question self.now.graph.now self.now.refutation.now).refutation) }
+    {
+        for place in 0..self.refutation.entries.len() {
+            match self.check_entry(branch, place)? {
+                Some(bad) => return Ok(Finding::Rejected(Fault {
+                    entry: place,
+                    part: bad.part,
+                    rule: bad.rule,
+                })),
+                None => {}
+            }
+        }
+        Ok(Finding::Accepted)
+    }
+
     /// The first bad part of an entry.
-    pub(crate) fn check_entry(
+    fn check_entry(
         &self,
         branch: &mut KeptBranch,
         place: usize,

@@ -159,15 +159,16 @@ pub fn migrate(alloc: Global, bytes: &[u8]) -> Result<Vec<u8>, DocRefusal>
         → IsDocumentFault Answer.Unsatisfiable IsFaultOf bytes.now fault }
 {
     match read_document(alloc, bytes) {
-        Ok(shown) => Ok(write_document(alloc, &shown)?),
+        Ok(shown) => write_document(alloc, &shown),
         Err(refusal) => Err(refusal),
     }
 }
 
-/// The version 2 document of what was read.
-fn write_document(alloc: Global, shown: &Shown) -> Result<Vec<u8>, NoMemory>
-    ensures { IfOk result (λ text. text.items
+/// The version 2 document of what was read. Only memory may be wanting.
+fn write_document(alloc: Global, shown: &Shown) -> Result<Vec<u8>, DocRefusal>
+    ensures written { IfOk result (λ text. text.items
         ≡ document_of shown.now.problem (plain shown.now.refutation)) }
+    ensures refused { (fault : DocFault) → ¬ (IsErrOf result (DocRefusal.Fault fault)) }
 {
     let mut text = write_head(alloc, &shown.problem, Answer::Unsatisfiable)?;
     append_refutation(alloc, &mut text, &shown.refutation, Version::Two)?;
