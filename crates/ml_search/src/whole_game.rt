@@ -30,17 +30,18 @@ pub(crate) fn decided(alloc: Global, graph: &ModalGraph, limit: u32) -> Result<F
     ensures passed { IsErrOf result refusal.Passed → HasMoreThan graph.now limit }
 {
     match explore(alloc, graph, limit) {
-        Ok(arena) => Ok(solved(alloc, graph, &arena)?),
+        Ok(arena) => solved(alloc, graph, &arena),
         Err(ExploreRefusal::Passed) => Err(SearchRefusal::Passed),
         Err(ExploreRefusal::NoMemory) => Err(SearchRefusal::NoMemory),
     }
 }
 
-/// What the game says once it is solved.
-fn solved(alloc: Global, graph: &ModalGraph, arena: &Arena) -> Result<Found, NoMemory>
+/// What the game says once it is solved. Only memory may be wanting.
+fn solved(alloc: Global, graph: &ModalGraph, arena: &Arena) -> Result<Found, SearchRefusal>
     requires nodes { size graph.now ≤ 4096 }
     requires arena { IsArenaOf graph.now arena.now }
-    ensures { IfOk result (IsFound graph.now) }
+    ensures found { IfOk result (IsFound graph.now) }
+    ensures passed { ¬ (IsErrOf result refusal.Passed) }
 {
     let solution = solution_of(alloc, arena)?;
     shown(alloc, graph, arena, &solution)
@@ -54,17 +55,18 @@ fn solution_of(alloc: Global, arena: &Arena) -> Result<Solution, NoMemory>
     solve(alloc, &game)
 }
 
-/// What a solution shows.
+/// What a solution shows. Only memory may be wanting.
 fn shown(
     alloc: Global,
     graph: &ModalGraph,
     arena: &Arena,
     solution: &Solution,
-) -> Result<Found, NoMemory>
+) -> Result<Found, SearchRefusal>
     requires nodes { size graph.now ≤ 4096 }
     requires arena { IsArenaOf graph.now arena.now }
     requires solution { IsSolution (game_of arena.now) solution.now }
-    ensures { IfOk result (IsFound graph.now) }
+    ensures found { IfOk result (IsFound graph.now) }
+    ensures passed { ¬ (IsErrOf result refusal.Passed) }
 {
     graph.keeps();
     match solution.winner.first() {

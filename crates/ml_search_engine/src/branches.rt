@@ -207,21 +207,32 @@ impl Branch {
         } else {
             (row(&terms.negative, prop), row(&terms.positive, prop))
         };
-        for m in other {
-            if flag(&self.stands, *m) {
-                self.cause = Some(if positive {
-                    ClashCause::Pair(small(n), small(*m))
-                } else {
-                    ClashCause::Pair(small(*m), small(n))
-                });
-                return Ok(());
+        if let Some(m) = self.first_standing(other) {
+            self.cause = Some(if positive {
+                ClashCause::Pair(small(n), small(m))
+            } else {
+                ClashCause::Pair(small(m), small(n))
+            });
+            return Ok(());
+        }
+        self.learn_all(terms, same, Fact::Holds)?;
+        self.learn_all(terms, other, Fact::Fails)
+    }
+
+    /// The first of these nodes that stands.
+    fn first_standing(&self, nodes: &[usize]) -> Option<usize> {
+        for n in nodes {
+            if flag(&self.stands, *n) {
+                return Some(*n);
             }
         }
-        for m in same {
-            self.learn(terms, *m, Fact::Holds)?;
-        }
-        for m in other {
-            self.learn(terms, *m, Fact::Fails)?;
+        None
+    }
+
+    /// This is known of these nodes, and so of others because of them.
+    fn learn_all(&mut self, terms: &Terms, nodes: &[usize], fact: Fact) -> Result<(), NoMemory> {
+        for n in nodes {
+            self.learn(terms, *n, fact)?;
         }
         Ok(())
     }
@@ -248,15 +259,21 @@ impl Branch {
             let Some(n) = self.near.pop() else {
                 break;
             };
-            if self.is_known(n, fact) {
-                continue;
-            }
-            self.set_known(n, fact, true);
-            self.trail.push(Change::Known(n, fact))?;
-            for p in row(&terms.parents, n) {
-                if self.follows(terms.node(*p), fact) {
-                    self.near.push(*p)?;
-                }
+            self.note(terms, n, fact)?;
+        }
+        Ok(())
+    }
+
+    /// This is noted of a node, unless it was; the nodes of which it follows come next.
+    fn note(&mut self, terms: &Terms, n: usize, fact: Fact) -> Result<(), NoMemory> {
+        if self.is_known(n, fact) {
+            return Ok(());
+        }
+        self.set_known(n, fact, true);
+        self.trail.push(Change::Known(n, fact))?;
+        for p in row(&terms.parents, n) {
+            if self.follows(terms.node(*p), fact) {
+                self.near.push(*p)?;
             }
         }
         Ok(())

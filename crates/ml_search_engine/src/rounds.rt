@@ -49,7 +49,7 @@ struct Way {
 }
 
 impl<'a> Engine<'a> {
-    /// The start alone.
+    /// Nothing is made yet.
     pub(crate) fn new(
         alloc: Global,
         graph: &'a ModalGraph,
@@ -58,15 +58,13 @@ impl<'a> Engine<'a> {
         let terms = Terms::new(alloc, graph)?;
         let trees = Trees::new(&terms)?;
         let positions = Positions::new(&terms);
-        let mut engine = Engine {
+        Ok(Engine {
             terms,
             trees,
             positions,
             solved: 0,
             most: (limit as usize).saturating_mul(WORK),
-        };
-        engine.begin()?;
-        Ok(engine)
+        })
     }
 
     /// Makes the start, where its state has a number that histories take.
@@ -98,8 +96,9 @@ impl<'a> Engine<'a> {
         Ok(game)
     }
 
-    /// Rounds until something is found or enough is made.
+    /// The start, and then rounds until something is found or enough is made.
     pub(crate) fn run(&mut self) -> Result<Option<Candidate>, NoMemory> {
+        self.begin()?;
         if self.positions.all.is_empty() {
             return Ok(None);
         }
