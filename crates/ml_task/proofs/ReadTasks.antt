@@ -18,6 +18,7 @@ use Rattle.ml_task.specs.TaskText.{AtFormula, AtInputs, AtNothing, IsTaskText, P
 use Rattle.ml_lines.specs.declared.refusal.LineRefusal.{LineRefusal}
 use Rattle.ml_lines.specs.declared.refusal.LineRefusal.TheVariants as line
 use Rattle.ml_task.specs.declared.task_rule.TaskRule.TheVariants.{OfKind}
+use Rattle.ml_task.specs.declared.task_rule.TaskRule.{TaskRule}
 use Rattle.ml_task.specs.private.Stages.{AreNamesRead, AreSignalsRead, IsFormulaRead, Tells, TellsFault, at_line, first_of}
 use Rattle.ml_task.proofs.FormulaRead.{given_bytes, is_formula_line}
 use Rattle.ml_task.proofs.ReadableTasks.{good_task}

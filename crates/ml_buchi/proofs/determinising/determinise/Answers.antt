@@ -2,6 +2,7 @@ use Rattle.std.proofs.Common.{◌+◌, ◌*◌, refl, ◌∙◌}
 use Rattle.std.proofs.lemmas.Result.{err_from_is_err_and}
 use Rattle.ml_determinise.specs.Numbering.{rows_of}
 use Rattle.ml_determinise.proofs.HandedOn.{handed_on}
+use Rattle.ml_buchi.specs.Deterministic.{Deterministic}
 use Rattle.ml_buchi.proofs.MadeDeterministic.{made_determinised, made_few, made_many, made_stays}
 use Rattle.ml_buchi.proofs.Writable.{determinised_writable}
 use Rattle.ml_buchi.proofs.determinising.determinise.Goals as goal
@@ -22,7 +23,7 @@ returns-in_err-moves-clause-passed c = λ e.
 pub new-requires : goal.new-requires
 new-requires c =
     let rows = rows_of c.in_ok-moves.moves.items in
-    let d = record { props = c.in_ok-props.props.items; top = 2 * c.states-states.result + 3; moves = rows } in
+    let d : Deterministic = record { props = c.in_ok-props.props.items; top = 2 * c.states-states.result + 3; moves = rows } in
     determinised_writable c.args.automaton.now d c.states-states.ensures.automaton
     (made_determinised c.args.automaton.now c.in_ok-letters.letters.items c.deref.result.now c.states-states.result
     c.start.result c.in_ok-letters.ensures c.deref.ensures.value c.states-states.ensures.value c.start.ensures.value
