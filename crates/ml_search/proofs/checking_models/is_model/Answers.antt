@@ -8,9 +8,9 @@ returns-then-reached c =
     let few = c.has_few_edges.ensures c.if-has_few_edges.true in
     record {
       extracted = record {
-        is_structure = c.keeps.ensures.is_structure;
+        is_structure = c.keeps-2.ensures.is_structure;
         is_state = search rules;
-        holds = c.in_ok-is_met.ensures yes;
+        holds = c.in_ok-is_met.ensures.0 yes;
         reached = c.in_ok-reached.ensures c.if-reached.true;
         along_diamonds = has_some c.args.graph.now c.args.model.now.structure few;
         only_edge = only_one c.args.graph.now c.args.model.now.structure few;

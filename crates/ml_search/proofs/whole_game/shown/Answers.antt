@@ -1,8 +1,8 @@
 use Rattle.ml_search.proofs.FewEdges.{few_edges}
 use Rattle.ml_search.proofs.whole_game.shown.Goals as goal
 
-pub returns-in_ok-model-in-Some-Even : goal.returns-in_ok-model-in-Some-Even
-returns-in_ok-model-in-Some-Even c =
+pub returns-in_ok-model-in-Some-Even-clause-found : goal.returns-in_ok-model-in-Some-Even-clause-found
+returns-in_ok-model-in-Some-Even-clause-found c =
     let model = c.in_ok-model-in-Some-Even.model in
     record {
       extracted = c.in_ok-model-in-Some-Even.ensures.holds;
