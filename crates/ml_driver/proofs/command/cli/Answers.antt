@@ -31,10 +31,10 @@ whole = refl
 
 pub returns : goal.returns
 returns c =
-    let command_is : rule_of c.required-command.result ≡ command = search rules in
-    let limit_is : rule_of c.long-limit.result ≡ limit = search rules in
-    let subject_is : rule_of c.new-4.result ≡ new_rule (codes "subject") = search rules in
-    let count_is : rule_of c.new-5.result ≡ new_rule (codes "count") = search rules in
+    let command_is : rule_of c.required.result ≡ command = search rules in
+    let limit_is : rule_of c.long.result ≡ limit = search rules in
+    let subject_is : rule_of c.new-3.result ≡ new_rule (codes "subject") = search rules in
+    let count_is : rule_of c.new-4.result ≡ new_rule (codes "count") = search rules in
     let plain_is : app_of c.disable_help_flag.result ≡ plain = search rules in
     let first : app_of c.in_ok-arg.field-0 ≡ one =
     c.in_ok-arg.ensures.shape (search rules) ∙ ap₂ with_rule plain_is command_is in
