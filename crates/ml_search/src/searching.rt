@@ -3,6 +3,8 @@ ghost use Rattle.std.specs.Prelude.{◌≡◌, ◌≤◌, IfOk, IfSome, IsErrOf}
 ghost use Rattle.ml_graph.specs.Graph.{size};
 ghost use Rattle.ml_product.specs.DecisionGame.{HasMoreThan};
 ghost use Rattle.ml_product.specs.Position.{automaton_states};
+ghost use Rattle.ml_refutation.specs.declared.refutation.TheConstants.{NESTING_LIMIT};
+ghost use Rattle.ml_trace.specs.declared.letters.TheConstants.{STATE_LIMIT};
 ghost use Rattle.ml_search.specs.Found.{IsFound};
 ghost use Rattle.ml_search.specs.declared.refusals.SearchRefusal.TheVariants as refusal;
 
@@ -53,8 +55,8 @@ fn checked(
 ///
 /// Cost: the search stops once it has made a fixed multiple of the limit; then the check of what it found.
 pub fn seek(alloc: Global, graph: &ModalGraph, limit: u32) -> Result<Option<Found>, NoMemory>
-    requires nodes { size graph.now ≤ 4096 }
-    requires fits { automaton_states graph.now ≤ 1073741824 }
+    requires nodes { size graph.now ≤ NESTING_LIMIT }
+    requires fits { automaton_states graph.now ≤ STATE_LIMIT }
     requires some { 1 ≤ limit }
     ensures { IfOk result (λ found. IfSome found (IsFound graph.now)) }
 {
@@ -74,8 +76,8 @@ pub fn seek(alloc: Global, graph: &ModalGraph, limit: u32) -> Result<Option<Foun
 ///
 /// Cost: that of `seek`, and then at most that of the decision game up to the limit.
 pub fn search(alloc: Global, graph: &ModalGraph, limit: u32) -> Result<Found, SearchRefusal>
-    requires nodes { size graph.now ≤ 4096 }
-    requires fits { automaton_states graph.now ≤ 1073741824 }
+    requires nodes { size graph.now ≤ NESTING_LIMIT }
+    requires fits { automaton_states graph.now ≤ STATE_LIMIT }
     requires some { 1 ≤ limit }
     ensures found { IfOk result (IsFound graph.now) }
     ensures passed { IsErrOf result refusal.Passed → HasMoreThan graph.now limit }

@@ -5,6 +5,8 @@ ghost use Rattle.ml_parity.specs.Solution.{IsSolution};
 ghost use Rattle.ml_product.specs.Arena.{IsArenaOf, game_of};
 ghost use Rattle.ml_product.specs.DecisionGame.{HasMoreThan};
 ghost use Rattle.ml_product.specs.Position.{automaton_states};
+ghost use Rattle.ml_refutation.specs.declared.refutation.TheConstants.{NESTING_LIMIT};
+ghost use Rattle.ml_trace.specs.declared.letters.TheConstants.{STATE_LIMIT};
 ghost use Rattle.ml_search.specs.Found.{IsFound};
 ghost use Rattle.ml_search.specs.declared.refusals.SearchRefusal.TheVariants as refusal;
 
@@ -23,8 +25,8 @@ use std::alloc::Global;
 /// # Errors
 /// `Passed` only where it has more; `NoMemory`.
 pub(crate) fn decided(alloc: Global, graph: &ModalGraph, limit: u32) -> Result<Found, SearchRefusal>
-    requires nodes { size graph.now ≤ 4096 }
-    requires fits { automaton_states graph.now ≤ 1073741824 }
+    requires nodes { size graph.now ≤ NESTING_LIMIT }
+    requires fits { automaton_states graph.now ≤ STATE_LIMIT }
     requires some { 1 ≤ limit }
     ensures found { IfOk result (IsFound graph.now) }
     ensures passed { IsErrOf result refusal.Passed → HasMoreThan graph.now limit }
@@ -38,7 +40,7 @@ pub(crate) fn decided(alloc: Global, graph: &ModalGraph, limit: u32) -> Result<F
 
 /// What the game says once it is solved. Only memory may be wanting.
 fn solved(alloc: Global, graph: &ModalGraph, arena: &Arena) -> Result<Found, SearchRefusal>
-    requires nodes { size graph.now ≤ 4096 }
+    requires nodes { size graph.now ≤ NESTING_LIMIT }
     requires arena { IsArenaOf graph.now arena.now }
     ensures found { IfOk result (IsFound graph.now) }
     ensures passed { ¬ (IsErrOf result refusal.Passed) }
@@ -62,7 +64,7 @@ fn shown(
     arena: &Arena,
     solution: &Solution,
 ) -> Result<Found, SearchRefusal>
-    requires nodes { size graph.now ≤ 4096 }
+    requires nodes { size graph.now ≤ NESTING_LIMIT }
     requires arena { IsArenaOf graph.now arena.now }
     requires solution { IsSolution (game_of arena.now) solution.now }
     ensures found { IfOk result (IsFound graph.now) }
