@@ -70,9 +70,9 @@ step_more i steps n moves m are is l b = (
     by_place x (inr high) =
         let here : x.set ≡ n = let low = x.low in omega arith in
         let e : move l b ≡ m =
-            (λ j. move (x.letter_is j) (x.to_is j))
-            ∙ ap (λ k. move (valuation i k (step_in steps k).give) (step_in steps k).next) here
-            ∙ sym is in
+        (λ j. move (x.letter_is j) (x.to_is j))
+        ∙ ap (λ k. move (valuation i k (step_in steps k).give) (step_in steps k).next) here
+        ∙ sym is in
         member-append_right (move l b) moves (m ∷ []) (inl e)
 
 pub reply_none : (i play : ℕ) (next : List ℕ) → AreMoves (IsReply i play next 0) []
@@ -103,7 +103,7 @@ reply_more i play next n moves m are is l b = (
     by_place x (inr high) =
         let here : x.set ≡ n = let low = x.low in omega arith in
         let e : move l b ≡ m =
-            (λ j. move (x.letter_is j) (x.to_is j)) ∙ ap (λ k. move (valuation i play k) (get_or next k 0)) here ∙ sym is in
+        (λ j. move (x.letter_is j) (x.to_is j)) ∙ ap (λ k. move (valuation i play k) (get_or next k 0)) here ∙ sym is in
         member-append_right (move l b) moves (m ∷ []) (inl e)
 
 -- ---- states
@@ -122,14 +122,16 @@ of_more goes n s moves of are = record {
   where
     by_place : (a l b : ℕ) → (a < n) ⊎ (n ≤ a) → a < n + 1 → Goes (s ++ moves ∷ []) a l b ↔ goes a l b
     by_place a l b (inl before) low =
-        let e = get_or_append_left s (moves ∷ []) [] a (let o = of.one_each in omega arith) in
-        (λ h. (of.same a l b before).0 (subst (IsMember (move l b)) e h),
-        λ h. subst (IsMember (move l b)) (sym e) ((of.same a l b before).1 h))
+        let e = get_or_append_left s (moves ∷ []) [] a (let o = of.one_each in omega arith) in (
+          λ h. (of.same a l b before).0 (subst (IsMember (move l b)) e h),
+          λ h. subst (IsMember (move l b)) (sym e) ((of.same a l b before).1 h),
+        )
     by_place a l b (inr high) low =
         let here : n ≡ a = omega arith in
-        let e = get_or_push s moves [] a (of.one_each ∙ here) in
-        (λ h. subst (λ k. goes k l b) here ((are l b).0 (subst (IsMember (move l b)) e h)),
-        λ h. subst (IsMember (move l b)) (sym e) ((are l b).1 (subst (λ k. goes k l b) (sym here) h)))
+        let e = get_or_push s moves [] a (of.one_each ∙ here) in (
+          λ h. subst (λ k. goes k l b) here ((are l b).0 (subst (IsMember (move l b)) e h)),
+          λ h. subst (IsMember (move l b)) (sym e) ((are l b).1 (subst (λ k. goes k l b) (sym here) h)),
+        )
 
 -- the steps of a state, as the machine goes from there
 pub step_goes : (i : ℕ) (m : MachineTable) (a : ℕ) (steps : List MachineStep) (moves : List Move)
@@ -266,11 +268,14 @@ module _ (t : Task) (ok : IsTask t) (s : SystemTable) where
   pub checked_machine : (m : MachineTable) → MachineFits (inputs_of t) (outputs_of t) m
       → AreMovesOf (MachineGoes (inputs_of t) m) (length m) s
       → (c : Checked) → IsFoundIn t true s c → IsChecked t (outcome.Made m) c
-  checked_machine m fits of Holds found = (found.0, record {
-    fits = fits;
-    satisfies = λ w along.
-        by w along (linear_decided (word_of (names_of t) w) t.formula ok.is_linear (long_word t w along.loops));
-  })
+  checked_machine m fits of Holds found = (
+    found.0,
+    record {
+      fits = fits;
+      satisfies = λ w along.
+          by w along (linear_decided (word_of (names_of t) w) t.formula ok.is_linear (long_word t w along.loops));
+    },
+  )
     where
       by : (w : WordLasso ℕ) → IsWordAlong (MachineGoes (inputs_of t) m) w
           → IsDecided (SatisfiedBy (word_of (names_of t) w) t.formula)
@@ -280,25 +285,34 @@ module _ (t : Task) (ok : IsTask t) (s : SystemTable) where
           absurd (found.1 along.states w
           (system_word (MachineGoes (inputs_of t) m) (length m) s of w fits.some
           (λ a v b low g. subst (λ x. x < length m) (sym g.next_is) (fits.leads a g.ins low g.is_set)) along) none)
-  checked_machine m fits of (Fails x) found = (found.0, record {
-    is_word = word_of_system (MachineGoes (inputs_of t) m) (length m) s of found.1.0 (word_of_run x) found.1.1;
-    satisfies = found.1.2;
-  })
+  checked_machine m fits of (Fails x) found = (
+    found.0,
+    record {
+      is_word = word_of_system (MachineGoes (inputs_of t) m) (length m) s of found.1.0 (word_of_run x) found.1.1;
+      satisfies = found.1.2;
+    },
+  )
   checked_machine m fits of ClosureTooLarge found = found
 
   pub checked_environment : (e : EnvironmentTable) → EnvironmentFits (inputs_of t) (outputs_of t) e
       → AreMovesOf (EnvironmentGoes (inputs_of t) (outputs_of t) e) (length e.plays) s
       → (c : Checked) → IsFoundIn t false s c → IsChecked t (outcome.Defeated e) c
-  checked_environment e fits of Holds found = (found.0, record {
-    fits = fits;
-    excludes = λ w along sat. found.1 along.states w
-        (system_word (EnvironmentGoes (inputs_of t) (outputs_of t) e) (length e.plays) s of w fits.some
-        (λ a v b low g. subst (λ x. x < length e.plays) (sym g.next_is) (fits.leads a g.outs low g.is_set)) along) sat;
-  })
-  checked_environment e fits of (Fails x) found = (found.0, record {
-    is_word =
-        word_of_system (EnvironmentGoes (inputs_of t) (outputs_of t) e) (length e.plays) s of found.1.0 (word_of_run x)
-        found.1.1;
-    satisfies = found.1.2;
-  })
+  checked_environment e fits of Holds found = (
+    found.0,
+    record {
+      fits = fits;
+      excludes = λ w along sat. found.1 along.states w
+          (system_word (EnvironmentGoes (inputs_of t) (outputs_of t) e) (length e.plays) s of w fits.some
+          (λ a v b low g. subst (λ x. x < length e.plays) (sym g.next_is) (fits.leads a g.outs low g.is_set)) along) sat;
+    },
+  )
+  checked_environment e fits of (Fails x) found = (
+    found.0,
+    record {
+      is_word =
+          word_of_system (EnvironmentGoes (inputs_of t) (outputs_of t) e) (length e.plays) s of found.1.0 (word_of_run x)
+          found.1.1;
+      satisfies = found.1.2;
+    },
+  )
   checked_environment e fits of ClosureTooLarge found = found

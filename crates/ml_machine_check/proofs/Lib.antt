@@ -4,3 +4,5 @@ pub mod WordsRead
 pub mod AsSystems
 -- what is found says one thing
 pub mod OneCheck
+-- what the program reads of machines and environments
+pub mod ReadRows

@@ -1,12 +1,15 @@
 -- Words of valuations, as the word automaton of a task's formula reads them.
 --
 --   read_word   == it accepts exactly the words that satisfy the formula, or its negation where the problem is negated
+--   not_large   == an automaton with few nodes isn't large
 --   sought_of   == what is found of a system tells whether it has such a word
 use Rattle.std.proofs.Common.{ℕ, ◌≡◌, ◌↔◌, ◌+◌, ◌^◌, ◌<◌, ◌≤◌, Bool, List, All, length, get_or, Option, None, Some, MatchOption, sym, ap, ◌∙◌, subst, arith}
 use Rattle.std.proofs.lemmas.List.{get_or_default, length-append}
+use Rattle.ml_blocks.specs.Closures.{HasMoreThan}
 use Rattle.ml_emptiness.specs.Emptiness.{IsEmpty, IsFound, reads}
 use Rattle.ml_emptiness.specs.Systems.{IsSystem, IsWordOn, SystemTable}
 use Rattle.ml_emptiness.specs.declared.lassos.SystemLasso.{SystemLasso}
+use Rattle.ml_graph.specs.Graph.{size}
 use Rattle.ml_lists.specs.Lasso.{Lasso, round}
 use Rattle.ml_ltl.specs.Problem.{in_sense}
 use Rattle.ml_realize.specs.Realizing.{inputs_of, outputs_of, word_of}
@@ -17,8 +20,11 @@ use Rattle.ml_trace.specs.WordAutomata.{IsAcceptedFrom, WordLasso}
 use Rattle.ml_trace.specs.declared.letters.Transition.{Transition}
 use Rattle.ml_word_automaton.specs.Letters as rows
 use Rattle.ml_word_automaton.specs.Letters.{Automaton, IsAutomatonOf}
+use Rattle.ml_word_automaton.specs.WordAutomaton.{start_block}
 use Rattle.ml_word_automaton.specs.Words.{SatisfiedBy}
+use Rattle.ml_word_automaton.proofs.BlockGraphs.{one_size}
 use Rattle.ml_word_automaton.proofs.RowsAccept.{rows_accept}
+use Rattle.ml_machine_check.specs.Checked.{most_nodes}
 use Rattle.ml_machine_check.specs.private.AsSystems.{IsSought, IsSoughtIn}
 
 module _ (t : Task) (ok : IsTask t) (negated : Bool) (a : Automaton) (row : List (List Transition))
@@ -65,3 +71,10 @@ module _ (t : Task) (ok : IsTask t) (negated : Bool) (a : Automaton) (row : List
         let lasso : Lasso = record { entries = l.states.items; start = l.loop_start } in
         let w : WordLasso ℕ = record { word = l.letters.items; loop_start = l.loop_start } in
         (lasso, found.is_word, (read_word w found.is_word.loops (low_letters lasso w found.is_word)).0 found.is_accepted)
+
+-- an automaton with few nodes is one of which no more are reached
+pub not_large : (t : Task) (negated : Bool) (a : Automaton) → IsAutomatonOf a t.formula negated
+    → size a.graph ≤ most_nodes
+    → ¬ (HasMoreThan (start_block t.formula negated) most_nodes)
+not_large t negated a is few more =
+    let low = (one_size t.formula negated a.graph most_nodes is.is_graph).0 more in absurd (omega (arith, low, few))

@@ -1,5 +1,5 @@
 // Machines and environments checked.
-ghost use Rattle.std.specs.Prelude.{◌≡◌, ◌^◌, ◌+◌, IfOk, Bool, length};
+ghost use Rattle.std.specs.Prelude.{◌^◌, ◌+◌, IfOk, length};
 ghost use Rattle.ml_emptiness.specs.Systems.{IsSystem, table_of};
 ghost use Rattle.ml_task.specs.Task.{task_of};
 ghost use Rattle.ml_word_automaton.specs.Letters.{IsAutomatonOf};

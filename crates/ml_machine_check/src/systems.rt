@@ -1,5 +1,5 @@
 // Machines and environments as systems whose letters are valuations.
-ghost use Rattle.std.specs.Prelude.{◌≡◌, ◌<◌, ◌≤◌, ◌^◌, ℕ, IfOk, length, get_or};
+ghost use Rattle.std.specs.Prelude.{◌≡◌, ◌<◌, ◌≤◌, ◌+◌, ◌^◌, ℕ, IfOk, length};
 ghost use Rattle.ml_emptiness.specs.Systems.{table_of};
 ghost use Rattle.ml_synthesis.specs.Machines.{EnvironmentFits, EnvironmentGoes, MachineFits, MachineGoes};
 ghost use Rattle.ml_machine_check.specs.private.AsSystems.{AreMoves, AreMovesOf, IsReply, IsStep, step_in};
@@ -9,21 +9,27 @@ use ml_emptiness::Move;
 use ml_synthesis::{Environment, Machine, MachineStep};
 use std::alloc::Global;
 
+// how many sets of so many names there are
+fn sets(names: u32) -> u32
+    requires { names ≤ 8 }
+    ensures is { result ≡ 2 ^ names }
+    ensures few { result ≤ 256 }
+{
+    1 << names
+}
+
 // the moves of a machine from a state, one for each set of inputs
-fn step_moves(
-    alloc: Global,
-    inputs: u32,
-    steps: &[MachineStep],
-) -> Result<Vec<Move>, NoMemory>
+fn step_moves(alloc: Global, inputs: u32, steps: &[MachineStep]) -> Result<Vec<Move>, NoMemory>
     requires few { inputs ≤ 8 }
     requires long { length steps.now ≤ 256 }
     requires gives { (k : ℕ) → k < length steps.now → (step_in steps.now k).give < 256 }
     ensures { IfOk result (λ moves. AreMoves (IsStep inputs steps.now (length steps.now)) moves.items) }
 {
+    let weight = sets(inputs);
     let mut moves = Vec::with_capacity(alloc, steps.len())?;
     for (set, step) in steps.iter().enumerate() {
         moves.push(Move {
-            letter: set as u32 + (1 << inputs) * step.give,
+            letter: set as u32 + weight * step.give,
             to: step.next,
         })?;
     }
@@ -31,21 +37,17 @@ fn step_moves(
 }
 
 // the moves of an environment from a state, one for each set of outputs
-fn reply_moves(
-    alloc: Global,
-    inputs: u32,
-    play: u32,
-    next: &[u32],
-) -> Result<Vec<Move>, NoMemory>
+fn reply_moves(alloc: Global, inputs: u32, play: u32, next: &[u32]) -> Result<Vec<Move>, NoMemory>
     requires few { inputs ≤ 8 }
     requires plays { play < 256 }
     requires long { length next.now ≤ 256 }
     ensures { IfOk result (λ moves. AreMoves (IsReply inputs play next.now (length next.now)) moves.items) }
 {
+    let weight = sets(inputs);
     let mut moves = Vec::with_capacity(alloc, next.len())?;
     for (set, to) in next.iter().enumerate() {
         moves.push(Move {
-            letter: play + (1 << inputs) * set as u32,
+            letter: play + weight * set as u32,
             to: *to,
         })?;
     }
