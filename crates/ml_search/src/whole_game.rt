@@ -100,7 +100,6 @@ pub fn shown(alloc: Global, graph: &ModalGraph, game: &SolvedGame) -> Result<Fou
     match game.winner() {
         Player::Even => {
             let model = model_of(alloc, graph, &game.arena, &game.solution)?;
-            let _states = model.structure.states();
             Ok(Found::Model(model))
         }
         Player::Odd => {
