@@ -5,7 +5,7 @@
 --   few_priorities   == the priorities of a graph of a problem are numbers of 32 bits
 --   even_wins        == where Even wins, the problem is satisfiable
 --   odd_wins         == where Odd wins, it isn't
-use Rattle.std.proofs.Common.{◌≡◌, ◌⊎◌, ℕ, ◌<◌, ◌^◌, length, inl, inr, subst, arith}
+use Rattle.std.proofs.Common.{◌≡◌, ◌⊎◌, ℕ, ◌<◌, ◌≤◌, ◌^◌, length, inl, inr, subst, arith}
 use Rattle.ml_base.specs.Structure.{Structure}
 use Rattle.ml_lists.specs.Member.{IsMember}
 use Rattle.ml_lists.proofs.Member.{member-All}
