@@ -1,18 +1,14 @@
 -- Decisions of a problem are exact, and agree.
 --
 --   decisions_are_exact, one_decision, decisions_agree, found_as_decided == the laws
-use Rattle.std.proofs.Common.{◌≡◌, ℕ, ◌⊎◌, refl, inl, inr}
+use Rattle.std.proofs.Common.{ℕ, refl, inl, inr}
 use Rattle.ml_front.specs.Problems.{IsSatisfiable}
-use Rattle.ml_front.specs.declared.answer.Answer.{Answer}
 use Rattle.ml_front.specs.declared.problem.Problem.{Problem}
-use Rattle.ml_decide.specs.Decision.{IsDecided, IsMetBy, answer_by}
-use Rattle.ml_decide.specs.Laws.{AgreeUnlessOpen, DecisionsAgree, DecisionsAreExact, FoundAsDecided, OneDecision}
+use Rattle.ml_decide.specs.Decision.{IsMetBy}
+use Rattle.ml_decide.specs.Laws.{DecisionsAgree, DecisionsAreExact, FoundAsDecided, OneDecision}
 use Rattle.ml_decide.specs.Laws.{open_at, satisfiable_at, unsatisfiable_at}
 use Rattle.ml_decide.specs.declared.cause.Cause.TheVariants.{Closure}
-use Rattle.ml_decide.specs.declared.deciding.Decision.{Decision}
 use Rattle.ml_decide.specs.declared.deciding.Decision.TheVariants.{Satisfiable, Unsatisfiable, Undecided}
-use Rattle.ml_decide.specs.declared.way.Way.{Way}
-use Rattle.ml_decide.specs.declared.way.Way.TheVariants.{WholeGame, Search}
 use Rattle.ml_base.specs.Structure.{Structure}
 
 pub met_is_satisfiable : (p : Problem) (m : Structure) (start : ℕ) → IsMetBy p m start → IsSatisfiable p

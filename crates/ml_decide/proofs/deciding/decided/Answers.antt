@@ -24,5 +24,5 @@ returns-in-Ok-Refutation c =
     let found = rw c.in-Ok-Refutation.field-0-is at c.in-Ok-Refutation.ensures.found in (
       closed_by c.args.way c.args.limit p g is c.in-Ok-Refutation.ensures.few,
       refuted_by p g c.requires.well_formed is.is_graph_of (of_parts r.names r.sequents r.stacks r.entries)
-      r.is_refutation found,
+          r.is_refutation found,
     )
