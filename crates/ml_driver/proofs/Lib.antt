@@ -2,10 +2,6 @@
 pub mod InputLimits
 -- how a call ends
 pub mod Endings
--- the decision games of graphs that differ in the numbers of names have the same positions
-pub mod SamePositions
--- the graphs of problems
-pub mod ProblemGraphs
 -- a decision is what is due
 pub mod Answered
 -- the words as they are taken apart
@@ -28,23 +24,11 @@ pub mod ReadBack
 pub mod SomeDue
 -- words worked out by hand
 pub mod WorkedWords
--- the members of a list that have a property
-pub mod SievedLists
--- something is done at each position
-pub mod SomeTurn
--- the decision game has an arena, or passes the limit
-pub mod SomeArena
--- models with such names
-pub mod NamedModels
 -- each question on each text has an answer
 pub mod SomeAnswer
 -- the numbers of commands that words are fit
 pub mod FitNumbers
 -- the problems of families
 pub mod FamilyProblems
--- what the winner of the first position tells
-pub mod Winners
--- what is found of a problem
-pub mod Measures
 -- a search answers what the whole game does
 pub mod Searched

@@ -11,9 +11,10 @@ use Rattle.std.proofs.Common.{◌≡◌, ℕ, ◌≤◌, ◌⊎◌, Bool, true, 
 use Rattle.ml_front.specs.Problems.{IsSatisfiable}
 use Rattle.ml_front.specs.declared.problem.Problem.{Problem}
 use Rattle.ml_front.proofs.Logics.{formula_once, formula_or_refused}
-use Rattle.ml_driver.specs.Decision.{IsAnswered, IsClosed, IsProblem, LeftOpen, Refuted, RefusedText, Satisfied, StaysOpen, if_open, if_refused, if_refuted, if_satisfied}
+use Rattle.ml_decide.specs.Limits.{IsClosed, StaysOpen}
+use Rattle.ml_driver.specs.Decision.{IsAnswered, IsProblem, LeftOpen, Refuted, RefusedText, Satisfied, if_open, if_refused, if_refuted, if_satisfied}
 use Rattle.ml_driver.specs.declared.question.Question.{Question}
-use Rattle.ml_driver.specs.declared.question.Way.TheVariants.{WholeGame, Search}
+use Rattle.ml_decide.specs.declared.way.Way.TheVariants.{WholeGame, Search}
 use Rattle.ml_model_check.proofs.OneCheck.{one_check}
 use Rattle.ml_driver.specs.declared.command.Command.TheVariants.{Decide, Valid, Find, Prove, CheckModel, CheckRefutation, Migrate, Quotient, SolveGame, Determinise, Realize, Gen, Bench}
 use Rattle.ml_driver.specs.declared.status.Status.{Status}
@@ -25,13 +26,14 @@ use Rattle.ml_refute_check.specs.Documents.{IsMigrated, IsVerdict}
 use Rattle.ml_refute_check.specs.declared.verdict.Verdict.TheVariants.{Unreadable}
 use Rattle.ml_refute_check.proofs.OneVerdict.{one_verdict, shown_fault}
 use Rattle.ml_gen.specs.declared.family.Family.{Family}
-use Rattle.ml_driver.specs.Bench.{IsBenched, IsFinding, answer_of, bench_text, gen_text, occurrences_of, status_of}
+use Rattle.ml_decide.specs.Measures.{IsFinding, answer_of}
+use Rattle.ml_driver.specs.Bench.{IsBenched, bench_text, gen_text, occurrences_of, status_of}
 use Rattle.ml_driver.specs.declared.command.TheConstants.{GREATEST_LIMIT}
 use Rattle.ml_driver.proofs.AutomatonAnswers.{one_automaton_answer}
 use Rattle.ml_driver.proofs.FamilyProblems.{one_family_problem}
 use Rattle.ml_driver.proofs.InputLimits.{alike_due}
 use Rattle.ml_driver.proofs.GameAnswers.{one_solved}
-use Rattle.ml_driver.proofs.Measures.{one_finding}
+use Rattle.ml_decide.proofs.Measures.{one_finding}
 use Rattle.ml_driver.proofs.QuotientAnswers.{one_quotient_answer}
 use Rattle.ml_driver.proofs.TaskAnswers.{one_told}
 use Rattle.ml_driver.specs.Laws.{AgreeUnlessOpen, AnswersAreExact, OneDue, OneMeasure, OneUnlessOpen, open_at, satisfiable_at, searches, unsatisfiable_at}
@@ -165,7 +167,7 @@ one_benched : (f : Family) (n : ℕ) (s t : Status) (out more : List ℕ) → Is
 one_benched f n s t out more x y =
     let p = one_family_problem f n x.problem y.problem x.is_meant y.is_meant in
     let other = subst (λ r. IsFinding GREATEST_LIMIT r y.finding) (sym p) y.is_finding in
-    let same = one_finding x.problem GREATEST_LIMIT x.finding y.finding x.is_finding other in (
+    let same = one_finding GREATEST_LIMIT x.problem x.finding y.finding x.is_finding other in (
       x.status_is ∙ ap (λ u. status_of (answer_of u)) same ∙ sym y.status_is,
       x.is_written ∙ ap₂ (λ r u. bench_text f n (occurrences_of r.formula) u) p same ∙ sym y.is_written,
     )

@@ -16,14 +16,14 @@ use Rattle.ml_driver.specs.declared.command.Command.TheVariants.{Decide, Valid, 
 use Rattle.ml_driver.specs.declared.status.Status.TheVariants.{Yes, No, Text}
 use Rattle.ml_driver.proofs.InputLimits.{answer_due}
 use Rattle.ml_driver.specs.declared.question.Question.{Question}
-use Rattle.ml_driver.specs.declared.question.Way.{Way}
-use Rattle.ml_driver.specs.declared.question.Way.TheVariants.{WholeGame, Search}
+use Rattle.ml_decide.specs.declared.way.Way.{Way}
+use Rattle.ml_decide.specs.declared.way.Way.TheVariants.{WholeGame, Search}
 use Rattle.ml_driver.specs.Laws.{DecidedAreChecked, DecideIsChecked, FindIsChecked, IsFoundAccepted, IsFoundToHold, ProveIsChecked, RefutedAreAccepted, ValidIsChecked}
 use Rattle.ml_driver.specs.Run.{asked, IsWhole}
 use Rattle.ml_refute_check.specs.Documents.{Finds, HoldsNowhere, IsDocument as IsDocumentWith}
 use Rattle.ml_refute_check.proofs.Accepted as refuted
 use Rattle.ml_refute_check.specs.declared.verdict.Verdict.TheVariants.{Accepted}
-use Rattle.ml_driver.proofs.Answered.{closure_fits}
+use Rattle.ml_decide.proofs.Closed.{closure_fits}
 use Rattle.ml_front.proofs.Logics.{parsed_well}
 
 satisfied_read : (q : Question) (text out : List ℕ) → Satisfied q text out → IsCheckedAs out Holds

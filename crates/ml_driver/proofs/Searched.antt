@@ -7,10 +7,10 @@ use Rattle.std.proofs.Common.{◌≡◌, ◌≢◌, ℕ, ◌⊎◌, Bool, true, 
 use Rattle.ml_front.specs.declared.logic.Logic.{Logic}
 use Rattle.ml_front.specs.declared.problem.Problem.{Problem}
 use Rattle.ml_driver.specs.Decision.{IsAnswered, IsProblem, LeftOpen, Refuted, RefusedText, Satisfied, if_open, if_refused, if_refuted, if_satisfied}
-use Rattle.ml_driver.specs.declared.cause.Cause.TheVariants.{Closure}
+use Rattle.ml_decide.specs.declared.cause.Cause.TheVariants.{Closure}
 use Rattle.ml_driver.specs.declared.command.Command.TheVariants.{Decide, Valid, Find, Prove}
-use Rattle.ml_driver.specs.declared.question.Way.{Way}
-use Rattle.ml_driver.specs.declared.question.Way.TheVariants.{WholeGame, Search}
+use Rattle.ml_decide.specs.declared.way.Way.{Way}
+use Rattle.ml_decide.specs.declared.way.Way.TheVariants.{WholeGame, Search}
 use Rattle.ml_driver.specs.declared.status.Status.{Status}
 use Rattle.ml_driver.specs.declared.status.Status.TheVariants.{Yes, No}
 use Rattle.ml_driver.specs.Laws.{FindsAsDecided, ProvesAsDecided}

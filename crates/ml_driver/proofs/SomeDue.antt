@@ -19,12 +19,13 @@ use Rattle.ml_gen.specs.FamilyRanges.{is_in_range}
 use Rattle.ml_gen.specs.declared.family.Family.{Family}
 use Rattle.ml_driver.specs.declared.command.Command.{Command}
 use Rattle.ml_driver.specs.declared.command.TheConstants.{GREATEST_LIMIT}
-use Rattle.ml_driver.specs.Bench.{answer_of, bench_text, gen_text, occurrences_of, status_of}
+use Rattle.ml_decide.specs.Measures.{answer_of}
+use Rattle.ml_driver.specs.Bench.{bench_text, gen_text, occurrences_of, status_of}
 use Rattle.ml_driver.proofs.AutomatonAnswers.{on_automaton}
 use Rattle.ml_driver.proofs.FamilyProblems.{family_problem}
 use Rattle.ml_driver.proofs.GameAnswers.{on_game}
-use Rattle.ml_driver.proofs.Measures.{some_finding}
-use Rattle.ml_driver.specs.declared.question.Way.TheVariants.{WholeGame, Search}
+use Rattle.ml_decide.proofs.Measures.{some_finding}
+use Rattle.ml_decide.specs.declared.way.Way.TheVariants.{WholeGame, Search}
 use Rattle.ml_driver.proofs.QuotientAnswers.{on_structure}
 use Rattle.ml_driver.proofs.TaskAnswers.{on_task}
 use Rattle.ml_driver.specs.declared.command.Command.TheVariants.{Decide, Valid, Find, Prove, CheckModel, CheckRefutation, Migrate, Quotient, SolveGame, Determinise, Realize, Gen, Bench}
@@ -91,7 +92,7 @@ of_family : (f : Family) (n : ℕ) (text : List ℕ) → is_in_range f n ≡ tru
 of_family f n text inside =
     let p = family_problem f n inside in
     let well = parsed_well (formula_text f n) p.0.formula p.1.is_parsed in
-    let x = some_finding p.0 GREATEST_LIMIT (omega arith) well in (
+    let x = some_finding GREATEST_LIMIT p.0 (omega arith) well in (
       status_of (answer_of x.0),
       (
         bench_text f n (occurrences_of p.0.formula) x.0,

@@ -1,27 +1,20 @@
 -- What `gen` and `bench` write, both about the formula of a family for a number, and neither about an input.
 --
 -- `bench` tells how large this formula is, how large its graph and its decision game are, and whether it is satisfiable.
--- Each number is told by definitions alone: the problem is the one that the family's text stands for; its graphs all have
--- as many nodes, and their games as many positions. Nothing is told of what comes behind a limit that is passed.
+-- Each number is told by definitions alone: the problem is the one that the family's text stands for, and what is found of it
+-- is said by `IsFinding` of `ml_decide`.
 --
 --   IsMeant f n p        == p is the problem of the text of the family f for n
 --   occurrences_of f     == how many occurrences the formula f has, by its logic
---   Finding              == what was found of a problem: all, or what came before the limit that was passed
---   HasNodes p k         == a graph of the problem p has k nodes
---   HasPositions p k     == the decision game of a graph of p has k positions
---   IsFinding n p x      == x is what is found of p, where the game may have n positions
---   answer_of x          == satisfiable, unsatisfiable or undecided
 --   status_of a          == the status that goes with this answer
 --   gen_text f n         == the family's text for n, as a line
 --   found_lines x        == the lines for the nodes and the positions; where there is no graph there is no game
 --   bench_text f n k x   == the five lines about a formula with k occurrences of which x is found
 --   IsBenched f n s out  == this status and this output are due for `bench f n`
-use Rattle.std.specs.Prelude.{ℕ, ◌≡◌, ◌<◌, ◌↔◌, true, false, List, [], ◌∷◌, ◌++◌, codes, IsTrue}
+use Rattle.std.specs.Prelude.{ℕ, ◌≡◌, false, List, [], ◌∷◌, ◌++◌, codes}
 use Rattle.ml_ctl.specs.Formula as ctl
-use Rattle.ml_front.specs.Graphs.{OfGraph}
 use Rattle.ml_front.specs.Head.{answer_line}
 use Rattle.ml_front.specs.Logics.{logic_of, some_logic, IsParsedAs}
-use Rattle.ml_front.specs.Problems.{IsSatisfiable}
 use Rattle.ml_front.specs.declared.answer.Answer.{Answer}
 use Rattle.ml_front.specs.declared.answer.Answer.TheVariants.{Satisfiable, Unsatisfiable, Undecided}
 use Rattle.ml_front.specs.declared.problem.AnyFormula.{AnyFormula}
@@ -29,17 +22,13 @@ use Rattle.ml_front.specs.declared.problem.AnyFormula.TheVariants.{Mu, Pdl, Ctl,
 use Rattle.ml_front.specs.declared.problem.Problem.{Problem}
 use Rattle.ml_gen.specs.Families.{family_word, formula_text, logic_name}
 use Rattle.ml_gen.specs.declared.family.Family.{Family}
-use Rattle.ml_graph.specs.Graph.{size}
 use Rattle.ml_lines.specs.Lines.{Line, line_text, number, text_of}
 use Rattle.ml_mu.specs.Formula as mu
 use Rattle.ml_pdl.specs.Formula as pdl
-use Rattle.ml_product.specs.DecisionGame.{HasMoreThan}
-use Rattle.ml_driver.specs.Decision.{IsClosed, StaysOpen}
-use Rattle.ml_driver.specs.declared.cause.Cause.TheVariants.{Positions, Closure}
+use Rattle.ml_decide.specs.Measures.{IsFinding, answer_of}
+use Rattle.ml_decide.specs.declared.finding.Finding.{Finding}
+use Rattle.ml_decide.specs.declared.finding.Finding.TheVariants.{Decided, GamePassed, ClosurePassed}
 use Rattle.ml_driver.specs.declared.command.TheConstants.{GREATEST_LIMIT}
-use Rattle.ml_driver.specs.declared.finding.Finding.{Finding}
-use Rattle.ml_driver.specs.declared.finding.Finding.TheVariants.{Decided, GamePassed, ClosurePassed}
-use Rattle.ml_driver.specs.declared.question.Way.TheVariants.{WholeGame}
 use Rattle.ml_driver.specs.declared.status.Status.{Status}
 use Rattle.ml_driver.specs.declared.status.Status.TheVariants as status
 
@@ -57,31 +46,12 @@ occurrences_of (Ctl f) = ctl.occurrences f
 occurrences_of (Ltl f) = ctl.occurrences f
 occurrences_of (Word f) = ctl.occurrences f
 
--- ---- what is found
-
-abbrev pub HasNodes : Problem → ℕ → Type 0
-HasNodes p k = OfGraph p (λ g. size g ≡ k)
-
-abbrev pub HasPositions : Problem → ℕ → Type 0
-HasPositions p k = OfGraph p (λ g. (n : ℕ) → HasMoreThan g n ↔ (n < k))
-
-abbrev pub IsFinding : ℕ → Problem → Finding → Type 0
-IsFinding n p (Decided nodes positions satisfiable) =
-    IsClosed WholeGame n p × HasNodes p nodes × HasPositions p positions × (IsTrue satisfiable ↔ IsSatisfiable p)
-IsFinding n p (GamePassed nodes) = StaysOpen n p (Positions n) × HasNodes p nodes
-IsFinding n p ClosurePassed = StaysOpen n p Closure
-
-abbrev pub answer_of : Finding → Answer
-answer_of (Decided nodes positions true) = Satisfiable
-answer_of (Decided nodes positions false) = Unsatisfiable
-answer_of _ = Undecided
+-- ---- what is written
 
 abbrev pub status_of : Answer → Status
 status_of Satisfiable = status.Yes
 status_of Unsatisfiable = status.No
 status_of Undecided = status.Undecided
-
--- ---- what is written
 
 abbrev pub gen_text : Family → ℕ → List ℕ
 gen_text f n = line_text (formula_text f n ∷ [])

@@ -1,18 +1,10 @@
 -- What a problem of any logic is decided to be.
 --
 -- A question is a logic, a sense, a limit on the positions of the decision game, and a way to seek the answer. It is asked
--- of a text: the problem is the formula that the text stands for, in this sense. Whether the limit is kept is told by the
--- definition of the game alone. The graphs of a problem differ in the names that they list and in their order, so their
--- games have the same positions, and it doesn't matter which graph is meant. What stays open is said alike for both ways.
--- By the whole game a problem that stays open has no answer; a search may have one all the same, where the closure is
--- small.
+-- of a text: the problem is the formula that the text stands for, in this sense. Which problems stay open, and which may be
+-- answered in this way, is said by `StaysOpen` and `IsClosed` of `ml_decide`.
 --
 --   IsProblem q text p    == p is the problem of the text
---   PassesLimit p n       == the decision game of a graph of p has more than n positions
---   StaysOpen n p c       == p stays undecided for the cause c, where the game may have n positions: a closure with more nodes
---                            than are decided, or else a game past the limit
---   IsClosed w n p        == p may be answered: by the whole game, where it stays open for no cause; by a search, where its
---                            closure has no more nodes than are decided
 --   Satisfied q text out  == out is a document about the problem of the text, with a structure and a state at which it
 --                            holds
 --   Refuted q text out    == out is a document about it, with a refutation that is accepted for it; it holds nowhere
@@ -25,21 +17,17 @@ use Rattle.ml_base.specs.Structure.{Structure}
 use Rattle.ml_base.specs.declared.parse_refusal.ParseRefusal.{ParseRefusal}
 use Rattle.ml_kripke.specs.ModelText.{IsWritten}
 use Rattle.ml_kripke.specs.Ordered.{IsOrdered}
-use Rattle.ml_front.specs.Graphs.{HasLargeClosure, IsGraphOf, OfGraph}
+use Rattle.ml_front.specs.Graphs.{IsGraphOf}
 use Rattle.ml_front.specs.Logics.{logic_of, IsParsedAs, IsRefusedBy}
 use Rattle.ml_front.specs.Problems.{HoldsAt, IsAdmitted, IsSatisfiable}
 use Rattle.ml_front.specs.declared.problem.Problem.{Problem}
-use Rattle.ml_front.specs.declared.problem.TheConstants.{MOST_NODES}
 use Rattle.ml_graph.specs.Graph.{Graph}
-use Rattle.ml_product.specs.DecisionGame.{HasMoreThan}
 use Rattle.ml_refutation.specs.Acceptance.{IsAccepted}
 use Rattle.ml_refutation.specs.Refutation.{Refutation, IsRefutation}
 use Rattle.ml_refute_check.specs.Documents.{IsDocumentOf}
-use Rattle.ml_driver.specs.declared.cause.Cause.{Cause}
-use Rattle.ml_driver.specs.declared.cause.Cause.TheVariants.{Positions, Closure}
+use Rattle.ml_decide.specs.Limits.{IsClosed, StaysOpen}
+use Rattle.ml_decide.specs.declared.cause.Cause.{Cause}
 use Rattle.ml_driver.specs.declared.question.Question.{Question}
-use Rattle.ml_driver.specs.declared.question.Way.{Way}
-use Rattle.ml_driver.specs.declared.question.Way.TheVariants.{WholeGame, Search}
 use Rattle.ml_driver.specs.declared.status.Status.{Status}
 use Rattle.ml_driver.specs.declared.status.Status.TheVariants.{Yes, No, Undecided, Text}
 use Rattle.ml_driver.specs.Documents.{satisfiable_document, undecided_document}
@@ -49,19 +37,6 @@ pub record IsProblem (q : Question) (text : List ℕ) (p : Problem) : Type 0 whe
   pub of_logic : logic_of p.formula ≡ q.logic
   pub in_sense : p.negated ≡ q.negated
   pub is_parsed : IsParsedAs text p.formula
-
--- ---- limits
-
-abbrev pub PassesLimit : Problem → ℕ → Type 0
-PassesLimit p n = OfGraph p (λ g. HasMoreThan g n)
-
-abbrev pub StaysOpen : ℕ → Problem → Cause → Type 0
-StaysOpen limit p (Positions n) = (n ≡ limit) × (¬ (HasLargeClosure p MOST_NODES)) × PassesLimit p limit
-StaysOpen limit p Closure = HasLargeClosure p MOST_NODES
-
-abbrev pub IsClosed : Way → ℕ → Problem → Type 0
-IsClosed WholeGame limit p = (c : Cause) → ¬ (StaysOpen limit p c)
-IsClosed Search limit p = ¬ (HasLargeClosure p MOST_NODES)
 
 -- ---- answers
 

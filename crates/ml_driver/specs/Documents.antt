@@ -12,8 +12,8 @@ use Rattle.ml_front.specs.Head.{head_lines}
 use Rattle.ml_front.specs.declared.answer.Answer.TheVariants.{Satisfiable, Undecided}
 use Rattle.ml_front.specs.declared.problem.Problem.{Problem}
 use Rattle.ml_front.specs.declared.problem.TheConstants.{MOST_NODES}
-use Rattle.ml_driver.specs.declared.cause.Cause.{Cause}
-use Rattle.ml_driver.specs.declared.cause.Cause.TheVariants.{Positions, Closure}
+use Rattle.ml_decide.specs.declared.cause.Cause.{Cause}
+use Rattle.ml_decide.specs.declared.cause.Cause.TheVariants.{Positions, Closure}
 
 abbrev pub satisfiable_document : Problem → Structure → ℕ → List ℕ
 satisfiable_document p m s = text_of (head_lines Two Satisfiable p) ++ model_text m s

@@ -22,35 +22,27 @@
 --   OneAutomatonDue  == one status and one output are due at most for `determinise`
 --   OneAutomatonWritten == one automaton is written of a text at most, whatever the limit
 --   WrittenAcceptsTheSame == it accepts the words of valuations that the text's automaton accepts
---   SomeGame         == the decision game of a graph has an arena with at most so many positions, or has more
 --   IsExact q p s    == the status s says of the problem p what is true of it
 --   AnswersAreExact  == each answer to a question is exact
 --   DecidedAreChecked, RefutedAreAccepted == the documents that answer a question are right, of whatever length
 --   DecideIsChecked, ValidIsChecked, FindIsChecked, ProveIsChecked == where they are no longer than documents that are read,
 --                       `check-model` answers `holds` of one with a structure, and `check-refutation` answers `accepted` of
 --                       one with a refutation
---   GraphsFit        == the trace automaton of the graph of a problem within the limits has at most 2^30 states
 use Rattle.std.specs.Prelude.{ℕ, ◌≡◌, ◌≢◌, ◌<◌, ◌≤◌, ◌^◌, ◌⊎◌, ◌↔◌, Bool, true, false, List, [], ◌∷◌, length, Option, Some, codes, if◌then◌else◌}
 use Rattle.ml_buchi.specs.Deterministic.{IsValuationWord}
 use Rattle.ml_buchi.specs.Valuations.{Leads}
 use Rattle.ml_determinise.specs.Numbering.{automaton_of}
 use Rattle.ml_gen.specs.FamilyRanges.{is_in_range}
 use Rattle.ml_gen.specs.declared.family.Family.{Family}
-use Rattle.ml_graph.specs.Graph.{Graph, IsGraph}
-use Rattle.ml_product.specs.Arena.{Arena, IsArenaOf}
-use Rattle.ml_product.specs.DecisionGame.{HasMoreThan}
 use Rattle.ml_driver.specs.declared.command.Command.TheVariants.{Decide, Valid, Find, Prove, CheckModel, CheckRefutation, Quotient, SolveGame, Determinise, Gen, Bench}
 use Rattle.ml_driver.specs.declared.command.Command.{Command}
 use Rattle.ml_bisim.specs.Quotient.{class_of}
 use Rattle.ml_model_check.specs.Checked.{IsCheckedAs, IsDocument}
 use Rattle.ml_model_check.specs.declared.checked.Checked.TheVariants.{Holds}
-use Rattle.ml_front.specs.Graphs.{HasLargeClosure, IsGraphOf}
-use Rattle.ml_front.specs.Logics.{IsWellFormed, logic_of}
+use Rattle.ml_front.specs.Logics.{logic_of}
 use Rattle.ml_front.specs.Problems.{HoldsAt, IsAdmitted, IsSatisfiable}
 use Rattle.ml_front.specs.declared.logic.Logic.{Logic}
 use Rattle.ml_front.specs.declared.problem.Problem.{Problem}
-use Rattle.ml_front.specs.declared.problem.TheConstants.{MOST_NODES}
-use Rattle.ml_product.specs.Position.{automaton_states}
 use Rattle.ml_refute_check.specs.Laws.{IsAcceptedDocument}
 use Rattle.ml_parity.specs.Game.{size}
 use Rattle.ml_parity.specs.Solution.{winner_at}
@@ -59,9 +51,10 @@ use Rattle.ml_driver.specs.Automata.{IsWrittenFor, StandsForOne}
 use Rattle.ml_driver.specs.Games.{IsSolved}
 use Rattle.ml_driver.specs.declared.engine.Engine.{Engine}
 use Rattle.ml_driver.specs.declared.engine.Engine.TheVariants.{Measures}
-use Rattle.ml_driver.specs.declared.cause.Cause.{Cause}
+use Rattle.ml_decide.specs.Limits.{IsClosed, StaysOpen}
+use Rattle.ml_decide.specs.declared.cause.Cause.{Cause}
 use Rattle.ml_driver.specs.declared.status.Status.TheVariants.{Yes, No, Undecided}
-use Rattle.ml_driver.specs.Decision.{IsAnswered, IsClosed, IsProblem, Refuted, Satisfied, StaysOpen}
+use Rattle.ml_driver.specs.Decision.{IsAnswered, IsProblem, Refuted, Satisfied}
 use Rattle.ml_driver.specs.declared.question.Question.{Question}
 use Rattle.ml_driver.specs.declared.status.Status.{Status}
 use Rattle.ml_driver.specs.Quotients.{IsReduced}
@@ -163,13 +156,6 @@ FindIsChecked = IsCheckedBy Find Yes No
 abbrev pub ProveIsChecked : Type 0
 ProveIsChecked = IsCheckedBy Prove No Yes
 
-abbrev pub GraphsFit : Type 0
-GraphsFit = (g : Graph) (p : Problem)
-    → IsWellFormed p.formula
-    → ¬ (HasLargeClosure p MOST_NODES)
-    → IsGraphOf g p
-    → automaton_states g ≤ 2 ^ 30
-
 -- whichever engines solve the game of a text, it is one game with the same winners
 abbrev pub SameWinners : Type 0
 SameWinners = (d e : Engine) (text out more : List ℕ) (x : IsSolved d text out) (y : IsSolved e text more)
@@ -226,7 +212,3 @@ WrittenAcceptsTheSame = (n : ℕ) (text out : List ℕ) (x : StandsForOne text (
     → IsValuationWord x.automaton w
     → IsAcceptedFrom (Leads x.automaton) x.automaton.start w
     ↔ IsDetAcceptedFrom (automaton_of x.is_so.deterministic.moves) 0 w
-
-abbrev pub SomeGame : Type 0
-SomeGame =
-    (g : Graph) (n : ℕ) → IsGraph g → ((a : Arena) × (IsArenaOf g a × (length a.positions ≤ n))) ⊎ HasMoreThan g n

@@ -38,8 +38,8 @@ use Rattle.ml_driver.specs.declared.command.Command.{Command}
 use Rattle.ml_driver.specs.declared.command.Command.TheVariants.{Decide, Valid, Find, Prove, CheckModel, CheckRefutation, Migrate, Quotient, SolveGame, Determinise, Realize, Gen, Bench}
 use Rattle.ml_driver.specs.declared.command.TheConstants.{LONGEST_DOCUMENT}
 use Rattle.ml_driver.specs.declared.question.Question.{Question}
-use Rattle.ml_driver.specs.declared.question.Way.{Way}
-use Rattle.ml_driver.specs.declared.question.Way.TheVariants.{WholeGame, Search}
+use Rattle.ml_decide.specs.declared.way.Way.{Way}
+use Rattle.ml_decide.specs.declared.way.Way.TheVariants.{WholeGame, Search}
 use Rattle.ml_driver.specs.declared.status.Status.{Status}
 use Rattle.ml_driver.specs.declared.status.Status.TheVariants.{Yes, Undecided, Text, ReadFault, WriteFault, NoMemory}
 use Rattle.ml_driver.specs.Automata.{IsRefusedAutomaton, IsWrittenFor, PassesLimit, StandsForOne}

@@ -1,29 +1,25 @@
 // The formulas of families: their texts, and how large they, their graphs and their decision games are.
 //
-// `generate` writes the text of a family's formula. `measure` reads it back as a problem, and takes that through the same
-// stages as a decision (`stages`); of the last one only counts and the winner are kept (`Finding`), and written as five lines.
+// `generate` writes the text of a family's formula. `measure` reads it back as a problem, which `ml_decide` measures; what is
+// found is written as five lines.
 ghost use Rattle.std.specs.Prelude.{◌≡◌, true, [], ◌∷◌, ◌++◌, codes, IfOk, OnOk};
 ghost use Rattle.ml_front.specs.Logics.{IsWellFormed, some_logic};
 ghost use Rattle.ml_gen.specs.Families.{family_word, formula_text, logic_name};
 ghost use Rattle.ml_gen.specs.FamilyRanges.{is_in_range};
 ghost use Rattle.ml_lines.specs.Lines.{line_text, number};
 ghost use Rattle.ml_driver.specs.Bench as measures;
-ghost use Rattle.ml_driver.specs.Bench.{IsFinding, IsMeant, bench_text, occurrences_of};
+ghost use Rattle.ml_driver.specs.Bench.{IsMeant, bench_text, occurrences_of};
 ghost use Rattle.ml_driver.specs.Run.{IsAnswer};
-ghost use Rattle.ml_driver.specs.declared.command.TheConstants.{GREATEST_LIMIT};
-ghost use Rattle.ml_driver.specs.private.Findings.{finding_at, nodes_line, positions_line};
-ghost use Rattle.ml_driver.specs.private.Stages.{IsStageOf};
+ghost use Rattle.ml_driver.specs.private.Findings.{nodes_line, positions_line};
 
 use crate::command::GREATEST_LIMIT;
-use crate::finding::Finding;
 use crate::output::Output;
-use crate::stages::{Stage, stage_of};
 use crate::{Command, Status};
 use ml_base::{NoMemory, ParseRefusal};
+use ml_decide::Finding;
 use ml_front::{Answer, AnyFormula, Logic, Problem, read};
 use ml_gen::{Family, GenRefusal, formula};
 use ml_lines::{end_line, write_next_number, write_next_word, write_word};
-use ml_parity::Player;
 use std::alloc::Global;
 
 // the answer to `gen`
@@ -54,7 +50,7 @@ fn measured(alloc: Global, family: Family, n: u32, problem: &Problem) -> Result<
     requires well_formed { IsWellFormed problem.now.formula }
     ensures { IfOk result (λ output. IsAnswer (Command.Bench family n) [] output.status output.bytes.items) }
 {
-    let finding = found(alloc, problem)?;
+    let finding = ml_decide::measure(alloc, problem, GREATEST_LIMIT)?;
     let status = status_of(finding.answer());
     let count = occurrences(&problem.formula);
     Ok(Output {
@@ -118,33 +114,6 @@ fn occurrences(formula: &AnyFormula) -> u32
         AnyFormula::Pdl(formula) => ml_pdl::occurrences(formula),
         AnyFormula::Ctl(formula) => ml_ctl::occurrences(formula),
         AnyFormula::Ltl(formula) | AnyFormula::Word(formula) => ml_ltl::occurrences(formula),
-    }
-}
-
-// ---- what is found
-
-fn found(alloc: Global, problem: &Problem) -> Result<Finding, NoMemory>
-    requires { IsWellFormed problem.now.formula }
-    ensures { IfOk result (IsFinding GREATEST_LIMIT problem.now) }
-{
-    let stage = stage_of(alloc, problem, GREATEST_LIMIT)?;
-    Ok(finding_at(problem, &stage))
-}
-
-fn finding_at(_problem: &Problem, stage: &Stage) -> Finding
-    requires { IsStageOf _problem.now GREATEST_LIMIT stage.now }
-    ensures { result ≡ finding_at stage.now }
-{
-    match stage {
-        Stage::Solved(game) => Finding::Decided {
-            nodes: game.graph.size(),
-            positions: game.arena.size(),
-            satisfiable: matches!(game.winner(), Player::Even),
-        },
-        Stage::GamePassed(graph) => Finding::GamePassed {
-            nodes: graph.size(),
-        },
-        Stage::ClosurePassed => Finding::ClosurePassed,
     }
 }
 

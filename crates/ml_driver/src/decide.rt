@@ -4,11 +4,11 @@ ghost use Rattle.ml_driver.specs.Decision.{IsAnswered, IsProblem};
 ghost use Rattle.ml_driver.specs.private.Decisions.{status_in};
 
 use crate::Status;
-use crate::deciding::{Decision, decision_of};
 use crate::documents::document;
 use crate::output::{Output, refusal_line};
 use crate::question::Question;
 use ml_base::{NoMemory, ParseRefusal};
+use ml_decide::Decision;
 use ml_front::{Problem, negated, read};
 use std::alloc::Global;
 
@@ -45,7 +45,7 @@ fn answer(
     requires some { 1 ≤ question.limit }
     ensures { IfOk result (λ output. IsAnswered question _text.now output.status output.bytes.items) }
 {
-    let decision = decision_of(alloc, problem, question.way, question.limit)?;
+    let decision = ml_decide::decide(alloc, problem, question.way, question.limit)?;
     Ok(Output {
         status: status_in(question.negated, &decision),
         bytes: document(alloc, problem, &decision)?,

@@ -1,15 +1,15 @@
 // The documents that are written.
 ghost use Rattle.std.specs.Prelude.{◌≡◌, ◌++◌, IfOk, OnOk};
-ghost use Rattle.ml_kripke.specs.Ordered.{HasNames};
+ghost use Rattle.ml_kripke.specs.ModelText.{IsWritten};
+ghost use Rattle.ml_kripke.specs.Ordered.{IsOrdered};
 ghost use Rattle.ml_lines.specs.Lines.{line_text};
 ghost use Rattle.ml_refutation.specs.Views.{of_parts};
 ghost use Rattle.ml_refute_check.specs.WrittenDocument.{document_of};
 ghost use Rattle.ml_driver.specs.Documents as documents;
 ghost use Rattle.ml_driver.specs.private.Decisions.{IsDocumentFor};
 
-use crate::cause::Cause;
-use crate::deciding::Decision;
 use ml_base::{NoMemory, Version};
+use ml_decide::{Cause, Decision};
 use ml_front::{Answer, MOST_NODES, Problem, append_head};
 use ml_kripke::{Model, append_model};
 use ml_lines::{end_line, write_next_number, write_next_word, write_word};
@@ -40,8 +40,11 @@ pub(crate) fn satisfiable(
 ) -> Result<Vec<u8>, NoMemory>
     ensures text { IfOk result (λ output.
         output.items ≡ documents.satisfiable_document problem.now model.now.structure model.now.start) }
-    ensures named { OnOk result (HasNames model.now.structure) }
+    ensures written { OnOk result (IsWritten model.now.structure model.now.start) }
+    ensures ordered { OnOk result (IsOrdered model.now.structure) }
 {
+    // whoever asks a structure for its states learns what its type keeps
+    let _states = model.structure.states();
     let mut output = Vec::new(alloc);
     append_head(&mut output, problem, Answer::Satisfiable)?;
     append_model(&mut output, model)?;

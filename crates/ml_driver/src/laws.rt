@@ -3,9 +3,9 @@ ghost use Rattle.std.specs.Prelude.{◌≡◌, ◌+◌, ◌^◌};
 ghost use Rattle.ml_realize.specs.TaskGame.{most_nodes};
 ghost use Rattle.ml_task.specs.declared.limits.TheConstants.{LONGEST_TASK_TEXT};
 ghost use Rattle.ml_driver.specs.declared.command.TheConstants.{DEFAULT_LIMIT, GREATEST_LIMIT, LONGEST_DOCUMENT, LONGEST_NUMBER, LONGEST_TEXT};
-ghost use Rattle.ml_driver.specs.Laws.{AnswersAreExact, DecideIsChecked, DecidedAreChecked, FindIsChecked, FindsAsDecided, GraphsFit, OneAutomatonDue};
+ghost use Rattle.ml_driver.specs.Laws.{AnswersAreExact, DecideIsChecked, DecidedAreChecked, FindIsChecked, FindsAsDecided, OneAutomatonDue};
 ghost use Rattle.ml_driver.specs.Laws.{OneAutomatonWritten, OneDue, OneMeasure, OneQuotientDue, OneSolutionDue, OneUnlessOpen, ProveIsChecked, ProvesAsDecided};
-ghost use Rattle.ml_driver.specs.Laws.{QuotientsAreCheckedAlike, QuotientsAreRead, RefutedAreAccepted, SameWinners, SomeDue, SomeDueForWords, SomeGame};
+ghost use Rattle.ml_driver.specs.Laws.{QuotientsAreCheckedAlike, QuotientsAreRead, RefutedAreAccepted, SameWinners, SomeDue, SomeDueForWords};
 ghost use Rattle.ml_driver.specs.Laws.{ValidIsChecked, WrittenAcceptsTheSame, WrittenHoldsTheSame};
 
 /// For each command but `find` and `prove`, for words that are none, and for each input exactly one status is due: some
@@ -58,18 +58,6 @@ pub fn limits()
     ensures usual { DEFAULT_LIMIT ≡ 50000 }
     ensures greatest { GREATEST_LIMIT ≡ 200000 }
     ensures digits { LONGEST_NUMBER ≡ 6 }
-{}
-
-/// The graph of each formula within the limits is small enough to be explored, whose closure isn't too large where its
-/// logic has one: `fits` of `ml_product` is true of it.
-pub fn graphs_fit()
-    ensures { GraphsFit }
-{}
-
-/// The decision game of a graph, of whatever size, has at most so many positions, and then there is an arena of it; or it
-/// has more.
-pub fn some_game()
-    ensures { SomeGame }
 {}
 
 /// Whichever engine solves the game of a text: the text stands for one game, and the winners are the same.

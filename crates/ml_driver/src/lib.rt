@@ -3,9 +3,9 @@
 // `run` reads the words, then the source to its end, computes the answer as a value, makes its whole output as bytes,
 // and only then writes. Its contract (`specs/Run.antt`) says which status and output are due, and what each status
 // leaves behind. What the answers of `decide` and `valid` mean, in any of the five logics, stands in
-// `specs/Decision.antt`, what `quotient` answers in `specs/Quotients.antt`, what `solve-game` answers in
-// `specs/Games.antt`, what `determinise` answers in `specs/Automata.antt`, and what `realize` answers in
-// `specs/Tasks.antt`. `Status::code` is the number with which the program ends. `laws` says that some status is due for
+// `specs/Decision.antt` (they are decisions of `ml_decide`, which knows nothing of texts), what `quotient` answers in
+// `specs/Quotients.antt`, what `solve-game` answers in `specs/Games.antt`, what `determinise` answers in
+// `specs/Automata.antt`, and what `realize` answers in `specs/Tasks.antt`. `Status::code` is the number with which the program ends. `laws` says that some status is due for
 // all words and each input, and one alone but for `find` and `prove`; that answers are exact; and that what is written is
 // found to be right.
 //
@@ -13,15 +13,12 @@
 #![tactic(auto)]
 
 mod bench;
-mod cause;
 mod check;
 mod command;
 mod decide;
-mod deciding;
 mod determinising;
 mod documents;
 mod engine;
-mod finding;
 mod input;
 pub mod laws;
 mod output;
@@ -29,14 +26,11 @@ mod question;
 mod quotienting;
 mod realizing;
 mod solving;
-mod stages;
 mod status;
 mod top;
 
-pub use cause::Cause;
 pub use command::{Command, LONGEST_DOCUMENT, LONGEST_TEXT, command_of};
 pub use engine::Engine;
-pub use finding::Finding;
-pub use question::{Question, Way};
+pub use question::Question;
 pub use status::Status;
 pub use top::run;

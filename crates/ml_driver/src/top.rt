@@ -12,12 +12,13 @@ use crate::decide::decide;
 use crate::determinising::determinise_text;
 use crate::input::input_of;
 use crate::output::Output;
-use crate::question::{Question, Way};
+use crate::question::Question;
 use crate::quotienting::quotient_document;
 use crate::realizing::realize_text;
 use crate::solving::solve_game;
 use crate::{Command, Status, command_of};
 use ml_base::{NoMemory, ReadRefusal, Sink, Source, write_all};
+use ml_decide::Way;
 use ml_front::Logic;
 use std::alloc::Global;
 

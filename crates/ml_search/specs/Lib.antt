@@ -1,4 +1,6 @@
 -- what is found
 pub mod Found
+-- the whole decision game, solved
+pub mod WholeGame
 -- what only private contracts cite
 pub mod private

@@ -3,6 +3,8 @@
 // The calls to know:
 // - `search` answers with a model or a refutation, and is undecided only where the decision game of the graph passes its
 //   limit: what the search alone doesn't find, the whole game decides.
+// - `by_whole_game` is the other half alone: it answers by the decision game, and is undecided exactly where that passes the
+//   limit. `solved_game` gives the game itself with its solution, and `shown` what it shows.
 // - `seek` is the search alone, for tests and measurements.
 //
 // A search (`ml_search_engine`) makes candidates, of which nothing is proved. A check lets them out: a structure by the
@@ -24,3 +26,4 @@ mod whole_game;
 pub use found::Found;
 pub use refusals::SearchRefusal;
 pub use searching::{search, seek};
+pub use whole_game::{SolvedGame, by_whole_game, shown, solved_game};

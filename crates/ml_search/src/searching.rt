@@ -12,7 +12,7 @@ use crate::checking_models::is_model;
 use crate::checking_refutations::accepted;
 use crate::found::Found;
 use crate::refusals::SearchRefusal;
-use crate::whole_game::decided;
+use crate::whole_game::by_whole_game;
 use ml_base::NoMemory;
 use ml_graph::ModalGraph;
 use ml_search_engine::{Candidate, candidate};
@@ -84,6 +84,6 @@ pub fn search(alloc: Global, graph: &ModalGraph, limit: u32) -> Result<Found, Se
 {
     match seek(alloc, graph, limit)? {
         Some(found) => Ok(found),
-        None => decided(alloc, graph, limit),
+        None => by_whole_game(alloc, graph, limit),
     }
 }

@@ -3,11 +3,12 @@ use Rattle.std.proofs.Common.{◌≡◌, ◌++◌, [], ◌∷◌, codes, refl, a
 use Rattle.ml_front.specs.Head.{answer_line, answer_word}
 use Rattle.ml_lines.specs.Lines.{Line, line_text, number, text_of}
 use Rattle.ml_lines.proofs.Lines.{text_of-last, text_of-more}
-use Rattle.ml_driver.specs.Bench.{answer_of, found_lines}
+use Rattle.ml_decide.specs.Measures.{answer_of}
+use Rattle.ml_driver.specs.Bench.{found_lines}
 use Rattle.ml_driver.specs.private.Findings.{nodes_line, positions_line}
 use Rattle.ml_gen.specs.Families.{family_word}
-use Rattle.ml_driver.specs.declared.finding.Finding.{Finding}
-use Rattle.ml_driver.specs.declared.finding.Finding.TheVariants.{Decided, GamePassed, ClosurePassed}
+use Rattle.ml_decide.specs.declared.finding.Finding.{Finding}
+use Rattle.ml_decide.specs.declared.finding.Finding.TheVariants.{Decided, GamePassed, ClosurePassed}
 use Rattle.ml_driver.proofs.bench.report.Goals as goal
 
 two_lines : (x : Finding) → nodes_line x ∷ positions_line x ∷ [] ≡ found_lines x

@@ -5,8 +5,8 @@ use Rattle.ml_driver.specs.Decision.{IsAnswered}
 use Rattle.ml_driver.proofs.decide.answer.Goals as goal
 use Rattle.ml_front.proofs.Logics.{parsed_well}
 
-pub decision_of-requires-clause-well_formed : goal.decision_of-requires-clause-well_formed
-decision_of-requires-clause-well_formed c =
+pub decide-requires-clause-well_formed : goal.decide-requires-clause-well_formed
+decide-requires-clause-well_formed c =
     parsed_well c.args._text.now c.args.problem.now.formula c.requires.problem.is_parsed
 
 pub returns : goal.returns

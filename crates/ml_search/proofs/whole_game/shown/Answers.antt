@@ -1,12 +1,12 @@
 use Rattle.ml_search.proofs.FewEdges.{few_edges}
 use Rattle.ml_search.proofs.whole_game.shown.Goals as goal
 
-pub returns-in_ok-model-in-Some-Even-clause-found : goal.returns-in_ok-model-in-Some-Even-clause-found
-returns-in_ok-model-in-Some-Even-clause-found c =
-    let model = c.in_ok-model-in-Some-Even.model in
+pub returns-in_ok-model-in-Even : goal.returns-in_ok-model-in-Even
+returns-in_ok-model-in-Even c =
+    let model = c.in_ok-model-in-Even.model in
     record {
-      extracted = c.in_ok-model-in-Some-Even.ensures.holds;
+      extracted = c.in_ok-model-in-Even.ensures.holds;
       few_edges =
-          few_edges c.args.graph.now c.args.arena.now c.args.solution.now model.structure model.start
-          c.in_ok-model-in-Some-Even.ensures.is;
+          few_edges c.args.graph.now c.args.game.now.arena c.args.game.now.solution model.structure model.start
+          c.in_ok-model-in-Even.ensures.is;
     }
