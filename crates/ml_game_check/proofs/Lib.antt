@@ -2,3 +2,5 @@
 pub mod Won
 -- the claims of a solution are right
 pub mod OfSolutions
+-- the first three rules at one vertex
+pub mod FirstRules

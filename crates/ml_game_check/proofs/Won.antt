@@ -21,7 +21,8 @@ use Rattle.ml_parity.specs.Player.{opponent, side}
 use Rattle.ml_parity.specs.Winner.{Follows, IsPlay, IsStrategyOf, WinsFrom, winner}
 use Rattle.ml_parity.proofs.Opponents.{cases_player, is_or_not, same_player, same_player-true, same_player-false}
 use Rattle.ml_game_check.specs.Laws.{Makes, RightAreWon}
-use Rattle.ml_game_check.specs.RightClaims.{AreRight, Claim, Claims, IsClaimed, IsMoved, IsWay, claim, claim_at}
+use Rattle.ml_game_check.specs.RightClaims.{AreRight, Claims, IsClaimed, IsMoved, IsWay, claim, claim_at}
+use Rattle.ml_game_check.specs.declared.claims.Claim.{Claim}
 
 -- the player that a claim names
 winner_or : Player → Option Claim → Player
