@@ -1,15 +1,17 @@
 -- The first three rules at one vertex.
 --
 --   claimed_for, winner_of == a vertex with a claim is claimed for the player whom it names, and for no other
+--   is_broken              == the first vertex whose claim breaks one of the first three rules is the one to name
+--   all_kept, four_broken  == where none does, the fourth rule decides
 --   own, other             == what a claim for the owner breaks, and what one for the opponent does
-use Rattle.std.proofs.Common.{ℕ, ◌≡◌, ◌<◌, ◌≤◌, ◌⊎◌, Option, Some, None, length, get_or, Bool, inl, inr, refl, sym, ap, ◌∙◌, subst, arith}
+use Rattle.std.proofs.Common.{ℕ, ◌≡◌, ◌<◌, ◌≤◌, ◌⊎◌, Option, Some, None, length, Bool, inl, inr, sym, ap, ◌∙◌, subst, arith}
 use Rattle.std.specs.Bool.{IsTrue}
 use Rattle.std.specs.Prelude.{◌↔◌}
 use Rattle.std.proofs.lemmas.Bool.{cases_lt}
 use Rattle.std.proofs.lemmas.List.{get_or_past}
 use Rattle.ml_parity.specs.declared.players.Player.{Player}
-use Rattle.ml_parity.specs.Game.{ParityGame, HasMove, owner_of, size}
-use Rattle.ml_game_check.specs.RightClaims.{Claims, BreaksOne, BreaksTwo, BreaksThree, IsClaimed, IsMoved, IsWay, claim, claim_at}
+use Rattle.ml_parity.specs.Game.{ParityGame, HasMove, owner_of}
+use Rattle.ml_game_check.specs.RightClaims.{AreRight, Claims, BreaksFour, BreaksOne, BreaksTwo, BreaksThree, IsClaimed, IsMoved, claim, claim_at}
 use Rattle.ml_game_check.specs.Verdicts.{Breaks, BreaksEarly, IsBroken, number_of}
 use Rattle.ml_game_check.specs.private.Early.{IsFirstRule, KeepsEarly}
 use Rattle.ml_game_check.specs.declared.claims.Claim.{Claim}
@@ -158,3 +160,31 @@ is_broken g cs v r before first = record { breaks = first.breaks; lowest = first
 
     after : (w : ℕ) → BreaksEarly g cs w → v ≤ w
     after w b = by_place w b (cases_lt w v)
+
+-- ---- all four rules
+
+module _ (g : ParityGame) (cs : Claims) (early : KeepsEarly g cs) where
+  pub kept : (v : ℕ) → BreaksEarly g cs v → ⊥
+  kept v b =
+      let c = early_claimed g cs v b in
+      early.kept v (omega (arith, claimed_low cs c.0 v c.1, early.places)) b
+
+  pub all_kept : ((p : Player) (v : ℕ) → BreaksFour g cs p v → ⊥) → AreRight g cs
+  all_kept none = (
+    early.places,
+    λ p v. record {
+      one = λ (b : BreaksOne g cs p v). kept v (inl (p, b));
+      two = λ (b : BreaksTwo g cs p v). kept v (inr (inl (p, b)));
+      three = λ (b : BreaksThree g cs p v). kept v (inr (inr (p, b)));
+      four = none p v;
+    },
+  )
+
+  pub four_broken : (v : ℕ) → ((p : Player) × BreaksFour g cs p v) → IsBroken g cs v rule.NoBadCycle
+  four_broken v b = record { breaks = b; lowest = lowest; first = λ w early_too. absurd (kept w early_too) }
+    where
+      lowest : (r : Rule) → Breaks g cs r v → 4 ≤ number_of r
+      lowest rule.HasMove c = absurd (kept v (inl c))
+      lowest rule.MovesAlong c = absurd (kept v (inr (inl c)))
+      lowest rule.StaysClaimed c = absurd (kept v (inr (inr c)))
+      lowest rule.NoBadCycle c = omega arith

@@ -4,3 +4,7 @@ pub mod Won
 pub mod OfSolutions
 -- the first three rules at one vertex
 pub mod FirstRules
+-- walks that go round
+pub mod Rounds
+-- the game of ways
+pub mod WayGames

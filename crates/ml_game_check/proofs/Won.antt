@@ -48,7 +48,7 @@ claimed_or_not cs p v = by_claim (claim_at cs v) refl
     by_claim None is = inr (λ (h : IsClaimed cs p v). no_claim (claim p h.0) (sym is ∙ h.1))
     by_claim (Some c) is = by_winner c is (is_or_not c.winner p)
 
-has_move_or_not : (g : ParityGame) (v w : ℕ) → Decided (HasMove g v w)
+pub has_move_or_not : (g : ParityGame) (v w : ℕ) → Decided (HasMove g v w)
 has_move_or_not g v w = of (decided_member decided_number w (moves_of g v))
   where
     of : Decided (IsMember w (moves_of g v)) → Decided (HasMove g v w)

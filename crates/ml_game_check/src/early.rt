@@ -42,12 +42,7 @@ fn unclaimed(claims: &[Option<Claim>], player: Player, vertices: &[u64]) -> Opti
 }
 
 /// The first rule that the claim of this player breaks, by which the player wins a vertex of the player's own.
-fn own_break(
-    game: &Game,
-    claims: &[Option<Claim>],
-    vertex: usize,
-    claim: Claim,
-) -> Option<Rule>
+fn own_break(game: &Game, claims: &[Option<Claim>], vertex: usize, claim: Claim) -> Option<Rule>
     requires vertex { vertex < size game.now }
     requires claimed { claim_at claims.now vertex ≡ Some claim }
     requires own { owner_of game.now vertex ≡ claim.winner }
@@ -67,12 +62,7 @@ fn own_break(
 }
 
 /// The first rule that a claim breaks, by which a vertex's owner doesn't win it.
-fn other_break(
-    game: &Game,
-    claims: &[Option<Claim>],
-    vertex: usize,
-    claim: Claim,
-) -> Option<Rule>
+fn other_break(game: &Game, claims: &[Option<Claim>], vertex: usize, claim: Claim) -> Option<Rule>
     requires vertex { vertex < size game.now }
     requires claimed { claim_at claims.now vertex ≡ Some claim }
     requires other { owner_of game.now vertex ≡ claim.winner → ⊥ }

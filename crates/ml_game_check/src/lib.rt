@@ -9,10 +9,14 @@
 // Below stands `ml_parity`, for games, plays and winners, and for the solver.
 #![tactic(auto)]
 
+mod checking;
 mod claims;
+mod cycles;
 mod early;
 pub mod laws;
 mod verdict;
+mod ways;
 
+pub use checking::check;
 pub use claims::Claim;
 pub use verdict::{Rule, Verdict};

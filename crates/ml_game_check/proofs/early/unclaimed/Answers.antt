@@ -1,5 +1,5 @@
 -- Each vertex of the list stands before its end.
-use Rattle.std.proofs.Common.{arith, below_more, get_or, subst}
+use Rattle.std.proofs.Common.{arith, below_more, subst}
 use Rattle.std.proofs.lemmas.List.{get_or_default}
 use Rattle.ml_game_check.specs.RightClaims.{IsClaimed}
 use Rattle.ml_game_check.proofs.early.unclaimed.Goals as goal
