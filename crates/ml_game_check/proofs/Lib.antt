@@ -2,3 +2,9 @@
 pub mod Won
 -- the claims of a solution are right
 pub mod OfSolutions
+-- the first three rules at one vertex
+pub mod FirstRules
+-- walks that go round
+pub mod Rounds
+-- the game of ways
+pub mod WayGames

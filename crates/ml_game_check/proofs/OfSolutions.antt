@@ -18,7 +18,8 @@ use Rattle.ml_parity.proofs.AlongPlays.{kept_by_move}
 use Rattle.ml_parity.proofs.Opponents.{cases_player, no_own_opponent}
 use Rattle.ml_parity.proofs.Winners.{law}
 use Rattle.ml_game_check.specs.Laws.{SolutionsAreRight, claim_of, claims_of, move_of}
-use Rattle.ml_game_check.specs.RightClaims.{BreaksOne, BreaksTwo, BreaksThree, BreaksFour, Claim, IsClaimed, IsWay, KeepsAll, claim, claim_at}
+use Rattle.ml_game_check.specs.RightClaims.{BreaksOne, BreaksTwo, BreaksThree, BreaksFour, IsClaimed, IsWay, KeepsAll, claim, claim_at}
+use Rattle.ml_game_check.specs.declared.claims.Claim.{Claim}
 use Rattle.ml_game_check.proofs.Won.{no_claim, same_winner}
 
 -- a move stands where the owner is the winner
@@ -26,14 +27,14 @@ stands : (p : Player) (w : ℕ) → move_of p p w ≡ Some w
 stands Even w = refl
 stands Odd w = refl
 
-no_number : (w : ℕ) → None ≡ Some w → ⊥
+pub no_number : (w : ℕ) → None ≡ Some w → ⊥
 no_number w e = cc
 
 move_or : Option ℕ → Option Claim → Option ℕ
 move_or o (Some c) = c.move_to
 move_or o None = o
 
-same_move : (q p : Player) (a b : Option ℕ) → Some (claim q a) ≡ Some (claim p b) → a ≡ b
+pub same_move : (q p : Player) (a b : Option ℕ) → Some (claim q a) ≡ Some (claim p b) → a ≡ b
 unfolding move_or
 same_move q p a b e = ap (move_or a) e
 
@@ -41,7 +42,7 @@ number_or : ℕ → Option ℕ → ℕ
 number_or n (Some w) = w
 number_or n None = n
 
-same_number : (a b : ℕ) → Some a ≡ Some b → a ≡ b
+pub same_number : (a b : ℕ) → Some a ≡ Some b → a ≡ b
 unfolding number_or
 same_number a b e = ap (number_or a) e
 

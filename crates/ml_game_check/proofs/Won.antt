@@ -21,7 +21,8 @@ use Rattle.ml_parity.specs.Player.{opponent, side}
 use Rattle.ml_parity.specs.Winner.{Follows, IsPlay, IsStrategyOf, WinsFrom, winner}
 use Rattle.ml_parity.proofs.Opponents.{cases_player, is_or_not, same_player, same_player-true, same_player-false}
 use Rattle.ml_game_check.specs.Laws.{Makes, RightAreWon}
-use Rattle.ml_game_check.specs.RightClaims.{AreRight, Claim, Claims, IsClaimed, IsMoved, IsWay, claim, claim_at}
+use Rattle.ml_game_check.specs.RightClaims.{AreRight, Claims, IsClaimed, IsMoved, IsWay, claim, claim_at}
+use Rattle.ml_game_check.specs.declared.claims.Claim.{Claim}
 
 -- the player that a claim names
 winner_or : Player → Option Claim → Player
@@ -47,7 +48,7 @@ claimed_or_not cs p v = by_claim (claim_at cs v) refl
     by_claim None is = inr (λ (h : IsClaimed cs p v). no_claim (claim p h.0) (sym is ∙ h.1))
     by_claim (Some c) is = by_winner c is (is_or_not c.winner p)
 
-has_move_or_not : (g : ParityGame) (v w : ℕ) → Decided (HasMove g v w)
+pub has_move_or_not : (g : ParityGame) (v w : ℕ) → Decided (HasMove g v w)
 has_move_or_not g v w = of (decided_member decided_number w (moves_of g v))
   where
     of : Decided (IsMember w (moves_of g v)) → Decided (HasMove g v w)

@@ -11,7 +11,8 @@ use Rattle.ml_parity.specs.declared.players.Player.TheVariants.{Even, Odd}
 use Rattle.ml_parity.specs.Game.{ParityGame, IsGame, owner_of, size}
 use Rattle.ml_parity.specs.Solution.{GameSolution, IsSolution, choice_at, winner_at}
 use Rattle.ml_parity.specs.Winner.{WinsFrom, Wins}
-use Rattle.ml_game_check.specs.RightClaims.{AreRight, Claim, Claims, IsClaimed, IsMoved, claim}
+use Rattle.ml_game_check.specs.RightClaims.{AreRight, Claims, IsClaimed, IsMoved, claim}
+use Rattle.ml_game_check.specs.declared.claims.Claim.{Claim}
 
 abbrev pub Makes : ParityGame → Claims → Player → (ℕ → ℕ) → Type 0
 Makes g cs p s = (v w : ℕ) → owner_of g v ≡ p → IsMoved cs p v w → s v ≡ w

@@ -11,7 +11,6 @@
 --
 -- A way begins at a vertex that is claimed for the player, so all vertices of such a cycle are.
 --
---   Claim                 == who is said to win, and a move or none
 --   claim p to            == the claim that p wins, with this move or none
 --   Claims                == for each vertex a claim or none
 --   IsClaimed cs p v      == the vertex v is claimed for p, with some move or none
@@ -26,10 +25,7 @@ use Rattle.ml_lists.specs.Lasso.{Lasso, IsLassoOf, entry, lowest_on_loop}
 use Rattle.ml_parity.specs.declared.players.Player.{Player}
 use Rattle.ml_parity.specs.Game.{ParityGame, HasMove, owner_of, priority_of, size}
 use Rattle.ml_parity.specs.Player.{opponent, side}
-
-pub record Claim : Type 0 where
-  pub winner : Player
-  pub move_to : Option ℕ
+use Rattle.ml_game_check.specs.declared.claims.Claim.{Claim}
 
 abbrev pub claim : Player → Option ℕ → Claim
 claim p to = record { winner = p; move_to = to }

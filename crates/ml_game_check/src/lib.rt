@@ -1,11 +1,22 @@
 // Solutions of parity games, checked.
 //
 // A claim says of a vertex who wins it, and maybe by which move. Claims may be right or not, and need not be there for every
-// vertex: `specs/RightClaims.antt` says when they are right, by four rules that can be looked through one by one. `laws` says
-// what right claims are good for: each vertex is won by the player who is claimed to win it, by the moves that are claimed; and
-// of each solution the claims are right.
+// vertex: `specs/RightClaims.antt` says when they are right, by four rules that can be looked through one by one. `check` looks
+// them through, and names a vertex and the rule that its claim breaks (`specs/Verdicts.antt`). `laws` says what right claims
+// are good for: each vertex is won by the player who is claimed to win it, by the moves that are claimed; and of each solution
+// the claims are right.
 //
-// Below stands `ml_parity`, for games, plays and winners.
+// Below stands `ml_parity`, for games, plays and winners, and for the solver.
 #![tactic(auto)]
 
+mod checking;
+mod claims;
+mod cycles;
+mod early;
 pub mod laws;
+mod verdict;
+mod ways;
+
+pub use checking::check;
+pub use claims::Claim;
+pub use verdict::{Rule, Verdict};

@@ -22,7 +22,7 @@ pub record IsWithin (n size : ℕ) : Type 0 where
   pub some : 0 < n
   pub fits : n ≤ size
 
-quoted-within : (rest : List ℕ) → IsWithin (length (spelling (quoted rest))) (suc (length rest))
+pub quoted-within : (rest : List ℕ) → IsWithin (length (spelling (quoted rest))) (suc (length rest))
 quoted-within rest =
     let inner = take_while is_inner rest in
     cond_both (starts_with nat_eq (drop (length inner) rest) (34 ∷ [])) (token.Name inner) (token.Stray 34)

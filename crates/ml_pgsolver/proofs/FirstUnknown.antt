@@ -2,6 +2,7 @@
 --
 --   IsStranger ids b t   == behind these tokens, t is a successor and none of the ids
 --   first_stranger       == where there is one, the first is found
+--   role_there           == a number of some role stands somewhere
 --   stranger_there       == a successor of a row that is none of the ids stands somewhere
 use Rattle.std.proofs.Common.{◌≡◌, ℕ, ◌<◌, ◌≤◌, ◌⊎◌, Bool, true, false, not, ◌&&◌, List, [], ◌∷◌, ◌++◌, length, Some, None, refl, sym, ◌∙◌, ap, subst, arith, inl, inr, nat_le, length-append}
 use Rattle.std.specs.List.{flat_map}
@@ -109,7 +110,7 @@ fails_is ids b Comma small fails (m, role, none) = cc
 fails_is ids b Semicolon small fails (m, role, none) = cc
 fails_is ids b (Stray x) small fails (m, role, none) = cc
 
-place_same : (n : ℕ) (t : Token) → sign_place n (sign_of t) ≡ next_place n t
+pub place_same : (n : ℕ) (t : Token) → sign_place n (sign_of t) ≡ next_place n t
 place_same n (Number digits) = refl
 place_same n (Name inner) = refl
 place_same n Parity = refl
@@ -222,14 +223,14 @@ first_stranger ids end all small s =
 
 -- ---- a successor of a row
 
-record RoleThere (role : ℕ → Token → List ℕ) (n m : ℕ) (ts : List Token) : Type 0 where
-  front : List Token
-  token : Token
-  rest : List Token
-  all : ts ≡ front ++ token ∷ rest
-  inside : IsMember m (role (place_from n front) token)
+pub record RoleThere (role : ℕ → Token → List ℕ) (n m : ℕ) (ts : List Token) : Type 0 where
+  pub front : List Token
+  pub token : Token
+  pub rest : List Token
+  pub all : ts ≡ front ++ token ∷ rest
+  pub inside : IsMember m (role (place_from n front) token)
 
-role_there : (role : ℕ → Token → List ℕ) (n m : ℕ) (ts : List Token)
+pub role_there : (role : ℕ → Token → List ℕ) (n m : ℕ) (ts : List Token)
     → IsMember m (roles_from role n ts)
     → RoleThere role n m ts
 role_there role n m [] member = absurd member

@@ -92,7 +92,7 @@ fitting-cases n = by_test (nat_le n greatest_number) refl
     by_test true is = inl (cond-true _ _ _ is, grind (arith, nat_tests))
     by_test false is = inr (cond-false _ _ _ is, grind (arith, nat_tests))
 
-full-cases : (m n : ℕ) → ((nat_le m n ≡ true) × (m ≤ n)) ⊎ ((nat_le m n ≡ false) × (n < m))
+pub full-cases : (m n : ℕ) → ((nat_le m n ≡ true) × (m ≤ n)) ⊎ ((nat_le m n ≡ false) × (n < m))
 full-cases m n = by_test (nat_le m n) refl
   where
     by_test : (b : Bool) → nat_le m n ≡ b → ((nat_le m n ≡ true) × (m ≤ n)) ⊎ ((nat_le m n ≡ false) × (n < m))

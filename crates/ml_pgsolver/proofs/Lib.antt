@@ -16,6 +16,8 @@ mod Comings
 mod Splits
 -- tokens that were read
 mod Readings
+-- the first fault of tokens
+mod FirstFaults
 -- what comes of a text
 mod Outcomes
 -- the highest priority
@@ -50,3 +52,19 @@ mod LongestTokens
 mod Steps
 -- solutions that say the same have one text
 pub mod SameTexts
+-- solutions as trees that grow
+mod SolutionTrees
+-- the steps of the reader of solutions
+mod SolutionComings
+-- what comes of a solution
+mod SolutionOutcomes
+-- what is answered to a solution
+mod SolutionAnswers
+-- the claims of entries
+mod RowClaims
+-- the first id of an entry that is none
+mod Strangers
+-- what is answered to a game with a solution
+mod CheckedAnswers
+-- the word between a game and its solution
+mod WordPlaces

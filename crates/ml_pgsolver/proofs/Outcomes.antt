@@ -3,19 +3,19 @@
 --   RefusedIn all end e  == tokens, and the end of the text, are refused with e for one of the first four causes
 --   Comes all end out    == out is right of these tokens
 --   comes                == what comes of the tokens is
-use Rattle.std.proofs.Common.{◌≡◌, ℕ, suc, ◌<◌, ◌≤◌, ◌⊎◌, List, [], ◌∷◌, ◌++◌, length, Option, Some, None, Ok, Err, refl, sym, ◌∙◌, ap, subst, arith, inl, inr, length-append}
+use Rattle.std.proofs.Common.{◌≡◌, ℕ, suc, ◌≤◌, ◌⊎◌, List, [], ◌∷◌, ◌++◌, length, Option, Some, None, Ok, Err, refl, sym, ◌∙◌, ap, subst, arith, inl, inr}
 use Rattle.std.proofs.lemmas.List.{append_assoc, append-nil, map-append}
 use Rattle.ml_lists.specs.Member.{IsMember}
 use Rattle.ml_pgsolver.specs.Tokens.{Token, Placed, signs_of}
-use Rattle.ml_pgsolver.specs.Grammar.{vertices_of, IsGameText, BeginsGameText}
-use Rattle.ml_pgsolver.specs.Refusals.{Cause, Syntax, Repeated, TooMany, TooLarge, rank, IsFaulty, IsFault, IsFirstFault, offset_of}
+use Rattle.ml_pgsolver.specs.Grammar.{vertices_of, IsGameText}
+use Rattle.ml_pgsolver.specs.Refusals.{Cause, Syntax, Repeated, TooMany, TooLarge, game_form, rank, IsFaulty, IsFirstFault, offset_of}
 use Rattle.ml_pgsolver.specs.declared.reader.Stage.{Stage}
 use Rattle.ml_pgsolver.specs.declared.reader.Stage.TheVariants as stage
 use Rattle.ml_pgsolver.specs.declared.refusal.GameTextRefusal.{GameTextRefusal}
 use Rattle.ml_pgsolver.specs.declared.refusal.GameTextRefusal.TheVariants as refusal
 use Rattle.ml_pgsolver.specs.private.Machine.{Step, step, at_end, outcome_from}
 use Rattle.ml_pgsolver.specs.private.Signs.{sign_of, signs_in}
-use Rattle.ml_pgsolver.proofs.Splits.{Splits, before, same, behind, splits}
+use Rattle.ml_pgsolver.proofs.FirstFaults.{end_fault, token_fault}
 use Rattle.ml_pgsolver.proofs.Steps.{goes_on, stops, ends}
 use Rattle.ml_pgsolver.proofs.Trees.{Progress, Start, Body, Id, grow, grown_from, grown-append}
 use Rattle.ml_pgsolver.proofs.Viable.{begins-grown, grown-begins, game-ended}
@@ -46,7 +46,7 @@ pub offset-behind : (end : ℕ) (front : List Placed) (p : Placed) (rest : List 
 offset-behind end [] p rest = refl
 offset-behind end (q ∷ front) p rest = offset-behind end front p rest
 
-offset-end : (end : ℕ) (all : List Placed) → offset_of end all (length all) ≡ end
+pub offset-end : (end : ℕ) (all : List Placed) → offset_of end all (length all) ≡ end
 offset-end end [] = refl
 offset-end end (q ∷ all) = offset-end end all
 
@@ -57,50 +57,6 @@ signs-length (p ∷ ps) = ap (λ n. suc n) (signs-length ps)
 pub signs-cut : (front : List Placed) (p : Placed) (rest : List Placed)
     → signs_of (front ++ p ∷ rest) ≡ signs_of front ++ p.token ∷ signs_of rest
 signs-cut front p rest = map-append (λ (q : Placed). q.token) front (p ∷ rest)
-
--- ---- the first fault
-
--- of these tokens, the first ones of which are not at fault, the next one is
-module _ (ts first : List Token) (t : Token) (rest : List Token) (c : Cause) (cut : ts ≡ first ++ t ∷ rest)
-    (faultless : (d : Cause) (b : List Token) (u : Token) (more : List Token) → first ≡ b ++ u ∷ more → IsFaulty d b u → ⊥)
-    (faulty : IsFaulty c first t)
-    (lowest : (d : Cause) → IsFaulty d first t → rank c ≤ rank d) where
-  later : (d : Cause) (j : ℕ) (b : List Token) (u : Token) (more : List Token)
-      → Splits t first rest u b more
-      → j ≡ length b
-      → IsFaulty d b u
-      → (length first < j) ⊎ ((length first ≡ j) × (rank c ≤ rank d))
-  later d j b u more (before ws is) number wrong =
-      inl (omega (arith, ap length is, length-append first (t ∷ ws)))
-  later d j b u more (same front one all) number wrong =
-      inr (
-        ap length front ∙ sym number,
-        lowest d (subst (λ v. IsFaulty d first v) (sym one) (subst (λ xs. IsFaulty d xs u) (sym front) wrong)),
-      )
-  later d j b u more (behind ws is) number wrong = absurd (faultless d b u ws is wrong)
-
-  by_fault : (d : Cause) (j : ℕ) → IsFault d ts j → (length first < j) ⊎ ((length first ≡ j) × (rank c ≤ rank d))
-  by_fault d j (inl (b, u, there, wrong)) =
-      later d j b u there.behind (splits t u first rest b there.behind (sym cut ∙ there.all)) there.number wrong
-  by_fault d j (inr (is, ends)) = inl (omega (arith, ap length cut, length-append first (t ∷ rest), ends.0))
-
-  pub token_fault : IsFirstFault c ts (length first)
-  token_fault = record {
-    comes = inl (first, t, record { behind = rest; all = cut; number = refl }, faulty);
-    first = by_fault;
-  }
-
--- tokens of which none is at fault, and that are no game text
-end_fault : (ts : List Token)
-    → ((d : Cause) (b : List Token) (u : Token) (more : List Token) → ts ≡ b ++ u ∷ more → IsFaulty d b u → ⊥)
-    → BeginsGameText ts
-    → (IsGameText ts → ⊥)
-    → IsFirstFault Syntax ts (length ts)
-end_fault ts faultless begins none = record { comes = inr (refl, (refl, begins, none)); first = by }
-  where
-    by : (d : Cause) (j : ℕ) → IsFault d ts j → (length ts < j) ⊎ ((length ts ≡ j) × (1 ≤ rank d))
-    by d j (inl (b, u, there, wrong)) = absurd (faultless d b u there.behind there.all wrong)
-    by d j (inr (is, ends)) = inr (sym ends.0, let e : rank d ≡ 1 = ap rank is in omega arith)
 
 -- ---- the end of the text
 
@@ -115,7 +71,7 @@ at_the_end : (all : List Placed) (end : ℕ) (p : Progress) (q : Stage) → stag
 at_the_end all end p stage.NextVertex is read = (p, read, refl, is)
 at_the_end all end p q is read = (
   length (signs_of all),
-  end_fault (signs_of all) read.faultless (begins-grown (signs_of all) p read.run)
+  end_fault game_form (signs_of all) read.faultless (begins-grown (signs_of all) p read.run)
       (not_ended (signs_of all) p read.run (λ ended. cc)),
   sym (ap (offset_of end all) (signs-length all) ∙ offset-end end all),
 )
@@ -135,7 +91,7 @@ module _ (front : List Placed) (p : Progress) (t : Placed) (rest : List Placed) 
       → FaultAt all end c t.at
   fault_here c faulty lowest = (
     length (signs_of front),
-    token_fault (signs_of all) (signs_of front) t.token (signs_of rest) c (signs-cut front t rest) read.faultless faulty lowest,
+    token_fault game_form (signs_of all) (signs_of front) t.token (signs_of rest) c (signs-cut front t rest) read.faultless faulty lowest,
     place-is,
   )
 

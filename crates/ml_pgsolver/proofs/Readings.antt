@@ -59,7 +59,7 @@ read_none = record {
   faultless = λ c b t behind is faulty. no_middle b t behind is;
 }
 
-apart-last : (n : ℕ) (xs : List ℕ) → IsApart xs → (IsMember n xs → ⊥) → IsApart (xs ++ n ∷ [])
+pub apart-last : (n : ℕ) (xs : List ℕ) → IsApart xs → (IsMember n xs → ⊥) → IsApart (xs ++ n ∷ [])
 apart-last n [] apart new = (λ m. m, tt)
 apart-last n (x ∷ xs) apart new = (λ m. by (member-append x xs (n ∷ []) m), apart-last n xs apart.1 (λ m. new (inr m)))
   where

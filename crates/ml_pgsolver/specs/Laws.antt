@@ -1,10 +1,13 @@
 -- What is true of texts and answers.
 --
 --   OneAnswer       == a text is read as one game, or is refused in one way, and never both
+--   SolutionOrFault == tokens are those of a solution without a fault, or have a first fault
 --   TokensAreLongest == each token stands where it is said to, and no longer one begins there
+use Rattle.ml_pgsolver.specs.SolutionGrammar.{SolutionDraft, solution_form, solution_tokens}
+use Rattle.ml_pgsolver.specs.Tokens.{Placed, signs_of}
 use Rattle.std.specs.Prelude.{ℕ, ◌≡◌, ◌≢◌, ◌⊎◌, List}
 use Rattle.ml_pgsolver.specs.GameText.{NamedGame, StandsFor}
-use Rattle.ml_pgsolver.specs.Refusals.{IsReadAs, IsRefusedBy}
+use Rattle.ml_pgsolver.specs.Refusals.{Cause, HasNoFaultIn, IsFirstFaultIn, IsReadAs, IsRefusedBy}
 use Rattle.ml_pgsolver.specs.declared.refusal.GameTextRefusal.{GameTextRefusal}
 use Rattle.ml_pgsolver.specs.declared.refusal.GameTextRefusal.TheVariants as refusal
 
@@ -23,3 +26,9 @@ pub record OneAnswer : Type 0 where
   -- what is read is refused by nothing but want of memory
   pub exclusive : (text : List ℕ) (g : NamedGame) (e : GameTextRefusal)
       → IsReadAs text g → IsRefusedBy text e → e ≡ refusal.NoMemory
+
+abbrev pub SolutionOrFault : Type 0
+SolutionOrFault =
+    (all : List Placed)
+    → ((d : SolutionDraft) × (signs_of all ≡ solution_tokens d) × HasNoFaultIn solution_form (signs_of all))
+    ⊎ ((c : Cause) × (k : ℕ) × IsFirstFaultIn solution_form c (signs_of all) k)

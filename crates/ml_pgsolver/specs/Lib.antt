@@ -8,6 +8,10 @@ pub mod Grammar
 pub mod GameText
 -- where texts are refused, and what is read
 pub mod Refusals
+-- the grammar of a solution behind a game
+pub mod SolutionGrammar
+-- a game's text with a solution behind it
+pub mod CheckedText
 -- the text of a solution
 pub mod SolutionText
 -- what is true of texts and answers

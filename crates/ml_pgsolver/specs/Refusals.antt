@@ -12,9 +12,14 @@
 --   successors_among ts   == the successors among ts
 --   Cause                 == no game text goes on so; an id that stood before; a limit is passed; a number too large
 --   rank c                == the number of a cause
---   IsFaulty c before t   == behind these tokens, the token t is at fault for this cause
---   IsFault c ts k        == the token number k is; or k is how many tokens there are, and they only begin a game text
---   IsFirstFault c ts k   == of all faults this is the first
+--   Form                  == a kind of text: which tokens it has, how many stand before them, and what is counted beside ids
+--   game_form             == game texts: none stand before, and successors are counted
+--   Begins f ts           == with some tokens behind them the tokens are such a text
+--   IsFaultyIn f c before t  == behind these tokens, the token t is at fault for this cause
+--   IsFaultIn f c ts k       == the token number k is; or k is how many tokens there are, and they only begin such a text
+--   IsFirstFaultIn f c ts k  == of all faults this is the first
+--   HasNoFaultIn f ts        == there is none
+--   IsFaulty, IsFault, IsFirstFault, HasNoFault == the same of game texts
 --   IsUnknown ts k        == the token number k is a successor, and none of the text's ids
 --   offset_of end ps k    == the byte at which the token number k begins; behind the last token it is the end
 --   IsReadAs text named   == the text stands for the game, and has no fault
@@ -23,7 +28,7 @@ use Rattle.std.specs.Prelude.{ℕ, ◌+◌, zero, suc, ◌<◌, ◌≤◌, ◌�
 use Rattle.ml_lines.specs.Reading.{value}
 use Rattle.ml_lists.specs.Member.{IsMember}
 use Rattle.ml_pgsolver.specs.Tokens.{Token, Number, Semicolon, Placed, tokens, signs_of}
-use Rattle.ml_pgsolver.specs.Grammar.{IsGameText, BeginsGameText}
+use Rattle.ml_pgsolver.specs.Grammar.{IsGameText}
 use Rattle.ml_pgsolver.specs.GameText.{NamedGame, StandsFor}
 use Rattle.ml_pgsolver.specs.declared.limits.TheConstants.{MOST_VERTICES, MOST_SUCCESSORS, GREATEST_NUMBER}
 use Rattle.ml_pgsolver.specs.declared.refusal.GameTextRefusal.{GameTextRefusal}
@@ -87,13 +92,35 @@ most_successors = MOST_SUCCESSORS
 abbrev pub greatest_number : ℕ
 greatest_number = GREATEST_NUMBER
 
+-- a kind of text: what it is, how many tokens stand before it, and which numbers are counted beside ids
+pub record Form : Type 1 where
+  pub Is : List Token → Type 0
+  pub start : ℕ
+  pub counted : ℕ → Token → List ℕ
+
+abbrev pub game_form : Form
+game_form = record { Is = IsGameText; start = 0; counted = successor_at_place }
+
+abbrev pub Begins : Form → List Token → Type 0
+Begins f ts = (us : List Token) × f.Is (ts ++ us)
+
+abbrev pub place_in : Form → List Token → ℕ
+place_in f ts = place_from f.start ts
+
+abbrev pub ids_in : Form → List Token → List ℕ
+ids_in f ts = roles_from id_at_place f.start ts
+
+abbrev pub IsFaultyIn : Form → Cause → List Token → Token → Type 0
+IsFaultyIn f Syntax before t = Begins f before × (Begins f (before ++ t ∷ []) → ⊥)
+IsFaultyIn f Repeated before t = (n : ℕ) × (id_at_place (place_in f before) t ≡ n ∷ []) × IsMember n (ids_in f before)
+IsFaultyIn f TooMany before t =
+    ((n : ℕ) × (id_at_place (place_in f before) t ≡ n ∷ []) × (length (ids_in f before) ≡ most_vertices))
+    ⊎ ((n : ℕ) × (f.counted (place_in f before) t ≡ n ∷ [])
+    × (length (roles_from f.counted f.start before) ≡ most_successors))
+IsFaultyIn f TooLarge before t = (digits : List ℕ) × (t ≡ Number digits) × (greatest_number < value digits)
+
 abbrev pub IsFaulty : Cause → List Token → Token → Type 0
-IsFaulty Syntax before t = BeginsGameText before × (BeginsGameText (before ++ t ∷ []) → ⊥)
-IsFaulty Repeated before t = (n : ℕ) × IsId before t n × IsMember n (ids_of before)
-IsFaulty TooMany before t =
-    ((n : ℕ) × IsId before t n × (length (ids_of before) ≡ most_vertices))
-    ⊎ ((n : ℕ) × IsSuccessor before t n × (length (successors_among before) ≡ most_successors))
-IsFaulty TooLarge before t = (digits : List ℕ) × (t ≡ Number digits) × (greatest_number < value digits)
+IsFaulty c before t = IsFaultyIn game_form c before t
 
 -- the token number k is t, and these stand before it
 pub record IsAt (ts : List Token) (k : ℕ) (before : List Token) (t : Token) : Type 0 where
@@ -101,21 +128,30 @@ pub record IsAt (ts : List Token) (k : ℕ) (before : List Token) (t : Token) : 
   pub all : ts ≡ before ++ t ∷ behind
   pub number : k ≡ length before
 
-abbrev pub EndsEarly : List Token → ℕ → Type 0
-EndsEarly ts k = (k ≡ length ts) × BeginsGameText ts × (IsGameText ts → ⊥)
+abbrev pub EndsEarlyIn : Form → List Token → ℕ → Type 0
+EndsEarlyIn f ts k = (k ≡ length ts) × Begins f ts × (f.Is ts → ⊥)
 
-abbrev pub IsTokenFault : Cause → List Token → ℕ → Type 0
-IsTokenFault c ts k = (before : List Token) × (t : Token) × IsAt ts k before t × IsFaulty c before t
+abbrev pub IsTokenFaultIn : Form → Cause → List Token → ℕ → Type 0
+IsTokenFaultIn f c ts k = (before : List Token) × (t : Token) × IsAt ts k before t × IsFaultyIn f c before t
+
+abbrev pub IsFaultIn : Form → Cause → List Token → ℕ → Type 0
+IsFaultIn f c ts k = IsTokenFaultIn f c ts k ⊎ ((c ≡ Syntax) × EndsEarlyIn f ts k)
+
+pub record IsFirstFaultIn (f : Form) (c : Cause) (ts : List Token) (k : ℕ) : Type 0 where
+  pub comes : IsFaultIn f c ts k
+  pub first : (d : Cause) (j : ℕ) → IsFaultIn f d ts j → (k < j) ⊎ ((k ≡ j) × (rank c ≤ rank d))
+
+abbrev pub HasNoFaultIn : Form → List Token → Type 0
+HasNoFaultIn f ts = (c : Cause) (k : ℕ) → IsFaultIn f c ts k → ⊥
 
 abbrev pub IsFault : Cause → List Token → ℕ → Type 0
-IsFault c ts k = IsTokenFault c ts k ⊎ ((c ≡ Syntax) × EndsEarly ts k)
+IsFault c ts k = IsFaultIn game_form c ts k
 
-pub record IsFirstFault (c : Cause) (ts : List Token) (k : ℕ) : Type 0 where
-  pub comes : IsFault c ts k
-  pub first : (d : Cause) (j : ℕ) → IsFault d ts j → (k < j) ⊎ ((k ≡ j) × (rank c ≤ rank d))
+abbrev pub IsFirstFault : Cause → List Token → ℕ → Type 0
+IsFirstFault c ts k = IsFirstFaultIn game_form c ts k
 
 abbrev pub HasNoFault : List Token → Type 0
-HasNoFault ts = (c : Cause) (k : ℕ) → IsFault c ts k → ⊥
+HasNoFault ts = HasNoFaultIn game_form ts
 
 abbrev pub IsUnknown : List Token → ℕ → Type 0
 IsUnknown ts k = (before : List Token) × (t : Token) × IsAt ts k before t

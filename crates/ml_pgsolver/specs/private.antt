@@ -4,6 +4,10 @@
 pub mod Signs
 -- the reader's steps
 pub mod Machine
+-- the steps of the reader of solutions
+pub mod EntryMachine
+-- what is made of the entries of a solution
+pub mod Claiming
 -- what the reader holds
 pub mod Rows
 -- what is made of the rows

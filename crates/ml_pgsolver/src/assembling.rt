@@ -74,7 +74,7 @@ fn is_at_own_place(ids: &[u32], id: u64) -> bool
 }
 
 // the place of an id
-fn place_of(ids: &[u32], id: u64) -> Option<u64>
+pub(crate) fn place_of(ids: &[u32], id: u64) -> Option<u64>
     requires { IsAscending ids.now }
     ensures { MatchOption result (IsMember id ids.now → ⊥) (λ i. (i < length ids.now) × (get_or ids.now i 0 ≡ id)) }
 {

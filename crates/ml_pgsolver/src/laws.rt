@@ -1,6 +1,6 @@
 // What holds of texts and answers by their definitions alone: the functions do nothing, their contracts are the theorems.
 ghost use Rattle.std.specs.Prelude.{◌≡◌};
-ghost use Rattle.ml_pgsolver.specs.Laws.{IsUnambiguous, OneAnswer};
+ghost use Rattle.ml_pgsolver.specs.Laws.{IsUnambiguous, OneAnswer, SolutionOrFault};
 ghost use Rattle.ml_pgsolver.specs.Longest.{FrontIsLongest};
 ghost use Rattle.ml_pgsolver.specs.declared.limits.TheConstants as limit;
 
@@ -18,10 +18,16 @@ pub fn longest_token()
 {}
 
 /// A game text has at most 200,000 vertices, 2,000,000 successors and numbers up to 4,294,967,294; programs take up to
-/// 67,108,864 bytes.
+/// 67,108,864 bytes, and 134,217,728 with a solution behind it.
 pub fn limits()
     ensures vertices { limit.MOST_VERTICES ≡ 200000 }
     ensures successors { limit.MOST_SUCCESSORS ≡ 2000000 }
     ensures numbers { limit.GREATEST_NUMBER ≡ 4294967294 }
     ensures bytes { limit.LONGEST_GAME_TEXT ≡ 67108864 }
+    ensures checked_bytes { limit.LONGEST_CHECKED_TEXT ≡ 134217728 }
+{}
+
+/// Tokens behind the word `paritysol` are those of a solution and none of them is at fault, or they have a first fault.
+pub fn solution_or_fault()
+    ensures { SolutionOrFault }
 {}

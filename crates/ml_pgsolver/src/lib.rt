@@ -2,13 +2,18 @@
 //
 // `read` gives the game that a text stands for, with the ids of its vertices (`Named`), exactly as `specs/Tokens.antt`,
 // `specs/Grammar.antt` and `specs/GameText.antt` say, or the place where the text is refused (`specs/Refusals.antt`).
-// `write` gives the text of a solution of such a game (`specs/SolutionText.antt`). `laws` says that each text has one
+// `read_checked` reads a game with a solution behind it, as claims about its vertices (`specs/CheckedText.antt`). `write`
+// gives the text of a solution of such a game (`specs/SolutionText.antt`). `laws` says that each text has one
 // answer, and what the limits are.
 //
-// Below stand `ml_parity`, with games and solutions, `ml_text`, for blanks and digits, and `ml_lines`, for numbers.
+// Below stand `ml_parity`, with games and solutions, `ml_game_check`, with claims, `ml_text`, for blanks and digits, and
+// `ml_lines`, for numbers.
 #![tactic(auto)]
 
 mod assembling;
+mod checked;
+mod claiming;
+mod entries;
 pub mod laws;
 mod limits;
 mod named;
@@ -18,7 +23,10 @@ mod refusal;
 mod scan;
 mod writing;
 
-pub use limits::{GREATEST_NUMBER, LONGEST_GAME_TEXT, MOST_SUCCESSORS, MOST_VERTICES};
+pub use checked::{Checked, read_checked};
+pub use limits::{
+    GREATEST_NUMBER, LONGEST_CHECKED_TEXT, LONGEST_GAME_TEXT, MOST_SUCCESSORS, MOST_VERTICES,
+};
 pub use named::Named;
 pub use reading::read;
 pub use refusal::GameTextRefusal;

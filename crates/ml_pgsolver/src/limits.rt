@@ -11,3 +11,6 @@ pub const GREATEST_NUMBER: u32 = 4_294_967_294;
 
 /// How many bytes a program should take as the text of a game. `read` itself takes any text.
 pub const LONGEST_GAME_TEXT: usize = 67_108_864;
+
+/// How many bytes a program should take as the text of a game with a solution behind it. `read_checked` itself takes any text.
+pub const LONGEST_CHECKED_TEXT: usize = 134_217_728;

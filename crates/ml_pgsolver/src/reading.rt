@@ -83,7 +83,8 @@ fn is_unknown(sign: Sign, ids: &IndexSet<u32>) -> bool
     }
 }
 
-fn sign_place(place: usize, sign: Sign) -> usize
+// how many tokens stand behind the last `;`, behind one token more
+pub(crate) fn sign_place(place: usize, sign: Sign) -> usize
     requires { place < usize.MAX }
     ensures { result ≡ sign_place place sign }
 {

@@ -104,7 +104,7 @@ fn fitting(value: u64) -> Option<u32>
 }
 
 // the token that begins with a `"`, by what stands behind it, and its length
-fn quoted(rest: &[u8]) -> (Sign, usize)
+pub(crate) fn quoted(rest: &[u8]) -> (Sign, usize)
     ensures sign { result.0 ≡ sign_of (quoted rest.now) }
     ensures length { result.1 ≡ length (spelling (quoted rest.now)) }
 {
