@@ -15,7 +15,7 @@ use crate::refusals::SearchRefusal;
 use crate::whole_game::decided;
 use ml_base::NoMemory;
 use ml_graph::ModalGraph;
-use ml_search_engine::{Candidate, candidate};
+use ml_search_engine::Candidate;
 use std::alloc::Global;
 
 /// A candidate that passes its check; `None` where it doesn't.
@@ -45,6 +45,34 @@ fn checked(
     }
 }
 
+/// What is found where structures are words.
+fn sought_by_frames(
+    alloc: Global,
+    graph: &ModalGraph,
+    limit: u32,
+) -> Result<Option<Found>, NoMemory>
+    ensures { IfOk result (λ found. IfSome found (IsFound graph.now)) }
+{
+    match ml_search_frames::candidate(alloc, graph, limit)? {
+        Some(candidate) => checked(alloc, graph, candidate),
+        None => Ok(None),
+    }
+}
+
+/// What is found in any graph.
+fn sought_by_rounds(
+    alloc: Global,
+    graph: &ModalGraph,
+    limit: u32,
+) -> Result<Option<Found>, NoMemory>
+    ensures { IfOk result (λ found. IfSome found (IsFound graph.now)) }
+{
+    match ml_search_engine::candidate(alloc, graph, limit)? {
+        Some(candidate) => checked(alloc, graph, candidate),
+        None => Ok(None),
+    }
+}
+
 /// What the search alone finds, with the work that goes with the limit; `None` where it gives up.
 ///
 /// The graph has at most 4,096 nodes, its trace automaton at most 2^30 states, and the limit is 1 or more. What is found is
@@ -60,9 +88,9 @@ pub fn seek(alloc: Global, graph: &ModalGraph, limit: u32) -> Result<Option<Foun
     requires some { 1 ≤ limit }
     ensures { IfOk result (λ found. IfSome found (IsFound graph.now)) }
 {
-    match candidate(alloc, graph, limit)? {
-        Some(candidate) => checked(alloc, graph, candidate),
-        None => Ok(None),
+    match sought_by_frames(alloc, graph, limit)? {
+        Some(found) => Ok(Some(found)),
+        None => sought_by_rounds(alloc, graph, limit),
     }
 }
 
