@@ -22,16 +22,9 @@ pub(crate) enum Rest {
 pub(crate) enum Task {
     Close(Rest),
     /// The left side is decided; the right one is next.
-    Right {
-        node: u32,
-        mark: usize,
-        rest: Rest,
-    },
+    Right { node: u32, mark: usize, rest: Rest },
     /// Both sides are decided.
-    Join {
-        node: u32,
-        mark: usize,
-    },
+    Join { node: u32, mark: usize },
 }
 
 /// Decisions in the making.

@@ -1,8 +1,8 @@
 // The search as a whole: the path grows or is taken back, until a lasso closes or nothing is left.
+use crate::candidates::Candidate;
 use crate::paths::Path;
 use ml_base::NoMemory;
 use ml_graph::{ModalGraph, Node};
-use ml_search_engine::Candidate;
 use ml_search_local::{FOR_GOOD, NONE, NodeSet, Outcome, Solver, Terms, number, row};
 use std::alloc::Global;
 
@@ -137,8 +137,8 @@ impl<'a> Engine<'a> {
         for _ in 0..self.terms.size {
             self.frames.push(Vec::new(alloc))?;
         }
-        self.path
-            .begin(&self.terms, vec![in alloc; self.terms.graph.root()]?)
+        let root = self.terms.graph.root();
+        self.path.begin(&self.terms, vec![in alloc; root]?)
     }
 
     /// Rounds, until something is found or enough is done.
@@ -278,9 +278,9 @@ impl<'a> Engine<'a> {
         for i in 0..2 {
             self.stand_at_last(0)?;
             self.solver.branch.watches.min_level = level.saturating_add(i);
-            let outcome =
-                self.solver
-                    .query(&self.terms, self.path.last(), &[], thread, NONE)?;
+            let outcome = self
+                .solver
+                .query(&self.terms, self.path.last(), &[], thread, NONE)?;
             if outcome == Outcome::Leaf {
                 self.note_leaf(0)?;
                 return self.adopt();

@@ -11,10 +11,11 @@
 //
 // Source: Bradley, SAT-based model checking without unrolling (2011); Li and others, SAT-based explicit LTL reasoning (2015).
 //
-// Below stand the solver (`ml_search_local`), graphs (`ml_graph`), parity games (`ml_parity`), the other engine, for what
-// candidates are (`ml_search_engine`), and what they are made of (`ml_kripke`, `ml_refutation`).
+// Below stand the solver (`ml_search_local`), graphs (`ml_graph`), parity games (`ml_parity`), and what candidates are made
+// of (`ml_kripke`, `ml_refutation`).
 #![tactic(auto)]
 
+mod candidates;
 mod concluding;
 mod decisions;
 mod engines;
@@ -25,9 +26,9 @@ mod refutations;
 mod settling;
 
 use crate::engines::Engine;
+pub use candidates::Candidate;
 use ml_base::NoMemory;
 use ml_graph::ModalGraph;
-use ml_search_engine::Candidate;
 use std::alloc::Global;
 
 /// A candidate for an answer; `None` where the graph isn't one of those, or the search gives up.

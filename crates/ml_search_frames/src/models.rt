@@ -1,9 +1,9 @@
 // The structure of a lasso.
+use crate::candidates::Candidate;
 use crate::engines::Engine;
 use ml_base::{Action, Edge, Name, NoMemory};
 use ml_graph::Node;
 use ml_kripke::{Model, Structure, StructureRefusal};
-use ml_search_engine::Candidate;
 use ml_search_local::{Terms, small};
 
 /// Adds the labels of a state.

@@ -97,11 +97,7 @@ impl Path {
         let here = ml_search_local::small(self.places.len());
         for n in nodes {
             if t.component(*n) != 0 {
-                let began = if on.contains(n) {
-                    self.began(*n)
-                } else {
-                    None
-                };
+                let began = if on.contains(n) { self.began(*n) } else { None };
                 since.push((*n, began.unwrap_or(here)))?;
             }
         }

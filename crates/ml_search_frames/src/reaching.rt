@@ -212,8 +212,7 @@ impl<'a> Engine<'a> {
     fn push(&mut self, thread: u32, level: u32) -> Result<(), NoMemory> {
         for i in 0..level.saturating_add(1) {
             self.listed.clear();
-            self.listed
-                .extend_from_slice(row(&self.frames, thread))?;
+            self.listed.extend_from_slice(row(&self.frames, thread))?;
             for k in 0..self.listed.len() {
                 let core = core_at(&self.listed, k);
                 self.push_one(thread, core, i)?;

@@ -1,11 +1,11 @@
 // The refutation: an entry for each core for good that is met, from that of the root on.
+use crate::candidates::Candidate;
 use crate::decisions::Making;
 use crate::engines::Engine;
 use crate::settling::owner_of_group;
 use ml_base::NoMemory;
 use ml_parity::{Arc, OneSided, heights};
 use ml_refutation::{Decision, Entry, Item, Lists};
-use ml_search_engine::Candidate;
 use ml_search_local::{Core, FOR_GOOD, NONE, Terms, number, put, row};
 use ml_trace::Mark;
 use std::alloc::Global;
@@ -267,11 +267,7 @@ impl<'a> Engine<'a> {
         let (group, thread, tree) = (core.born, core.thread, core.tree);
         self.listed.clear();
         self.listed.extend_from_slice(&core.nodes)?;
-        self.solver.set_owner(
-            &self.terms,
-            owner_of_group(group),
-            row(&self.twins, group),
-        )?;
+        self.solver.set_owner(&self.terms, owner_of_group(group), row(&self.twins, group))?;
         self.solver.branch.watches.min_level = 0;
         self.solver.branch.watches.max_born = group;
         self.solver

@@ -19,11 +19,8 @@ impl<'a> Engine<'a> {
         self.listed.extend_from_slice(self.part.list())?;
         self.take_from_frames(thread)?;
         self.give_all();
-        self.solver.set_owner(
-            &self.terms,
-            owner_of_group(self.now),
-            &self.listed,
-        )?;
+        self.solver
+            .set_owner(&self.terms, owner_of_group(self.now), &self.listed)?;
         self.solver.branch.watches.min_level = 0;
         let alloc = self.terms.alloc;
         let mut guides = Vec::new(alloc);
@@ -165,9 +162,7 @@ impl<'a> Engine<'a> {
         }
         let (nodes, _) = self.needed(id)?;
         let owner = owner_of_group(group);
-        let twin = self
-            .solver
-            .put(&self.terms, nodes, thread, owner, group)?;
+        let twin = self.solver.put(&self.terms, nodes, thread, owner, group)?;
         if let Some(core) = self.solver.branch.watches.cores.at_mut(twin) {
             core.redirect = stands;
         }

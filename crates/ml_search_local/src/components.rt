@@ -58,7 +58,12 @@ impl Strong {
     }
 
     /// The strong components of a part: the nodes that are kept, with the edges between them, modal ones or not.
-    pub(crate) fn search(&mut self, graph: &ModalGraph, keep: &[bool], modal: bool) -> Result<(), NoMemory> {
+    pub(crate) fn search(
+        &mut self,
+        graph: &ModalGraph,
+        keep: &[bool],
+        modal: bool,
+    ) -> Result<(), NoMemory> {
         self.order.clear();
         self.low.clear();
         self.component.clear();
