@@ -15,33 +15,78 @@ use crate::refusals::SearchRefusal;
 use crate::whole_game::by_whole_game;
 use ml_base::NoMemory;
 use ml_graph::ModalGraph;
-use ml_search_engine::{Candidate, candidate};
+use ml_kripke::Model;
+use ml_refutation::{Entry, Lists};
 use std::alloc::Global;
 
-/// A candidate that passes its check; `None` where it doesn't.
-fn checked(
+/// A structure that passes its check; `None` where it doesn't.
+fn checked_model(
     alloc: Global,
     graph: &ModalGraph,
-    candidate: Candidate,
+    model: Model,
 ) -> Result<Option<Found>, NoMemory>
     ensures { IfOk result (λ found. IfSome found (IsFound graph.now)) }
 {
-    match candidate {
-        Candidate::Model(model) => {
-            if is_model(alloc, graph, &model)? {
-                return Ok(Some(Found::Model(model)));
-            }
-            Ok(None)
-        }
-        Candidate::Refutation {
+    if is_model(alloc, graph, &model)? {
+        return Ok(Some(Found::Model(model)));
+    }
+    Ok(None)
+}
+
+/// Entries that pass their check; `None` where they don't.
+fn checked_refutation(
+    alloc: Global,
+    graph: &ModalGraph,
+    names: u32,
+    sequents: Lists,
+    stacks: Lists,
+    entries: Vec<Entry>,
+) -> Result<Option<Found>, NoMemory>
+    ensures { IfOk result (λ found. IfSome found (IsFound graph.now)) }
+{
+    match accepted(alloc, graph, names, sequents, stacks, entries)? {
+        Some(refutation) => Ok(Some(Found::Refutation(refutation))),
+        None => Ok(None),
+    }
+}
+
+/// What is found where structures are words.
+fn sought_by_frames(
+    alloc: Global,
+    graph: &ModalGraph,
+    limit: u32,
+) -> Result<Option<Found>, NoMemory>
+    ensures { IfOk result (λ found. IfSome found (IsFound graph.now)) }
+{
+    match ml_search_frames::candidate(alloc, graph, limit)? {
+        Some(ml_search_frames::Candidate::Model(model)) => checked_model(alloc, graph, model),
+        Some(ml_search_frames::Candidate::Refutation {
             names,
             sequents,
             stacks,
             entries,
-        } => match accepted(alloc, graph, names, sequents, stacks, entries)? {
-            Some(refutation) => Ok(Some(Found::Refutation(refutation))),
-            None => Ok(None),
-        },
+        }) => checked_refutation(alloc, graph, names, sequents, stacks, entries),
+        None => Ok(None),
+    }
+}
+
+/// What is found in any graph.
+fn sought_by_rounds(
+    alloc: Global,
+    graph: &ModalGraph,
+    limit: u32,
+) -> Result<Option<Found>, NoMemory>
+    ensures { IfOk result (λ found. IfSome found (IsFound graph.now)) }
+{
+    match ml_search_engine::candidate(alloc, graph, limit)? {
+        Some(ml_search_engine::Candidate::Model(model)) => checked_model(alloc, graph, model),
+        Some(ml_search_engine::Candidate::Refutation {
+            names,
+            sequents,
+            stacks,
+            entries,
+        }) => checked_refutation(alloc, graph, names, sequents, stacks, entries),
+        None => Ok(None),
     }
 }
 
@@ -60,9 +105,9 @@ pub fn seek(alloc: Global, graph: &ModalGraph, limit: u32) -> Result<Option<Foun
     requires some { 1 ≤ limit }
     ensures { IfOk result (λ found. IfSome found (IsFound graph.now)) }
 {
-    match candidate(alloc, graph, limit)? {
-        Some(candidate) => checked(alloc, graph, candidate),
-        None => Ok(None),
+    match sought_by_frames(alloc, graph, limit)? {
+        Some(found) => Ok(Some(found)),
+        None => sought_by_rounds(alloc, graph, limit),
     }
 }
 
