@@ -28,7 +28,7 @@
 --   DecideIsChecked, ValidIsChecked, FindIsChecked, ProveIsChecked == where they are no longer than documents that are read,
 --                       `check-model` answers `holds` of one with a structure, and `check-refutation` answers `accepted` of
 --                       one with a refutation
-use Rattle.std.specs.Prelude.{ℕ, ◌≡◌, ◌≢◌, ◌<◌, ◌≤◌, ◌^◌, ◌⊎◌, ◌↔◌, Bool, true, false, List, [], ◌∷◌, length, Option, Some, codes, if◌then◌else◌}
+use Rattle.std.specs.Prelude.{ℕ, ◌≡◌, ◌≢◌, ◌<◌, ◌^◌, ◌⊎◌, ◌↔◌, Bool, true, false, List, [], ◌∷◌, Option, Some, codes, if◌then◌else◌}
 use Rattle.ml_buchi.specs.Deterministic.{IsValuationWord}
 use Rattle.ml_buchi.specs.Valuations.{Leads}
 use Rattle.ml_determinise.specs.Numbering.{automaton_of}
