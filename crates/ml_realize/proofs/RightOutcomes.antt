@@ -71,10 +71,10 @@ linear_decided w f linear loops =
 -- ---- the letters of words
 
 module _ (i o : ℕ) (w : WordLasso ℕ) where
-  abbrev AreValuations : Type 0
+  abbrev pub AreValuations : Type 0
   AreValuations = (k : ℕ) → k < length w.word → get_or w.word k 0 < 2 ^ (i + o)
 
-  machine_letters : (m : MachineTable) → MachineFits i o m → IsMachineWord i m w → AreValuations
+  pub machine_letters : (m : MachineTable) → MachineFits i o m → IsMachineWord i m w → AreValuations
   machine_letters m fits along k low =
       let here = states_low _ w along (length m) fits.some
       (λ s v t s_low goes. subst (λ u. u < length m) (sym goes.next_is) (fits.leads s goes.ins s_low goes.is_set)) k (omega (arith, low)) in
@@ -82,7 +82,7 @@ module _ (i o : ℕ) (w : WordLasso ℕ) where
       subst (λ v. v < 2 ^ (i + o)) (sym goes.valuation_is)
       (valuation_low i o goes.ins (step_at m (at _ w along k) goes.ins).give goes.is_set (fits.gives (at _ w along k) goes.ins here goes.is_set))
 
-  environment_letters : (e : EnvironmentTable) → EnvironmentFits i o e → IsEnvironmentWord i o e w → AreValuations
+  pub environment_letters : (e : EnvironmentTable) → EnvironmentFits i o e → IsEnvironmentWord i o e w → AreValuations
   environment_letters e fits along k low =
       let here = states_low _ w along (length e.plays) fits.some
       (λ s v t s_low goes. subst (λ u. u < length e.plays) (sym goes.next_is) (fits.leads s goes.outs s_low goes.is_set)) k (omega (arith, low)) in
@@ -102,7 +102,7 @@ module _ (ns : List (List ℕ)) (a : Automaton) (row : List (List Transition)) (
           record { from_low = t.from_state; to_low = t.to_state }
       by (inr past) = absurd (subst (IsMember m) (get_or-eq_default row [] past) member)
 
-  abbrev letters : List Letter
+  abbrev pub letters : List Letter
   letters = map (members ns) (range_with_len 0 (valuations ns))
 
   letter_is : (v : ℕ) → v < valuations ns → letter_in letters v ≡ members ns v
@@ -111,12 +111,12 @@ module _ (ns : List (List ℕ)) (a : Automaton) (row : List (List Transition)) (
       get_or-map (members ns) (range_with_len 0 (valuations ns)) v 0 [] (omega (arith, low, long))
       ∙ ap (members ns) (get_or-range_with_len 0 (valuations ns) v 0 low ∙ omega arith)
 
-  transitions : HasTransitionsOf a letters row
+  pub transitions : HasTransitionsOf a letters row
   transitions v low =
       subst (λ l. HasTransitions a l (get_or row v [])) (sym (letter_is v (omega (arith, low, is_row.one_each))))
       (is_row.transitions v low)
 
-  same_letters : (vs : List ℕ) → All (λ v. v < valuations ns) vs → map (letter_in letters) vs ≡ map (members ns) vs
+  pub same_letters : (vs : List ℕ) → All (λ v. v < valuations ns) vs → map (letter_in letters) vs ≡ map (members ns) vs
   same_letters [] low = refl
   same_letters (v ∷ vs) low =
       let here = letter_is v (All-head (λ u. u < valuations ns) v vs low) in

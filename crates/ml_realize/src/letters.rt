@@ -79,8 +79,15 @@ fn letter(
     Ok(letter)
 }
 
-// the letters of all valuations
-pub(crate) fn letters(
+/// The letters of a word automaton for all valuations of some inputs and outputs, in the order of their numbers.
+///
+/// There are at most eight names.
+///
+/// # Errors
+/// `NoMemory` alone.
+///
+/// Cost: that of `ml_word_automaton::letter_at` for each of the 2^n valuations of n names.
+pub fn row_of(
     alloc: Global,
     automaton: &WordAutomaton,
     inputs: &[Name],

@@ -14,5 +14,6 @@ mod letters;
 mod realizing;
 mod refusals;
 
+pub use letters::row_of;
 pub use realizing::{MOST_NODES, realize};
 pub use refusals::RealizeRefusal;

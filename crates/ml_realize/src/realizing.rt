@@ -9,7 +9,7 @@ ghost use Rattle.ml_realize.specs.TaskGame.{IsFound, IsLarge, IsRowOf, PassesLim
 ghost use Rattle.ml_realize.specs.private.Rows.{IsPlayed, Passes};
 ghost use Rattle.ml_realize.specs.declared.refusals.RealizeRefusal.TheVariants as refusal;
 
-use crate::letters::letters;
+use crate::letters::row_of;
 use crate::refusals::{RealizeRefusal, of_automaton};
 use ml_determinise::{DetRefusal, determinise};
 use ml_synthesis::{Outcome, SynthesisRefusal, synthesise};
@@ -49,7 +49,7 @@ pub fn realize(alloc: Global, task: &Task, limit: u32) -> Result<Outcome, Realiz
         Ok(automaton) => automaton,
         Err(refusal) => return Err(of_automaton(refusal)),
     };
-    let row = letters(alloc, &automaton, &task.inputs, &task.outputs)?;
+    let row = row_of(alloc, &automaton, &task.inputs, &task.outputs)?;
     let states = automaton.states().len() as u32;
     let (inputs, outputs) = (task.inputs.len() as u32, task.outputs.len() as u32);
     match play(alloc, states, &row, inputs, outputs, limit) {

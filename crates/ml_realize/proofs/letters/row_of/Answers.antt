@@ -2,7 +2,7 @@ use Rattle.std.proofs.Common.{◌++◌, ◌∷◌, [], length, ap, sym, subst, �
 use Rattle.std.proofs.lemmas.List.{length-append}
 use Rattle.ml_realize.specs.private.Rows.{AreFirst}
 use Rattle.ml_realize.proofs.PresentNames.{first_more}
-use Rattle.ml_realize.proofs.letters.letters.Goals as goal
+use Rattle.ml_realize.proofs.letters.row_of.Goals as goal
 
 pub loop-valuation-preserved : goal.loop-valuation-preserved
 loop-valuation-preserved c =

@@ -1,6 +1,6 @@
 use Rattle.std.proofs.Common.{◌≡◌, ◌++◌, length}
 use Rattle.ml_realize.specs.private.Rows.{AreFirst}
-use Rattle.ml_realize.proofs.letters.letters.Given as goal
+use Rattle.ml_realize.proofs.letters.row_of.Given as goal
 
 abbrev pub invariant-loop-valuation : goal.invariant-loop-valuation
 invariant-loop-valuation l =

@@ -1,0 +1,6 @@
+-- systems and their words
+pub mod Systems
+-- whether an automaton accepts one of them
+pub mod Emptiness
+-- what only private contracts cite
+pub mod private

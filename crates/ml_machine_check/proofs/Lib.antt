@@ -1,0 +1,8 @@
+-- words of valuations, as the automaton reads them
+pub mod WordsRead
+-- machines and environments as systems
+pub mod AsSystems
+-- what is found says one thing
+pub mod OneCheck
+-- what the program reads of machines and environments
+pub mod ReadRows
