@@ -94,7 +94,7 @@ module _ (s : SystemTable) where
         zero_more = omega arith
 
 -- a run that comes back, several times over
-repeated_run : {S L : Type 0} (leads : L → S → S → Bool → Type 0) (u : List L) (p : S) (n : ℕ)
+pub repeated_run : {S L : Type 0} (leads : L → S → S → Bool → Type 0) (u : List L) (p : S) (n : ℕ)
     → Run leads u p p
     → Run leads (repeated n u) p p
 repeated_run leads u p zero run = refl

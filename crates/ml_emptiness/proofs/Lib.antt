@@ -22,3 +22,5 @@ pub mod Between
 pub mod Arcs
 -- rows with the same transitions
 pub mod SameRows
+-- whether a word is accepted is decided
+pub mod SomeLasso

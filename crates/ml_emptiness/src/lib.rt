@@ -12,6 +12,7 @@
 #![tactic(auto)]
 
 mod lassos;
+pub mod laws;
 mod leaving;
 mod pairs;
 mod searching;
