@@ -68,3 +68,5 @@ mod Strangers
 mod CheckedAnswers
 -- the word between a game and its solution
 mod WordPlaces
+-- each text with a solution has one answer
+pub mod OneChecked

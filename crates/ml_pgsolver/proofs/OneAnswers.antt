@@ -79,7 +79,7 @@ comes_so text (refusal.TooMany at) other is = is
 comes_so text (refusal.TooLarge at) other is = is
 comes_so text refusal.NoMemory other is = other refl
 
-one_cause : (c d : Cause) → rank c ≡ rank d → c ≡ d
+pub one_cause : (c d : Cause) → rank c ≡ rank d → c ≡ d
 one_cause Syntax Syntax is = refl
 one_cause Repeated Repeated is = refl
 one_cause TooMany TooMany is = refl
@@ -87,7 +87,7 @@ one_cause TooLarge TooLarge is = refl
 one_cause c d is = absurd (omega arith)
 
 -- both are the first
-both_first : (k j m n : ℕ) → (k < j) ⊎ ((k ≡ j) × (m ≤ n)) → (j < k) ⊎ ((j ≡ k) × (n ≤ m)) → (k ≡ j) × (m ≡ n)
+pub both_first : (k j m n : ℕ) → (k < j) ⊎ ((k ≡ j) × (m ≤ n)) → (j < k) ⊎ ((j ≡ k) × (n ≤ m)) → (k ≡ j) × (m ≡ n)
 both_first k j m n (inl low) (inl high) = absurd (omega arith)
 both_first k j m n (inl low) (inr (same, high)) = absurd (omega arith)
 both_first k j m n (inr (same, low)) (inl high) = absurd (omega arith)
@@ -151,7 +151,7 @@ successor_known rows g game r member n inside =
     let there = permuted-member owner.from game.order rows (IsPermutation-sym rows game.order game.reordered) owner.member in
     subst (λ k. IsMember k (map (λ (q : Row). q.id) rows)) (sym owner.holds) (member-map (λ (q : Row). q.id) owner.from rows there)
 
-roles-append : (role : ℕ → Token → List ℕ) (n : ℕ) (xs ys : List Token)
+pub roles-append : (role : ℕ → Token → List ℕ) (n : ℕ) (xs ys : List Token)
     → roles_from role n (xs ++ ys) ≡ roles_from role n xs ++ roles_from role (place_from n xs) ys
 roles-append role n [] ys = refl
 roles-append role n (x ∷ xs) ys =

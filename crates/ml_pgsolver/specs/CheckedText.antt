@@ -10,6 +10,9 @@
 --   behind text i             == the tokens behind the word at the byte i
 --   AreClaimsOf ids es cs     == for each of these vertices the claim of its entry, if it has one
 --   IsCheckedAs text named cs == the text stands for the game with these claims, and has no fault
+--   finding_of ids v          == what the check's verdict v says of the vertices with these ids
+--   IsFoundOf named cs f      == f is what the check finds of these claims
+--   IsFoundIn text f          == f is what it finds of those of the text
 --   IsCheckRefusedBy text e   == the text is refused with this answer
 use Rattle.std.specs.Prelude.{ℕ, zero, suc, ◌≡◌, ◌+◌, ◌-◌, ◌<◌, ◌≤◌, ◌==◌, ◌⊎◌, nat_eq, List, [], ◌∷◌, length, take, drop, Option, Some, None, MatchOption, if◌then◌else◌, codes}
 use Rattle.std.specs.List.{starts_with}
@@ -17,10 +20,15 @@ use Rattle.ml_lines.specs.Reading.{value}
 use Rattle.ml_lists.specs.Member.{IsMember}
 use Rattle.ml_game_check.specs.RightClaims.{Claims, claim_at}
 use Rattle.ml_game_check.specs.declared.claims.Claim.{Claim}
+use Rattle.ml_game_check.specs.Verdicts.{IsVerdict}
+use Rattle.ml_game_check.specs.declared.verdict.Verdict.{Verdict}
+use Rattle.ml_game_check.specs.declared.verdict.Verdict.TheVariants as verdict
 use Rattle.ml_pgsolver.specs.GameText.{NamedGame, id_at}
 use Rattle.ml_pgsolver.specs.Refusals.{Cause, HasNoFault, HasNoFaultIn, IsAt, IsFirstFaultIn, IsReadAs, IsRefusedBy, Repeated, Syntax, TooLarge, TooMany, offset_of, place_in}
 use Rattle.ml_pgsolver.specs.SolutionGrammar.{Entry, SolutionDraft, reference_at_place, solution_form, solution_tokens}
 use Rattle.ml_pgsolver.specs.Tokens.{Placed, Token, quoted, signs_of, spelling, tokens, tokens_at}
+use Rattle.ml_pgsolver.specs.declared.finding.Finding.{Finding}
+use Rattle.ml_pgsolver.specs.declared.finding.Finding.TheVariants as finding
 use Rattle.ml_pgsolver.specs.declared.refusal.GameTextRefusal.{GameTextRefusal}
 use Rattle.ml_pgsolver.specs.declared.refusal.GameTextRefusal.TheVariants as refusal
 
@@ -76,6 +84,24 @@ pub record IsCheckedAs (text : List ℕ) (named : NamedGame) (cs : Claims) : Typ
   pub spelled : signs_of (behind text word) ≡ solution_tokens draft
   pub faultless : HasNoFaultIn solution_form (signs_of (behind text word))
   pub claims : AreClaimsOf named.ids draft.entries cs
+
+-- ---- what a check finds
+
+-- by the vertices' ids
+abbrev pub finding_of : List ℕ → Verdict → Finding
+finding_of ids verdict.Right = finding.Accepted
+finding_of ids (verdict.Broken v rule) = finding.Rejected (id_at ids v) rule
+
+pub record IsFoundOf (named : NamedGame) (cs : Claims) (f : Finding) : Type 0 where
+  pub answer : Verdict
+  pub is_verdict : IsVerdict named.game cs answer
+  pub is_told : f ≡ finding_of named.ids answer
+
+pub record IsFoundIn (text : List ℕ) (f : Finding) : Type 0 where
+  pub named : NamedGame
+  pub claims : Claims
+  pub is_read : IsCheckedAs text named claims
+  pub is_found : IsFoundOf named claims f
 
 -- ---- where a text is refused
 

@@ -1,8 +1,11 @@
 -- What is true of texts and answers.
 --
 --   OneAnswer       == a text is read as one game, or is refused in one way, and never both
+--   OneCheckedAnswer == the same of a game's text with a solution behind it, and its claims
 --   SolutionOrFault == tokens are those of a solution without a fault, or have a first fault
 --   TokensAreLongest == each token stands where it is said to, and no longer one begins there
+use Rattle.ml_game_check.specs.RightClaims.{Claims}
+use Rattle.ml_pgsolver.specs.CheckedText.{IsCheckRefusedBy, IsCheckedAs}
 use Rattle.ml_pgsolver.specs.SolutionGrammar.{SolutionDraft, solution_form, solution_tokens}
 use Rattle.ml_pgsolver.specs.Tokens.{Placed, signs_of}
 use Rattle.std.specs.Prelude.{ℕ, ◌≡◌, ◌≢◌, ◌⊎◌, List}
@@ -26,6 +29,16 @@ pub record OneAnswer : Type 0 where
   -- what is read is refused by nothing but want of memory
   pub exclusive : (text : List ℕ) (g : NamedGame) (e : GameTextRefusal)
       → IsReadAs text g → IsRefusedBy text e → e ≡ refusal.NoMemory
+
+-- the same where a solution stands behind the game
+pub record OneCheckedAnswer : Type 0 where
+  -- such a text stands for one game with one list of claims at most
+  pub unambiguous : (text : List ℕ) (g h : NamedGame) (cs ds : Claims) → IsCheckedAs text g cs → IsCheckedAs text h ds
+      → (g ≡ h) × (cs ≡ ds)
+  pub refused : (text : List ℕ) (e d : GameTextRefusal) → e ≢ refusal.NoMemory → d ≢ refusal.NoMemory
+      → IsCheckRefusedBy text e → IsCheckRefusedBy text d → e ≡ d
+  pub exclusive : (text : List ℕ) (g : NamedGame) (cs : Claims) (e : GameTextRefusal)
+      → IsCheckedAs text g cs → IsCheckRefusedBy text e → e ≡ refusal.NoMemory
 
 abbrev pub SolutionOrFault : Type 0
 SolutionOrFault =

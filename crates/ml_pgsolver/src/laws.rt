@@ -1,6 +1,6 @@
 // What holds of texts and answers by their definitions alone: the functions do nothing, their contracts are the theorems.
 ghost use Rattle.std.specs.Prelude.{◌≡◌};
-ghost use Rattle.ml_pgsolver.specs.Laws.{IsUnambiguous, OneAnswer, SolutionOrFault};
+ghost use Rattle.ml_pgsolver.specs.Laws.{IsUnambiguous, OneAnswer, OneCheckedAnswer, SolutionOrFault};
 ghost use Rattle.ml_pgsolver.specs.Longest.{FrontIsLongest};
 ghost use Rattle.ml_pgsolver.specs.declared.limits.TheConstants as limit;
 
@@ -9,6 +9,13 @@ ghost use Rattle.ml_pgsolver.specs.declared.limits.TheConstants as limit;
 pub fn one_answer()
     ensures unambiguous { IsUnambiguous }
     ensures answer { OneAnswer }
+{}
+
+/// A game's text with a solution behind it stands for one game with one list of claims at most; it is read so or refused, never
+/// both, and but for want of memory it is refused in one way at most. So `read_checked` answers each exactly where it is said
+/// to come.
+pub fn one_checked_answer()
+    ensures { OneCheckedAnswer }
 {}
 
 /// The token at the front of a text is the longest one of the grammar with which the text begins; a byte that begins none

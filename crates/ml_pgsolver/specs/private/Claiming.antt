@@ -10,10 +10,13 @@
 --   IsBehindName text i j    == j is the byte behind the one at i, and behind the name that begins there
 --   stranger_from ids end n ts == the byte of the first sign that ought to be an id and is none, where n tokens stand behind
 --                               the last `;`, or the end
+--   IsInside ids v           == the vertex that the verdict v names is one of those with these ids
 use Rattle.std.specs.Prelude.{ℕ, ◌≡◌, ◌+◌, ◌<◌, Bool, true, false, ◌==◌, ◌&&◌, ◌||◌, List, [], ◌∷◌, length, get_or, drop, Option, Some, None, if◌then◌else◌}
 use Rattle.ml_lists.specs.Member.{IsMember}
 use Rattle.ml_game_check.specs.RightClaims.{Claims, claim_at}
 use Rattle.ml_game_check.specs.declared.claims.Claim.{Claim}
+use Rattle.ml_game_check.specs.declared.verdict.Verdict.{Verdict}
+use Rattle.ml_game_check.specs.declared.verdict.Verdict.TheVariants as verdict
 use Rattle.ml_pgsolver.specs.CheckedText.{inside_name}
 use Rattle.ml_pgsolver.specs.GameText.{id_at}
 use Rattle.ml_pgsolver.specs.declared.entries.EntryRow.{EntryRow}
@@ -71,3 +74,8 @@ unfoldable pub stranger_from : List ℕ → ℕ → ℕ → List (Sign × ℕ) �
 stranger_from ids end n [] = end
 stranger_from ids end n (t ∷ ts) =
     if is_reference n && is_unknown ids t.0 then t.1 else stranger_from ids end (sign_place n t.0) ts
+
+-- the vertex that a verdict names is one of those with these ids
+abbrev pub IsInside : List ℕ → Verdict → Type 0
+IsInside ids verdict.Right = Unit {0}
+IsInside ids (verdict.Broken v rule) = v < length ids

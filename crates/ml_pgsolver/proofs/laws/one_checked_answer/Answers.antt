@@ -1,0 +1,5 @@
+use Rattle.ml_pgsolver.proofs.OneChecked.{never_both_checked, one_checked, one_check_refusal}
+use Rattle.ml_pgsolver.proofs.laws.one_checked_answer.Goals as goal
+
+pub returns : goal.returns
+returns c = record { unambiguous = one_checked; refused = one_check_refusal; exclusive = never_both_checked }
