@@ -179,9 +179,7 @@ impl<'a> Engine<'a> {
     ) -> Result<Outcome, NoMemory> {
         if tried {
             self.known.set_level(level.saturating_sub(1));
-            return self
-                .known
-                .query(self.sequents.nodes(sequent), &[], thread);
+            return self.known.query(self.sequents.nodes(sequent), &[], thread);
         }
         self.known.set_level(NONE);
         self.known

@@ -226,10 +226,7 @@ impl<'a> Engine<'a> {
     /// Any leaf of a sequent without threads.
     fn end_none(&mut self, sequent: u32) -> Result<Reached, NoMemory> {
         self.known.take_good()?;
-        match self
-            .known
-            .query(self.sequents.nodes(sequent), &[], NONE)?
-        {
+        match self.known.query(self.sequents.nodes(sequent), &[], NONE)? {
             Outcome::Leaf => match self.leaf(sequent)? {
                 Some(leaf) => {
                     self.pairs.solve((sequent, NONE), leaf)?;
