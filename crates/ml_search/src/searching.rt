@@ -17,6 +17,7 @@ use ml_base::NoMemory;
 use ml_graph::ModalGraph;
 use ml_kripke::Model;
 use ml_refutation::{Entry, Lists};
+use ml_search_cores::Candidate;
 use std::alloc::Global;
 
 /// A structure that passes its check; `None` where it doesn't.
@@ -50,6 +51,25 @@ fn checked_refutation(
     }
 }
 
+/// A candidate of the searches that learn, if it passes its check.
+fn checked(
+    alloc: Global,
+    graph: &ModalGraph,
+    candidate: Candidate,
+) -> Result<Option<Found>, NoMemory>
+    ensures { IfOk result (λ found. IfSome found (IsFound graph.now)) }
+{
+    match candidate {
+        Candidate::Model(model) => checked_model(alloc, graph, model),
+        Candidate::Refutation {
+            names,
+            sequents,
+            stacks,
+            entries,
+        } => checked_refutation(alloc, graph, names, sequents, stacks, entries),
+    }
+}
+
 /// What is found where structures are words.
 fn sought_by_frames(
     alloc: Global,
@@ -59,14 +79,36 @@ fn sought_by_frames(
     ensures { IfOk result (λ found. IfSome found (IsFound graph.now)) }
 {
     match ml_search_frames::candidate(alloc, graph, limit)? {
-        Some(ml_search_frames::Candidate::Model(model)) => checked_model(alloc, graph, model),
-        Some(ml_search_frames::Candidate::Refutation {
-            names,
-            sequents,
-            stacks,
-            entries,
-        }) => checked_refutation(alloc, graph, names, sequents, stacks, entries),
+        Some(candidate) => checked(alloc, graph, candidate),
         None => Ok(None),
+    }
+}
+
+/// What is found where threads are weak.
+fn sought_by_focus(
+    alloc: Global,
+    graph: &ModalGraph,
+    limit: u32,
+) -> Result<Option<Found>, NoMemory>
+    ensures { IfOk result (λ found. IfSome found (IsFound graph.now)) }
+{
+    match ml_search_focus::candidate(alloc, graph, limit)? {
+        Some(candidate) => checked(alloc, graph, candidate),
+        None => Ok(None),
+    }
+}
+
+/// What the searches that learn find.
+fn sought_by_learning(
+    alloc: Global,
+    graph: &ModalGraph,
+    limit: u32,
+) -> Result<Option<Found>, NoMemory>
+    ensures { IfOk result (λ found. IfSome found (IsFound graph.now)) }
+{
+    match sought_by_frames(alloc, graph, limit)? {
+        Some(found) => Ok(Some(found)),
+        None => sought_by_focus(alloc, graph, limit),
     }
 }
 
@@ -105,7 +147,7 @@ pub fn seek(alloc: Global, graph: &ModalGraph, limit: u32) -> Result<Option<Foun
     requires some { 1 ≤ limit }
     ensures { IfOk result (λ found. IfSome found (IsFound graph.now)) }
 {
-    match sought_by_frames(alloc, graph, limit)? {
+    match sought_by_learning(alloc, graph, limit)? {
         Some(found) => Ok(Some(found)),
         None => sought_by_rounds(alloc, graph, limit),
     }

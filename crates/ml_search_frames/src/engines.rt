@@ -1,13 +1,10 @@
 // The search as a whole: the path grows or is taken back, until a lasso closes or nothing is left.
-use crate::candidates::Candidate;
 use crate::paths::Path;
 use ml_base::NoMemory;
 use ml_graph::{ModalGraph, Node};
-use ml_search_local::{FOR_GOOD, NONE, NodeSet, Outcome, Solver, Terms, number, row};
+use ml_search_cores::{Candidate, Knowledge};
+use ml_search_local::{NONE, Outcome, row};
 use std::alloc::Global;
-
-/// How many steps of the solver are made for each position of the limit.
-const STEPS: u64 = 4096;
 
 /// A sequent at which a thread is to be ended within so many steps, and the leaf that was found there.
 #[derive(Drop)]
@@ -20,28 +17,14 @@ pub(crate) struct Stage {
     pub on: Vec<u32>,
 }
 
-/// What is known of a graph.
+/// The search in a graph.
 #[derive(Drop)]
 pub(crate) struct Engine<'a> {
-    pub terms: Terms<'a>,
-    pub solver: Solver,
+    pub known: Knowledge<'a>,
     pub path: Path,
     pub stack: Vec<Stage>,
-    /// Of each thread the cores of its frames.
-    pub frames: Vec<Vec<u32>>,
-    /// Of each group its cores, as those of the group.
-    pub twins: Vec<Vec<u32>>,
-    /// The number of the last group.
-    pub now: u32,
     /// The squares along which the thread that is sought to be ended would go on.
     pub later: Vec<u32>,
-    /// Cores that are looked at one after the other.
-    pub listed: Vec<u32>,
-    /// Cores that refute each other.
-    pub set: NodeSet,
-    /// Those that are to be settled.
-    pub part: NodeSet,
-    fuel: u64,
 }
 
 /// What the search came to.
@@ -71,47 +54,36 @@ impl<'a> Engine<'a> {
     /// Nothing is known yet.
     pub(crate) fn empty(alloc: Global, graph: &'a ModalGraph, limit: u32) -> Engine<'a> {
         Engine {
-            terms: Terms::empty(alloc, graph),
-            solver: Solver::empty(alloc),
+            known: Knowledge::empty(alloc, graph, limit),
             path: Path::empty(alloc),
             stack: Vec::new(alloc),
-            frames: Vec::new(alloc),
-            twins: Vec::new(alloc),
-            now: 0,
             later: Vec::new(alloc),
-            listed: Vec::new(alloc),
-            set: NodeSet::empty(alloc),
-            part: NodeSet::empty(alloc),
-            fuel: STEPS.saturating_mul(limit as u64),
         }
     }
 
     /// The search, if the graph is one of those.
     pub(crate) fn run(&mut self) -> Result<Option<Candidate>, NoMemory> {
-        self.terms.fill()?;
+        self.known.terms.fill()?;
         if !self.fits() {
             return Ok(None);
         }
         self.begin()?;
         match self.search()? {
             Verdict::Lasso(back) => self.model(back),
-            Verdict::Refuted => {
-                self.refuel();
-                self.refutation()
-            }
+            Verdict::Refuted => self.known.refutation(),
             Verdict::GaveUp => Ok(None),
         }
     }
 
     /// Has the graph one diamond, which stands in each sequent, and does each thread stay at one node?
     fn fits(&self) -> bool {
-        let traces = &self.terms.traces;
-        if self.terms.always == NONE || !traces.is_weak || traces.has_local_cycles {
+        let traces = &self.known.terms.traces;
+        if self.known.terms.always == NONE || !traces.is_weak || traces.has_local_cycles {
             return false;
         }
         let mut diamonds: u32 = 0;
-        for n in 0..self.terms.size {
-            let to = match self.terms.node(n) {
+        for n in 0..self.known.terms.size {
+            let to = match self.known.terms.node(n) {
                 Node::Diamond { to, .. } => {
                     diamonds = diamonds.saturating_add(1);
                     to
@@ -119,26 +91,19 @@ impl<'a> Engine<'a> {
                 Node::Square { to, .. } => to,
                 _ => continue,
             };
-            if self.terms.threads(n, to) && !traces.is_simple(to) {
+            if self.known.terms.threads(n, to) && !traces.is_simple(to) {
                 return false;
             }
         }
         diamonds == 1
     }
 
-    fn refuel(&mut self) {
-        self.solver.branch.fuel = self.fuel;
-    }
-
     /// The path begins at the root.
     fn begin(&mut self) -> Result<(), NoMemory> {
-        let alloc = self.terms.alloc;
-        self.solver.fill(&self.terms, self.fuel)?;
-        for _ in 0..self.terms.size {
-            self.frames.push(Vec::new(alloc))?;
-        }
-        let root = self.terms.graph.root();
-        self.path.begin(&self.terms, vec![in alloc; root]?)
+        let alloc = self.known.terms.alloc;
+        self.known.fill()?;
+        let root = self.known.terms.graph.root();
+        self.path.begin(&self.known.terms, vec![in alloc; root]?)
     }
 
     /// Rounds, until something is found or enough is done.
@@ -156,8 +121,8 @@ impl<'a> Engine<'a> {
         if self.path.places.is_empty() {
             return Ok(Some(Verdict::Refuted));
         }
-        self.solver.branch.spend(self.path.places.len() as u64);
-        let thread = self.path.oldest(&self.terms);
+        self.known.spend(self.path.places.len());
+        let thread = self.path.oldest(&self.known.terms);
         let reached = if thread == NONE {
             self.step_on()?
         } else {
@@ -176,18 +141,15 @@ impl<'a> Engine<'a> {
 
     /// Any leaf at the last place.
     fn step_on(&mut self) -> Result<Reached, NoMemory> {
-        self.solver.set_owner(&self.terms, FOR_GOOD, &[])?;
+        self.known.take_good()?;
         self.stand_at_last(0)?;
-        match self
-            .solver
-            .query(&self.terms, self.path.last(), &[], NONE, NONE)?
-        {
+        match self.known.query(self.path.last(), &[], NONE)? {
             Outcome::Leaf => {
                 self.note_leaf(0)?;
                 Ok(Reached::Found)
             }
             Outcome::Closed => {
-                self.learn()?;
+                self.known.learn()?;
                 Ok(Reached::Refuted)
             }
             Outcome::Out => Ok(Reached::Out),
@@ -196,7 +158,7 @@ impl<'a> Engine<'a> {
 
     /// The stages begin with the sequent of the last place.
     pub(crate) fn stand_at_last(&mut self, level: u32) -> Result<(), NoMemory> {
-        let alloc = self.terms.alloc;
+        let alloc = self.known.terms.alloc;
         self.stack.clear();
         self.stack.push(Stage {
             nodes: Vec::from_slice(alloc, self.path.last())?,
@@ -209,8 +171,8 @@ impl<'a> Engine<'a> {
 
     /// Notes the leaf at which the branch stands, with a stage for its next sequent.
     pub(crate) fn note_leaf(&mut self, level: u32) -> Result<(), NoMemory> {
-        self.solver.keep_phases();
-        let alloc = self.terms.alloc;
+        self.known.solver.keep_phases();
+        let alloc = self.known.terms.alloc;
         let mut next = Stage {
             nodes: Vec::new(alloc),
             level,
@@ -218,7 +180,7 @@ impl<'a> Engine<'a> {
             on: Vec::new(alloc),
         };
         self.write_targets(&mut next.nodes)?;
-        self.solver.branch.spend(next.nodes.len() as u64);
+        self.known.spend(next.nodes.len());
         self.write_leaf(&next.nodes)?;
         self.stack.push(next)?;
         Ok(())
@@ -226,9 +188,9 @@ impl<'a> Engine<'a> {
 
     /// The targets of the squares that stand, ascending.
     fn write_targets(&self, nodes: &mut Vec<u32>) -> Result<(), NoMemory> {
-        for n in &self.solver.branch.modals {
-            if let Node::Square { to, .. } = self.terms.node(*n) {
-                if self.terms.node(to) != Node::True {
+        for n in &self.known.solver.branch.modals {
+            if let Node::Square { to, .. } = self.known.terms.node(*n) {
+                if self.known.terms.node(to) != Node::True {
                     nodes.push(to)?;
                 }
             }
@@ -243,8 +205,8 @@ impl<'a> Engine<'a> {
         let Some(stage) = self.stack.last_mut() else {
             return Ok(());
         };
-        write_labels(&self.terms, &self.solver, &mut stage.labels)?;
-        write_threads(&self.terms, &self.solver, nodes, &mut stage.on)
+        write_labels(&self.known, &mut stage.labels)?;
+        write_threads(&self.known, nodes, &mut stage.on)
     }
 
     /// The stages become places of the path.
@@ -258,8 +220,8 @@ impl<'a> Engine<'a> {
     }
 
     fn adopt_one(&mut self, i: usize) -> Result<Option<u32>, NoMemory> {
-        let alloc = self.terms.alloc;
-        self.solver.branch.spend(self.path.places.len() as u64);
+        let alloc = self.known.terms.alloc;
+        self.known.spend(self.path.places.len());
         let Some(stage) = self.stack.get_mut(i.saturating_sub(1)) else {
             return Ok(None);
         };
@@ -269,18 +231,19 @@ impl<'a> Engine<'a> {
             return Ok(None);
         };
         let nodes = std::mem::replace(&mut stage.nodes, Vec::new(alloc));
-        self.path.go(&self.terms, labels, &on, nodes)
+        self.path.go(&self.known.terms, labels, &on, nodes)
     }
 
     /// One step to where it isn't known that the thread can't be ended.
     fn walk(&mut self, thread: u32) -> Result<Option<Verdict>, NoMemory> {
-        let level = self.blocked(thread).saturating_sub(1);
+        let level = self
+            .known
+            .blocked(thread, self.path.last())
+            .saturating_sub(1);
         for i in 0..2 {
             self.stand_at_last(0)?;
-            self.solver.branch.watches.min_level = level.saturating_add(i);
-            let outcome = self
-                .solver
-                .query(&self.terms, self.path.last(), &[], thread, NONE)?;
+            self.known.set_level(level.saturating_add(i));
+            let outcome = self.known.query(self.path.last(), &[], thread)?;
             if outcome == Outcome::Leaf {
                 self.note_leaf(0)?;
                 return self.adopt();
@@ -288,27 +251,13 @@ impl<'a> Engine<'a> {
         }
         Ok(Some(Verdict::GaveUp))
     }
-
-    /// Learns what is refuted for good, without going round.
-    pub(crate) fn learn(&mut self) -> Result<(), NoMemory> {
-        self.now = self.now.saturating_add(1);
-        let nodes = Vec::from_slice(self.terms.alloc, &self.solver.roots)?;
-        let tree = self.solver.tree;
-        let id = self
-            .solver
-            .put(&self.terms, nodes, NONE, FOR_GOOD, self.now)?;
-        if let Some(core) = self.solver.branch.watches.cores.at_mut(id) {
-            core.tree = tree;
-        }
-        Ok(())
-    }
 }
 
 /// Writes the positive literals that stand.
-fn write_labels(t: &Terms, solver: &Solver, labels: &mut Vec<u32>) -> Result<(), NoMemory> {
+fn write_labels(known: &Knowledge, labels: &mut Vec<u32>) -> Result<(), NoMemory> {
     labels.clear();
-    for n in &solver.branch.literals {
-        if let Node::Lit { positive: true, .. } = t.node(*n) {
+    for n in &known.solver.branch.literals {
+        if let Node::Lit { positive: true, .. } = known.terms.node(*n) {
             labels.push(*n)?;
         }
     }
@@ -316,15 +265,10 @@ fn write_labels(t: &Terms, solver: &Solver, labels: &mut Vec<u32>) -> Result<(),
 }
 
 /// Writes the threads among next nodes that go on.
-fn write_threads(
-    t: &Terms,
-    solver: &Solver,
-    nodes: &[u32],
-    on: &mut Vec<u32>,
-) -> Result<(), NoMemory> {
+fn write_threads(known: &Knowledge, nodes: &[u32], on: &mut Vec<u32>) -> Result<(), NoMemory> {
     on.clear();
     for n in nodes {
-        if t.component(*n) != 0 && goes_on(t, solver, *n) {
+        if known.terms.component(*n) != 0 && goes_on(known, *n) {
             on.push(*n)?;
         }
     }
@@ -332,16 +276,11 @@ fn write_threads(
 }
 
 /// Does a thread go on along a square that stands?
-fn goes_on(t: &Terms, solver: &Solver, n: u32) -> bool {
-    for square in row(&t.squares_to, n) {
-        if t.threads(*square, n) && solver.branch.stands(*square) {
+fn goes_on(known: &Knowledge, n: u32) -> bool {
+    for square in row(&known.terms.squares_to, n) {
+        if known.terms.threads(*square, n) && known.solver.branch.stands(*square) {
             return true;
         }
     }
     false
-}
-
-/// The number of a core among those of a list.
-pub(crate) fn core_at(cores: &[u32], i: usize) -> u32 {
-    number(cores, ml_search_local::small(i))
 }

@@ -5,30 +5,22 @@
 // it is safe and that it ends.
 //
 // A path of sequents grows (`paths`). At its last place the eventuality that waits longest is sought to be ended (`reaching`):
-// a query asks for a leaf that ends it within so many steps; what can't is learned as a core of a frame, and cores are tried
-// one frame higher, until some refute each other (`concluding`) and are settled for good (`settling`). A lasso that closes
-// is a model (`models`), a core of the root a refutation (`refutations`, with decisions from the trees of `ml_search_local`).
+// a query asks for a leaf that ends it within so many steps, and what can't is learned (`ml_search_cores`). A lasso that
+// closes is a model (`models`); a core of the root makes a refutation.
 //
-// Source: Bradley, SAT-based model checking without unrolling (2011); Li and others, SAT-based explicit LTL reasoning (2015).
-//
-// Below stand the solver (`ml_search_local`), graphs (`ml_graph`), parity games (`ml_parity`), and what candidates are made
-// of (`ml_kripke`, `ml_refutation`).
+// Below stand what is learned (`ml_search_cores`) and the solver (`ml_search_local`), graphs (`ml_graph`), and what candidates
+// are made of (`ml_kripke`).
 #![tactic(auto)]
 
-mod candidates;
-mod concluding;
-mod decisions;
 mod engines;
 mod models;
 mod paths;
 mod reaching;
-mod refutations;
-mod settling;
 
 use crate::engines::Engine;
-pub use candidates::Candidate;
 use ml_base::NoMemory;
 use ml_graph::ModalGraph;
+use ml_search_cores::Candidate;
 use std::alloc::Global;
 
 /// A candidate for an answer; `None` where the graph isn't one of those, or the search gives up.

@@ -1,9 +1,9 @@
 // The structure of a lasso.
-use crate::candidates::Candidate;
 use crate::engines::Engine;
 use ml_base::{Action, Edge, Name, NoMemory};
 use ml_graph::Node;
 use ml_kripke::{Model, Structure, StructureRefusal};
+use ml_search_cores::Candidate;
 use ml_search_local::{Terms, small};
 
 /// Adds the labels of a state.
@@ -39,7 +39,7 @@ fn push_edge(t: &Terms, source: u32, target: u32, edges: &mut Vec<Edge>) -> Resu
 impl<'a> Engine<'a> {
     /// The structure of the path, whose last place leads back to this one.
     pub(crate) fn model(&self, back: u32) -> Result<Option<Candidate>, NoMemory> {
-        let alloc = self.terms.alloc;
+        let alloc = self.known.terms.alloc;
         let mut labels = Vec::new(alloc);
         let mut edges = Vec::new(alloc);
         self.write_states(back, &mut labels, &mut edges)?;
@@ -65,13 +65,13 @@ impl<'a> Engine<'a> {
         let states = self.path.places.len();
         for (i, place) in self.path.places.iter().enumerate() {
             let state = small(i);
-            push_labels(&self.terms, state, &place.labels, labels)?;
+            push_labels(&self.known.terms, state, &place.labels, labels)?;
             let next = if i.saturating_add(1) == states {
                 back
             } else {
                 state.saturating_add(1)
             };
-            push_edge(&self.terms, state, next, edges)?;
+            push_edge(&self.known.terms, state, next, edges)?;
         }
         Ok(())
     }

@@ -99,7 +99,8 @@ pub struct Branch {
     pub(crate) units: Vec<u32>,
     /// Why the spread clashes.
     pub clash: Option<Clash>,
-    /// Only clashes that stand end the branch: that a node can't hold doesn't.
+    /// Only clashes that stand end the branch, and each side is chosen: that a node can't hold, or has one node as both
+    /// sides, doesn't count.
     pub is_patient: bool,
     /// The thread that is followed.
     pub focus: u32,

@@ -33,7 +33,7 @@ pub struct Core {
     pub tree: u32,
     /// The cores on which this rests.
     pub used: Vec<u32>,
-    /// The core that stands in place of this one, or `NONE`.
+    /// The core that stands in place of this one, or `NONE`: also the first one of the same nodes along other actions.
     pub redirect: u32,
     /// Only the nodes of `need` count in an analysis.
     pub is_narrow: bool,

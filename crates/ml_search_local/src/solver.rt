@@ -151,7 +151,7 @@ impl Solver {
         self.trees.at(tree)
     }
 
-    /// Adds a core of these nodes, which ascend. Its thread is watched as such where it has an owner; a core for good is
+    /// Adds a core of these nodes, which ascend, along an action. Its thread is watched as such where it has an owner; a core for good is
     /// active for those that are born later.
     ///
     /// # Errors
@@ -161,6 +161,7 @@ impl Solver {
     pub fn put(
         &mut self,
         t: &Terms,
+        action: u32,
         nodes: Vec<u32>,
         thread: u32,
         owner: u32,
@@ -168,7 +169,7 @@ impl Solver {
     ) -> Result<u32, NoMemory> {
         self.branch.undo(t, 0);
         self.branch.spend(nodes.len() as u64);
-        let id = self.branch.watches.add(t, nodes, thread, owner, born)?;
+        let id = self.branch.watches.add(t, action, nodes, thread, owner, born)?;
         if let Some(core) = self.branch.watches.cores.at_mut(id) {
             core.thread = thread;
         }

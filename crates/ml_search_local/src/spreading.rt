@@ -102,9 +102,9 @@ impl Branch {
                 self.trace_to(t, n, right)
             }
             Node::Or { left, right } => match self.side(n) {
-                0 if left != right => Ok(()),
+                1 => self.trace_to(t, n, left),
                 2 => self.trace_to(t, n, right),
-                _ => self.trace_to(t, n, left),
+                _ => Ok(()),
             },
             Node::Square { action, to } if t.threads(n, to) => {
                 let place = t.place(action, to).saturating_add(t.size);
@@ -208,9 +208,10 @@ impl Branch {
         }
     }
 
+    /// Where both sides are one node it is chosen, but for who is patient.
     fn take_or(&mut self, t: &Terms, n: u32, left: u32, right: u32) -> Result<(), NoMemory> {
         self.ors.push(n)?;
-        if left == right {
+        if left == right && !self.is_patient {
             self.set_side(n, 1);
             self.change(Change::Chosen(n))?;
             self.work.push((left, n))?;

@@ -119,10 +119,11 @@ impl Watches {
         }
     }
 
-    /// Adds a core of these nodes, which ascend, for an owner; its thread, where it has an owner, is watched as such.
+    /// Adds a core of these nodes, which ascend, along an action, for an owner; its thread, where it has an owner, is watched as such.
     pub(crate) fn add(
         &mut self,
         t: &Terms,
+        action: u32,
         nodes: Vec<u32>,
         thread: u32,
         owner: u32,
@@ -139,7 +140,7 @@ impl Watches {
                 })?;
             }
         }
-        let id = self.cores.push(0, nodes, watched, owner, born)?;
+        let id = self.cores.push(action, nodes, watched, owner, born)?;
         self.home(t, id)?;
         Ok(id)
     }

@@ -1,33 +1,47 @@
-// Whether cores of a thread's frames refute each other, and with them the last place.
-use crate::engines::{Engine, Reached, core_at};
-use crate::reaching::{lies_within, owner_of};
+// Whether cores of a component's frames refute each other, and with them a sequent.
+use crate::knowing::{Knowledge, core_at, lies_within, owner_of};
 use ml_base::NoMemory;
 use ml_search_local::{FOR_GOOD, NONE, row, signature};
 
-impl<'a> Engine<'a> {
-    /// Settles the cores on which one within the last place rests, if they refute each other.
-    pub(crate) fn conclude(&mut self, thread: u32) -> Result<Reached, NoMemory> {
-        self.gather(thread)?;
+/// What came of an attempt to settle cores.
+#[derive(Clone, Copy, PartialEq, Eq)]
+pub enum Concluded {
+    /// Some are settled, one of them within the sequent.
+    Settled,
+    /// None refutes the sequent yet.
+    Open,
+    /// Enough was done.
+    Out,
+}
+
+impl<'a> Knowledge<'a> {
+    /// Settles the cores on which one of the thread's within these nodes rests, if they refute each other.
+    ///
+    /// # Errors
+    /// `NoMemory` alone.
+    pub fn conclude(&mut self, thread: u32, nodes: &[u32]) -> Result<Concluded, NoMemory> {
+        let component = self.terms.component(thread);
+        self.gather(component)?;
         for _ in 0..u64::MAX {
-            if self.solver.branch.fuel == 0 {
-                return Ok(Reached::Out);
+            if self.is_out() {
+                return Ok(Concluded::Out);
             }
-            if !self.thin_out(thread) {
+            if !self.thin_out(component) {
                 break;
             }
         }
-        let top = self.first_within();
+        let top = self.first_within(thread, nodes);
         if top == NONE {
-            return Ok(Reached::Blocked);
+            return Ok(Concluded::Open);
         }
-        self.gather_part(thread, top)?;
-        self.settle(thread)
+        self.gather_part(component, top)?;
+        self.settle(component)
     }
 
     /// All cores of the frames that were closed.
-    fn gather(&mut self, thread: u32) -> Result<(), NoMemory> {
+    fn gather(&mut self, component: u32) -> Result<(), NoMemory> {
         self.set.clear();
-        for id in row(&self.frames, thread) {
+        for id in row(&self.frames, component) {
             if let Some(core) = self.solver.branch.watches.cores.at(*id) {
                 if core.tree != NONE {
                     self.set.insert(*id)?;
@@ -38,13 +52,13 @@ impl<'a> Engine<'a> {
     }
 
     /// Takes out cores that use one that isn't there; tells whether there were such.
-    fn thin_out(&mut self, thread: u32) -> bool {
+    fn thin_out(&mut self, component: u32) -> bool {
         let mut has_changed = false;
         let count = self.set.list().len();
         self.solver.branch.spend(count as u64);
         for i in 0..count {
             let id = core_at(self.set.list(), i);
-            if self.set.has(id) && !self.rests_on_set(thread, id) {
+            if self.set.has(id) && !self.rests_on_set(component, id) {
                 self.set.remove(id);
                 has_changed = true;
             }
@@ -53,7 +67,7 @@ impl<'a> Engine<'a> {
     }
 
     /// Uses a core only those that are there, and those for good?
-    fn rests_on_set(&self, thread: u32, id: u32) -> bool {
+    fn rests_on_set(&self, component: u32, id: u32) -> bool {
         let cores = &self.solver.branch.watches.cores;
         let Some(core) = cores.at(id) else {
             return false;
@@ -61,21 +75,20 @@ impl<'a> Engine<'a> {
         for used in &core.used {
             let used = cores.resolve(*used);
             let owner = cores.owner(used);
-            if owner != FOR_GOOD && (owner != owner_of(thread) || !self.set.has(used)) {
+            if owner != FOR_GOOD && (owner != owner_of(component) || !self.set.has(used)) {
                 return false;
             }
         }
         true
     }
 
-    /// A core that is there and lies within the last place.
-    fn first_within(&self) -> u32 {
-        let nodes = self.path.last();
+    /// A core of the thread that is there and lies within these nodes.
+    fn first_within(&self, thread: u32, nodes: &[u32]) -> u32 {
         let bits = signature(nodes);
         for id in self.set.list() {
             if self.set.has(*id) {
                 if let Some(core) = self.solver.branch.watches.cores.at(*id) {
-                    if lies_within(core, nodes, bits) {
+                    if core.thread == thread && lies_within(core, nodes, bits) {
                         return *id;
                     }
                 }
@@ -85,7 +98,7 @@ impl<'a> Engine<'a> {
     }
 
     /// The cores on which one rests.
-    fn gather_part(&mut self, thread: u32, top: u32) -> Result<(), NoMemory> {
+    fn gather_part(&mut self, component: u32, top: u32) -> Result<(), NoMemory> {
         self.part.clear();
         self.part.insert(top)?;
         for i in 0..usize::MAX {
@@ -93,19 +106,19 @@ impl<'a> Engine<'a> {
                 break;
             }
             let id = core_at(self.part.list(), i);
-            self.gather_used(thread, id)?;
+            self.gather_used(component, id)?;
         }
         Ok(())
     }
 
-    fn gather_used(&mut self, thread: u32, id: u32) -> Result<(), NoMemory> {
+    fn gather_used(&mut self, component: u32, id: u32) -> Result<(), NoMemory> {
         let cores = &self.solver.branch.watches.cores;
         let Some(core) = cores.at(id) else {
             return Ok(());
         };
         for used in &core.used {
             let used = cores.resolve(*used);
-            if cores.owner(used) == owner_of(thread) {
+            if cores.owner(used) == owner_of(component) {
                 self.part.insert(used)?;
             }
         }

@@ -1,7 +1,7 @@
 // The refutation: an entry for each core for good that is met, from that of the root on.
 use crate::candidates::Candidate;
 use crate::decisions::Making;
-use crate::engines::Engine;
+use crate::knowing::{Knowledge, write_copies};
 use crate::settling::owner_of_group;
 use ml_base::NoMemory;
 use ml_parity::{Arc, OneSided, heights};
@@ -131,7 +131,7 @@ fn push_item(t: &Terms, thread: u32, items: &mut Vec<Item>) -> Result<(), NoMemo
 /// Writes the sequent of a core: its nodes, with the one that says that there is a next state.
 fn write_sequent(t: &Terms, core: &Core, nodes: &mut Vec<u32>) -> Result<(), NoMemory> {
     nodes.clear();
-    if core.nodes.as_slice() != [t.graph.root()].as_slice() {
+    if t.always != NONE && core.nodes.as_slice() != [t.graph.root()].as_slice() {
         nodes.push(t.always)?;
     }
     nodes.extend_from_slice(&core.nodes)?;
@@ -176,9 +176,15 @@ impl Tables {
     }
 }
 
-impl<'a> Engine<'a> {
+impl<'a> Knowledge<'a> {
     /// The refutation of a root that is refuted; `None` where it can't be had.
-    pub(crate) fn refutation(&mut self) -> Result<Option<Candidate>, NoMemory> {
+    ///
+    /// # Errors
+    /// `NoMemory` alone.
+    ///
+    /// Cost: at most as much as may be done at first.
+    pub fn refutation(&mut self) -> Result<Option<Candidate>, NoMemory> {
+        self.refuel();
         let alloc = self.terms.alloc;
         let start = self.root_core();
         if start == NONE {
@@ -197,12 +203,11 @@ impl<'a> Engine<'a> {
     fn root_core(&self) -> u32 {
         let root = self.terms.graph.root();
         let mut last = NONE;
-        for (i, core) in self.solver.branch.watches.cores.all.iter().enumerate() {
-            if core.owner == FOR_GOOD
-                && core.tree != NONE
-                && core.nodes.iter().all(|n| *n == root)
-            {
-                last = ml_search_local::small(i);
+        for id in &self.good {
+            if let Some(core) = self.solver.branch.watches.cores.at(*id) {
+                if core.nodes.iter().all(|n| *n == root) {
+                    last = *id;
+                }
             }
         }
         last

@@ -1,0 +1,299 @@
+// The search as a whole: what is required is walked again and again, until all of it is ended, or the root is refuted.
+use crate::blocking::Call;
+use crate::leaves::{Leaf, is_thread_step, write_leaf};
+use crate::pairs::Pairs;
+use crate::sequents::Sequents;
+use ml_base::NoMemory;
+use ml_graph::ModalGraph;
+use ml_search_cores::{Candidate, Concluded, Knowledge};
+use ml_search_local::{NONE, Outcome, Terms, flag, set_flag};
+use std::alloc::Global;
+
+/// The search in a graph.
+#[derive(Drop)]
+pub(crate) struct Engine<'a> {
+    pub known: Knowledge<'a>,
+    pub sequents: Sequents,
+    pub pairs: Pairs,
+    pub calls: Vec<Call>,
+    /// The modal nodes along which threads of a component go on.
+    pub later: Vec<u32>,
+    /// How many cores for good were known when pairs were taken back.
+    cleaned: usize,
+    /// The sequents that are required, in the order in which they are met.
+    order: Vec<u32>,
+    seen: Vec<bool>,
+}
+
+/// What came of a thread at a sequent.
+#[derive(Clone, Copy, PartialEq, Eq)]
+pub(crate) enum Reached {
+    /// It is ended.
+    Won,
+    /// It can't be ended within so many steps.
+    Blocked,
+    /// The sequent is refuted.
+    Refuted,
+    /// Enough was done, or a thread goes to two nodes.
+    Out,
+}
+
+/// What the search came to.
+#[derive(Clone, Copy, PartialEq, Eq)]
+enum Verdict {
+    Satisfiable,
+    Refuted,
+    GaveUp,
+    /// More is known.
+    Again,
+    /// This is done.
+    GoesOn,
+}
+
+impl<'a> Engine<'a> {
+    /// Nothing is known yet.
+    pub(crate) fn empty(alloc: Global, graph: &'a ModalGraph, limit: u32) -> Engine<'a> {
+        Engine {
+            known: Knowledge::empty(alloc, graph, limit),
+            sequents: Sequents::empty(alloc),
+            pairs: Pairs::empty(alloc),
+            calls: Vec::new(alloc),
+            later: Vec::new(alloc),
+            cleaned: 0,
+            order: Vec::new(alloc),
+            seen: Vec::new(alloc),
+        }
+    }
+
+    /// The search, if the graph is one of those.
+    pub(crate) fn run(&mut self) -> Result<Option<Candidate>, NoMemory> {
+        self.known.terms.fill()?;
+        let traces = &self.known.terms.traces;
+        if !traces.is_weak || traces.has_local_cycles {
+            return Ok(None);
+        }
+        self.known.fill()?;
+        match self.search()? {
+            Verdict::Satisfiable => self.model(),
+            Verdict::Refuted => self.known.refutation(),
+            _ => Ok(None),
+        }
+    }
+
+    fn search(&mut self) -> Result<Verdict, NoMemory> {
+        let alloc = self.known.terms.alloc;
+        let root = self.known.terms.graph.root();
+        let start = self.sequents.number(vec![in alloc; root]?)?;
+        for _ in 0..u64::MAX {
+            self.clean()?;
+            if self.sequents.is_refuted(&mut self.known, start) {
+                return Ok(Verdict::Refuted);
+            }
+            match self.walk(start)? {
+                Verdict::Again => {}
+                verdict => return Ok(verdict),
+            }
+        }
+        Ok(Verdict::GaveUp)
+    }
+
+    /// Pairs that lead to refuted sequents are taken back.
+    fn clean(&mut self) -> Result<(), NoMemory> {
+        if self.cleaned >= self.known.good.len() {
+            return Ok(());
+        }
+        self.cleaned = self.known.good.len();
+        for sequent in 0..ml_search_local::small(self.sequents.len()) {
+            if self.sequents.is_refuted(&mut self.known, sequent) {
+                self.pairs.forget(sequent)?;
+            }
+        }
+        Ok(())
+    }
+
+    /// Walks what is required; stops where more is known.
+    fn walk(&mut self, start: u32) -> Result<Verdict, NoMemory> {
+        self.order.clear();
+        self.seen.clear();
+        self.require(start)?;
+        for i in 0..usize::MAX {
+            let Some(sequent) = self.order.get(i).copied() else {
+                break;
+            };
+            match self.visit(sequent)? {
+                Verdict::GoesOn => {}
+                verdict => return Ok(verdict),
+            }
+        }
+        Ok(Verdict::Satisfiable)
+    }
+
+    /// A sequent is required.
+    fn require(&mut self, sequent: u32) -> Result<(), NoMemory> {
+        for _ in self.seen.len()..(sequent as usize).saturating_add(1) {
+            self.seen.push(false)?;
+        }
+        if !flag(&self.seen, sequent) {
+            set_flag(&mut self.seen, sequent, true);
+            self.order.push(sequent)?;
+        }
+        Ok(())
+    }
+
+    /// Each thread of a required sequent has to be ended.
+    fn visit(&mut self, sequent: u32) -> Result<Verdict, NoMemory> {
+        let mut threads = Vec::new(self.known.terms.alloc);
+        self.write_threads(sequent, &mut threads)?;
+        self.visit_threads(sequent, &threads)
+    }
+
+    /// Writes the threads of a sequent, or `NONE` where it has none.
+    pub(crate) fn write_threads(
+        &self,
+        sequent: u32,
+        threads: &mut Vec<u32>,
+    ) -> Result<(), NoMemory> {
+        for n in self.sequents.nodes(sequent) {
+            if self.known.terms.component(*n) != 0 {
+                threads.push(*n)?;
+            }
+        }
+        if threads.is_empty() {
+            threads.push(NONE)?;
+        }
+        Ok(())
+    }
+
+    fn visit_threads(&mut self, sequent: u32, threads: &[u32]) -> Result<Verdict, NoMemory> {
+        for thread in threads {
+            match self.visit_thread(sequent, *thread)? {
+                Verdict::GoesOn => {}
+                verdict => return Ok(verdict),
+            }
+        }
+        Ok(Verdict::GoesOn)
+    }
+
+    fn visit_thread(&mut self, sequent: u32, thread: u32) -> Result<Verdict, NoMemory> {
+        if self.known.is_out() {
+            return Ok(Verdict::GaveUp);
+        }
+        if !self.pairs.is_solved((sequent, thread)) {
+            let known = self.known.good.len();
+            let reached = if thread == NONE {
+                self.end_none(sequent)?
+            } else {
+                self.reach(sequent, thread)?
+            };
+            if reached == Reached::Out {
+                return Ok(Verdict::GaveUp);
+            }
+            if self.known.good.len() != known {
+                return Ok(Verdict::Again);
+            }
+        }
+        self.follow(sequent, thread)
+    }
+
+    /// What a solved pair leads to is required.
+    fn follow(&mut self, sequent: u32, thread: u32) -> Result<Verdict, NoMemory> {
+        let mut next = Vec::new(self.known.terms.alloc);
+        self.write_next(sequent, thread, &mut next)?;
+        if !self.pairs.is_solved((sequent, thread)) {
+            return Ok(Verdict::Again);
+        }
+        for to in &next {
+            self.require(*to)?;
+        }
+        Ok(Verdict::GoesOn)
+    }
+
+    fn write_next(
+        &mut self,
+        sequent: u32,
+        thread: u32,
+        next: &mut Vec<u32>,
+    ) -> Result<(), NoMemory> {
+        self.known.spend(1);
+        if let Some(leaf) = self.pairs.leaf((sequent, thread)) {
+            for go in &leaf.gos {
+                next.push(go.to)?;
+            }
+        }
+        Ok(())
+    }
+
+    /// Any leaf of a sequent without threads.
+    fn end_none(&mut self, sequent: u32) -> Result<Reached, NoMemory> {
+        self.known.take_good()?;
+        match self.known.query(self.sequents.nodes(sequent), &[], NONE)? {
+            Outcome::Leaf => match self.leaf(sequent)? {
+                Some(leaf) => {
+                    self.pairs.solve((sequent, NONE), leaf)?;
+                    Ok(Reached::Won)
+                }
+                None => Ok(Reached::Out),
+            },
+            Outcome::Closed => {
+                self.known.learn()?;
+                Ok(Reached::Refuted)
+            }
+            Outcome::Out => Ok(Reached::Out),
+        }
+    }
+
+    /// The leaf at which the branch stands; `None` where a thread goes to two nodes.
+    pub(crate) fn leaf(&mut self, sequent: u32) -> Result<Option<Leaf>, NoMemory> {
+        self.known.solver.keep_phases();
+        let alloc = self.known.terms.alloc;
+        let steps = self.known.solver.branch.modals.len();
+        self.known.spend(steps);
+        let mut leaf = Leaf {
+            labels: Vec::new(alloc),
+            gos: Vec::new(alloc),
+        };
+        let fits = write_leaf(&self.known, &mut self.sequents, sequent, &mut leaf)?;
+        Ok(if fits { Some(leaf) } else { None })
+    }
+
+    /// Seeks to end a thread of a sequent, within more and more steps.
+    fn reach(&mut self, sequent: u32, thread: u32) -> Result<Reached, NoMemory> {
+        let component = self.known.terms.component(thread);
+        self.take_component(component)?;
+        let mut level = self.known.blocked(thread, self.sequents.nodes(sequent));
+        for _ in 0..u64::MAX {
+            match self.block(sequent, thread, level)? {
+                Reached::Blocked => {}
+                reached => return Ok(reached),
+            }
+            self.known.push(component, level)?;
+            match self.known.conclude(thread, self.sequents.nodes(sequent))? {
+                Concluded::Settled => return Ok(Reached::Refuted),
+                Concluded::Out => return Ok(Reached::Out),
+                Concluded::Open => {}
+            }
+            if self.sequents.is_refuted(&mut self.known, sequent) {
+                return Ok(Reached::Refuted);
+            }
+            level = level.saturating_add(1).max(level.saturating_mul(3) / 2);
+        }
+        Ok(Reached::Out)
+    }
+
+    /// The frames of a component are active.
+    fn take_component(&mut self, component: u32) -> Result<(), NoMemory> {
+        write_steps(&self.known.terms, component, &mut self.later)?;
+        self.known.take_frames(component)
+    }
+}
+
+/// Writes the modal nodes along which threads of a component go on.
+fn write_steps(t: &Terms, component: u32, steps: &mut Vec<u32>) -> Result<(), NoMemory> {
+    steps.clear();
+    for n in 0..t.size {
+        if t.component(n) == component && is_thread_step(t, n) {
+            steps.push(n)?;
+        }
+    }
+    Ok(())
+}

@@ -1,0 +1,215 @@
+// Leaves: what holds at a state, and where it leads.
+use crate::sequents::Sequents;
+use ml_base::NoMemory;
+use ml_graph::Node;
+use ml_search_cores::Knowledge;
+use ml_search_local::{NONE, Solver, Terms};
+
+/// A diamond of a leaf, with the sequent to which it leads.
+#[derive(Drop)]
+pub(crate) struct Go {
+    pub diamond: u32,
+    pub to: u32,
+    /// Where the threads of the sequent go along it.
+    pub threads: Vec<(u32, u32)>,
+}
+
+/// What holds at a state, and where it leads.
+#[derive(Drop)]
+pub(crate) struct Leaf {
+    /// The positive literals.
+    pub labels: Vec<u32>,
+    pub gos: Vec<Go>,
+}
+
+impl Go {
+    /// Where a thread goes along the diamond; `NONE` where it is ended.
+    pub(crate) fn thread(&self, thread: u32) -> u32 {
+        for (from, to) in &self.threads {
+            if *from == thread {
+                return *to;
+            }
+        }
+        NONE
+    }
+}
+
+/// Where a modal node leads along a diamond; `NONE` where it doesn't.
+fn along(t: &Terms, n: u32, diamond: u32) -> u32 {
+    match (t.node(n), t.node(diamond)) {
+        (Node::Diamond { to, .. }, _) if n == diamond => to,
+        (Node::Square { action, to }, Node::Diamond { action: other, .. }) if action == other => to,
+        _ => NONE,
+    }
+}
+
+/// Writes the next sequent along a diamond.
+fn write_next(
+    t: &Terms,
+    solver: &Solver,
+    diamond: u32,
+    nodes: &mut Vec<u32>,
+) -> Result<(), NoMemory> {
+    for n in &solver.branch.modals {
+        let to = along(t, *n, diamond);
+        if to != NONE && t.node(to) != Node::True {
+            nodes.push(to)?;
+        }
+    }
+    nodes.sort_unstable();
+    nodes.dedup();
+    Ok(())
+}
+
+/// Writes the modal nodes to which the thread of a node goes at the leaf.
+fn write_walk(
+    t: &Terms,
+    solver: &Solver,
+    root: u32,
+    seen: &mut Vec<u32>,
+    ends: &mut Vec<u32>,
+) -> Result<(), NoMemory> {
+    seen.clear();
+    ends.clear();
+    seen.push(root)?;
+    for i in 0..usize::MAX {
+        let Some(n) = seen.get(i).copied() else {
+            break;
+        };
+        let (left, right) = next_on_walk(t, solver, n);
+        if left != NONE && !seen.contains(&left) {
+            seen.push(left)?;
+        }
+        if right != NONE && !seen.contains(&right) {
+            seen.push(right)?;
+        }
+        if is_thread_step(t, n) {
+            ends.push(n)?;
+        }
+    }
+    Ok(())
+}
+
+/// Does a thread go along this modal node?
+pub(crate) fn is_thread_step(t: &Terms, n: u32) -> bool {
+    match t.node(n) {
+        Node::Diamond { to, .. } | Node::Square { to, .. } => t.threads(n, to),
+        _ => false,
+    }
+}
+
+/// Where a thread goes on at the leaf without modal steps.
+fn next_on_walk(t: &Terms, solver: &Solver, n: u32) -> (u32, u32) {
+    match t.node(n) {
+        Node::And { left, right } => (on_thread(t, n, left), on_thread(t, n, right)),
+        Node::Or { left, right } => match solver.branch.side(n) {
+            1 => (on_thread(t, n, left), NONE),
+            2 => (on_thread(t, n, right), NONE),
+            _ => (NONE, NONE),
+        },
+        _ => (NONE, NONE),
+    }
+}
+
+fn on_thread(t: &Terms, n: u32, to: u32) -> u32 {
+    if t.threads(n, to) { to } else { NONE }
+}
+
+/// Adds where a thread goes along a diamond; tells whether that is one node at most.
+fn push_thread(
+    t: &Terms,
+    thread: u32,
+    ends: &[u32],
+    diamond: u32,
+    threads: &mut Vec<(u32, u32)>,
+) -> Result<bool, NoMemory> {
+    let mut found = NONE;
+    for n in ends {
+        let to = along(t, *n, diamond);
+        if to != NONE {
+            if found != NONE && found != to {
+                return Ok(false);
+            }
+            found = to;
+        }
+    }
+    if found != NONE {
+        threads.push((thread, found))?;
+    }
+    Ok(true)
+}
+
+/// Writes the positive literals that stand.
+fn write_labels(t: &Terms, solver: &Solver, labels: &mut Vec<u32>) -> Result<(), NoMemory> {
+    for n in &solver.branch.literals {
+        if let Node::Lit { positive: true, .. } = t.node(*n) {
+            labels.push(*n)?;
+        }
+    }
+    Ok(())
+}
+
+/// Writes the diamonds that stand, with their next sequents.
+fn write_gos(
+    t: &Terms,
+    solver: &Solver,
+    sequents: &mut Sequents,
+    gos: &mut Vec<Go>,
+) -> Result<(), NoMemory> {
+    for n in &solver.branch.modals {
+        if let Node::Diamond { .. } = t.node(*n) {
+            let mut nodes = Vec::new(t.alloc);
+            write_next(t, solver, *n, &mut nodes)?;
+            let to = sequents.number(nodes)?;
+            gos.push(Go {
+                diamond: *n,
+                to,
+                threads: Vec::new(t.alloc),
+            })?;
+        }
+    }
+    Ok(())
+}
+
+/// Writes where the threads of the sequent go; tells whether each goes to one node at most along each diamond.
+fn write_threads(
+    t: &Terms,
+    solver: &Solver,
+    nodes: &[u32],
+    gos: &mut [Go],
+) -> Result<bool, NoMemory> {
+    let mut seen = Vec::new(t.alloc);
+    let mut ends = Vec::new(t.alloc);
+    for n in nodes {
+        if t.component(*n) != 0 {
+            write_walk(t, solver, *n, &mut seen, &mut ends)?;
+            if !push_threads(t, *n, &ends, gos)? {
+                return Ok(false);
+            }
+        }
+    }
+    Ok(true)
+}
+
+fn push_threads(t: &Terms, n: u32, ends: &[u32], gos: &mut [Go]) -> Result<bool, NoMemory> {
+    for go in gos.iter_mut() {
+        if !push_thread(t, n, ends, go.diamond, &mut go.threads)? {
+            return Ok(false);
+        }
+    }
+    Ok(true)
+}
+
+/// Writes the leaf at which the branch stands, for a sequent; tells whether each of its threads goes to one node at most along
+/// each diamond.
+pub(crate) fn write_leaf(
+    known: &Knowledge,
+    sequents: &mut Sequents,
+    sequent: u32,
+    leaf: &mut Leaf,
+) -> Result<bool, NoMemory> {
+    let (t, solver) = (&known.terms, &known.solver);
+    write_labels(t, solver, &mut leaf.labels)?;
+    write_gos(t, solver, sequents, &mut leaf.gos)?;
+    write_threads(t, solver, sequents.nodes(sequent), &mut leaf.gos)
+}
