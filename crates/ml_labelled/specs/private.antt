@@ -1,0 +1,4 @@
+-- What only private contracts and proofs cite: a reader of the public calls needs none of it.
+
+-- what the program holds, as plain values
+pub mod Views
