@@ -171,16 +171,20 @@ head_read i rest =
     (body_read (onward 51 (onward 21 (onward 17 i))) rest)))
 
 -- the headers behind the propositions
+abbrev properties : List Header
+properties = Other (Plain mark.Word ∷ Plain mark.Word ∷ Plain mark.Word ∷ []) ∷ []
+
+abbrev condition : ℕ → Header
+condition i = Marked (onward 12 (onward 17 i)) (onward 18 (onward 17 i))
+
 abbrev later : ℕ → List Header
-later i =
-    Other (Plain mark.Word ∷ []) ∷ Marked (onward 12 (onward 17 i)) (onward 18 (onward 17 i))
-    ∷ Other (Plain mark.Word ∷ Plain mark.Word ∷ Plain mark.Word ∷ []) ∷ []
+later i = Other (Plain mark.Word ∷ []) ∷ condition i ∷ properties
 
 later_headers : (i : ℕ) → All IsHeader (later i)
 later_headers i =
-    All-cons IsHeader (Other (Plain mark.Word ∷ [])) _ refl
-    (All-cons IsHeader (Marked (onward 12 (onward 17 i)) (onward 18 (onward 17 i))) _ tt
-    (All-cons IsHeader (Other (Plain mark.Word ∷ Plain mark.Word ∷ Plain mark.Word ∷ [])) _ refl (All-nil IsHeader)))
+    All-cons IsHeader (Other (Plain mark.Word ∷ [])) (condition i ∷ properties) refl
+    (All-cons IsHeader (condition i) properties tt
+    (All-cons IsHeader (Other (Plain mark.Word ∷ Plain mark.Word ∷ Plain mark.Word ∷ [])) [] refl (All-nil IsHeader)))
 
 tokens_are : (text : List ℕ) → signs_of (tokens text) ≡ signs_at 0 text
 unfolding tokens
@@ -245,8 +249,9 @@ module _ (a : Automaton) (is : IsLabelled a) where
       let states_is : number_of (numeral states 16) ≡ states = numeral_is states 16 few_states in
       let zero_is : number_of (numeral 0 start_at) ≡ 0 = numeral_is 0 start_at (omega arith) in
       let s = states_read heads states few_states few_props states_is refl 0 a.edges (behind_head at) last (omega arith) rows_within in
-      let headers =
-      States (numeral states 16) ∷ Start (numeral 0 start_at) ∷ Props (numeral (length a.props) props_at) a.props ∷ later at in
+      let start_head = Start (numeral 0 start_at) in
+      let props_head = Props (numeral (length a.props) props_at) a.props in
+      let headers = States (numeral states 16) ∷ start_head ∷ props_head ∷ later at in
       let draft : Draft = record { headers = headers; heads = heads; states = s.texts } in
       record {
         draft = draft;
@@ -273,9 +278,9 @@ module _ (a : Automaton) (is : IsLabelled a) where
             ∙ sym (append_assoc (map Text a.props) (flat_map header_tokens (later at)) (Plain mark.Body ∷ body_tokens s.texts))))))));
         whole = record {
           headers =
-              All-cons IsHeader (States (numeral states 16)) _ tt
-              (All-cons IsHeader (Start (numeral 0 start_at)) _ tt
-              (All-cons IsHeader (Props (numeral (length a.props) props_at) a.props) _
+              All-cons IsHeader (States (numeral states 16)) (start_head ∷ props_head ∷ later at) tt
+              (All-cons IsHeader start_head (props_head ∷ later at) tt
+              (All-cons IsHeader props_head (later at)
               (numeral_is (length a.props) props_at few_props) (later_headers at)));
           states_once = refl;
           start_once = refl;
