@@ -2,3 +2,5 @@
 
 -- what the program holds, as plain values
 pub mod Views
+-- how states that are reached are found
+pub mod Reaching

@@ -74,4 +74,15 @@ impl LabelledAutomaton {
     {
         &self.edges
     }
+
+    /// The names of the propositions, and the edges of each state.
+    ///
+    /// Cost: constant.
+    pub fn into_parts(self) -> (Vec<Name>, Vec<Vec<CubeEdge>>)
+        ensures parts { held result.0.items result.1.items ≡ self }
+        ensures labelled { IsLabelled self }
+    {
+        let LabelledAutomaton { props, edges } = self;
+        (props, edges)
+    }
 }

@@ -15,7 +15,7 @@
 --   begin a p               == the place where walks from the state p begin
 --   IsPlace a props s       == s is a place of the automaton a
 --   HasMorePlaces a props n == a has more than n places: some list has that many, each once
-use Rattle.std.specs.Prelude.{ℕ, ◌≡◌, ◌⊎◌, ◌<◌, ◌↔◌, Bool, List, [], length, map, Some, slice_get}
+use Rattle.std.specs.Prelude.{ℕ, ◌≡◌, ◌≢◌, ◌⊎◌, ◌<◌, ◌↔◌, Bool, List, [], length, map, Some, slice_get}
 use Rattle.ml_graph.specs.Graph.{Graph, node_at, prop_at}
 use Rattle.ml_graph.specs.declared.node.Node.{Node}
 use Rattle.ml_graph.specs.declared.node.Node.TheVariants as node
@@ -23,6 +23,7 @@ use Rattle.ml_lists.specs.Added.{HasOnePlace}
 use Rattle.ml_lists.specs.Ascending.{IsAscending}
 use Rattle.ml_lists.specs.Member.{IsMember}
 use Rattle.ml_labelled.specs.declared.labelled.Literal.{Literal}
+use Rattle.ml_translate.specs.declared.place.Place.{Place}
 use Rattle.ml_word_automaton.specs.Letters.{Automaton, node_of}
 
 -- ---- cubes
@@ -46,9 +47,9 @@ PassesNode g props v c d = ⊥
 abbrev pub Passes : Graph → List (List ℕ) → ℕ → (c d : List Literal) → Type 0
 Passes g props n c d = PassesNode g props (node_at g n) c d
 
--- past a state node to a block, or to the one child; to either child
+-- to the one child, or past a state node to a block; to either child
 abbrev pub GoesOnAt : Graph → List (List ℕ) → Node → List Literal → ℕ → List Literal → Type 0
-GoesOnAt g props (node.And l r) c m d = (m ≡ r) × (((l ≡ r) × (d ≡ c)) ⊎ Passes g props l c d)
+GoesOnAt g props (node.And l r) c m d = (m ≡ r) × (((l ≡ r) × (d ≡ c)) ⊎ ((l ≢ r) × Passes g props l c d))
 GoesOnAt g props (node.Or l r) c m d = ((m ≡ l) ⊎ (m ≡ r)) × (d ≡ c)
 GoesOnAt g props v c m d = ⊥
 
@@ -56,11 +57,6 @@ abbrev pub GoesOn : Graph → List (List ℕ) → ℕ → List Literal → ℕ �
 GoesOn g props n c m d = GoesOnAt g props (node_at g n) c m d
 
 -- ---- places
-
-pub record Place : Type 0 where
-  pub state : ℕ
-  pub node : ℕ
-  pub cube : List Literal
 
 abbrev pub begin : Automaton → ℕ → Place
 begin a p = record { state = p; node = node_of a p; cube = [] }

@@ -2,3 +2,5 @@
 
 -- how places are found
 pub mod Finding
+-- equality of cubes
+pub mod CubeEquality
