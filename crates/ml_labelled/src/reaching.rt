@@ -1,7 +1,7 @@
 // The part of an automaton that is reached.
 ghost use Rattle.std.specs.Prelude.{◌≡◌, ◌<◌, ◌≤◌, ◌^◌, [], ◌∷◌, map, length, IfOk, OnOk, ℕ};
 ghost use Rattle.ml_lists.specs.Member.{IsMember};
-ghost use Rattle.ml_labelled.specs.Labelled.{AcceptSame, AreReached, Edge};
+ghost use Rattle.ml_labelled.specs.Labelled.{AcceptSame, AreReached, Edge, IsLabelled};
 ghost use Rattle.ml_labelled.specs.private.Reaching.{AreMarked, AreRanks, IsKept, IsSpread, retargeted, targets, TargetsFit};
 ghost use Rattle.ml_labelled.specs.private.Views.{edge_of, rows_of};
 
@@ -103,6 +103,7 @@ fn keep_marked(rows: &mut Vec<Vec<CubeEdge>>, marks: &[bool])
 ///
 /// Cost: linear in the edges.
 pub fn reached_part(alloc: Global, automaton: LabelledAutomaton) -> Result<LabelledAutomaton, NoMemory>
+    ensures labelled { IfOk result IsLabelled }
     ensures same { IfOk result (λ b. AcceptSame automaton b) }
     ensures props { IfOk result (λ b. b.props ≡ automaton.props) }
     ensures reached { IfOk result AreReached }

@@ -1,1 +1,16 @@
-
+-- cubes with one literal more
+pub mod Cubes
+-- walks with cubes
+pub mod CubeWalks
+-- the places behind a place
+pub mod FollowedPlaces
+-- places that are found one after the other
+pub mod FoundPlaces
+-- equality of places
+pub mod PlaceEquality
+-- edges of places
+pub mod EdgesMade
+-- the literals of a formula's graph
+pub mod KnownLiterals
+-- what the automaton accepts
+pub mod Translated

@@ -23,7 +23,7 @@ use Rattle.ml_lists.specs.Added.{HasOnePlace}
 use Rattle.ml_lists.specs.Ascending.{IsAscending}
 use Rattle.ml_lists.specs.Member.{IsMember}
 use Rattle.ml_labelled.specs.declared.labelled.Literal.{Literal}
-use Rattle.ml_translate.specs.declared.place.Place.{Place}
+pub use Rattle.ml_translate.specs.declared.place.Place.{Place}
 use Rattle.ml_word_automaton.specs.Letters.{Automaton, node_of}
 
 -- ---- cubes

@@ -126,12 +126,15 @@ pub(crate) fn joined(
     ensures { IfOk result (λ o. MatchOption o ((d : List Literal) → ¬ (IsJoined cube.now literal d)) (IsJoined cube.now literal)) }
 {
     let at = split(cube, literal.prop);
-    if at == cube.len() || cube[at].prop != literal.prop {
+    if at == cube.len() {
         return Ok(Some(inserted(alloc, cube, at, literal)?));
     }
-    if cube[at].positive == literal.positive {
-        Ok(Some(Cube::of(Vec::from_slice(alloc, cube)?)))
-    } else {
-        Ok(None)
+    let known = cube[at];
+    if known.prop != literal.prop {
+        return Ok(Some(inserted(alloc, cube, at, literal)?));
     }
+    if known.positive != literal.positive {
+        return Ok(None);
+    }
+    Ok(Some(Cube::of(Vec::from_slice(alloc, cube)?)))
 }

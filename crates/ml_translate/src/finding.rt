@@ -8,7 +8,7 @@ ghost use Rattle.ml_translate.specs.declared.refusal.TranslateRefusal.TheVariant
 ghost use Rattle.ml_translate.specs.private.Finding.{AreNumbers, ArePlaces, IsBegun, IsFollowed, IsFull, IsGrown, IsPassed, Overflows, place_at, places_in, props_of};
 
 use crate::cube::Cube;
-use crate::following::{Behind, Reading, behind};
+use crate::following::{Behind, Reading, walk_on};
 use crate::place::Place;
 use crate::propositions::Propositions;
 use crate::refusal::TranslateRefusal;
@@ -103,7 +103,7 @@ fn follow(
     ensures passed { IsErrOf result refusal.Passed → IsPassed reading.now.graph.now
         reading.now.propositions.now.names.items places.old.keys at limit }
 {
-    let behind = behind(alloc, reading, &places.as_slice()[at])?;
+    let behind = walk_on(alloc, reading, &places.as_slice()[at])?;
     add_all(places, behind, limit)
 }
 

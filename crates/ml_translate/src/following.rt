@@ -91,7 +91,7 @@ fn past(
 }
 
 // the places to which a walk goes on from a place
-pub(crate) fn behind(
+pub(crate) fn walk_on(
     alloc: Global,
     reading: &Reading,
     place: &Place,

@@ -1,4 +1,6 @@
 // Why a formula got no automaton.
+ghost use Rattle.std.specs.Prelude.{◌≡◌};
+
 use ml_base::NoMemory;
 use ml_graph::ClosureRefusal;
 use std::alloc::{AllocError, AllocFailed};

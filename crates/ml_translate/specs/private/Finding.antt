@@ -55,6 +55,7 @@ abbrev pub number_at : List (Option ℕ) → ℕ → Option ℕ
 number_at numbers k = get_or numbers k None
 
 pub record AreNumbers (g : Graph) (props : List (List ℕ)) (numbers : List (Option ℕ)) : Type 0 where
+  pub once : HasOnePlace props
   pub as_long : length numbers ≡ length g.props
   pub are : (k : ℕ) → k < length g.props
       → MatchOption (number_at numbers k) ((n : ℕ) → slice_get props n ≢ Some (prop_at g k))

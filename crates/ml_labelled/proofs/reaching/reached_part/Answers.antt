@@ -27,6 +27,9 @@ part c =
     c.deref.ensures.value c.deref-2.ensures.value c.deref-3.ensures.value c.in_ok-numbers.ensures c.keep_marked.ensures
     c.retarget_all.new.rows.items c.retarget_all.ensures)
 
+pub returns-clause-labelled : goal.returns-clause-labelled
+returns-clause-labelled c = (part c).labelled
+
 pub returns-clause-same : goal.returns-clause-same
 returns-clause-same c = (part c).same
 
