@@ -44,7 +44,7 @@ members_inserted c at l m = (there, back)
     back (inr same) = member-append_right m (take at c) (l ∷ drop at c) (inl same)
 
 -- all propositions of a list that ascends from x are above it
-prop_above : (x : ℕ) (c : List Literal)
+pub prop_above : (x : ℕ) (c : List Literal)
     → ((y : ℕ) → IsMember y (props_of c) → x < y)
     → (m : Literal) → IsMember m c → x < m.prop
 prop_above x c above m k = above m.prop (member-map (λ (l : Literal). l.prop) m c k)
@@ -189,3 +189,21 @@ some_joined props letter c l ascend fits is_true =
         at_place (inr other) =
             (inserted c at l, joined_new c at l ascend s
             (λ d within. subst (λ (n : Literal). n.prop ≢ l.prop) (get_or_default c at l d low) other))
+
+-- ---- what a program reads
+
+-- where the literal at a place has another proposition, so it is whatever the default
+pub new_literal : (c : List Literal) (at : ℕ) (l known : Literal)
+    → at < length c
+    → known ≡ get_or c at known
+    → known.prop ≢ l.prop
+    → (d : Literal) → at < length c → (get_or c at d).prop ≢ l.prop
+new_literal c at l known low is other d within =
+    subst (λ (n : Literal). n.prop ≢ l.prop) (is ∙ get_or_default c at known d low) other
+
+-- the literal at a place stands in the cube
+pub known_there : (c : List Literal) (at : ℕ) (known : Literal) → at < length c → known ≡ get_or c at known → IsMember known c
+known_there c at known low is = subst (λ (n : Literal). IsMember n c) (sym is) (place-member c at known low)
+
+pub one_of_both : (l known : Literal) → known.prop ≡ l.prop → known.positive ≡ l.positive → known ≡ l
+one_of_both l known same sign = λ i. record { prop = same i; positive = sign i }

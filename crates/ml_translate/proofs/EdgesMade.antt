@@ -3,16 +3,21 @@
 --   put_one              == an edge behind those of a state
 --   put_diamond, put_true, put_nothing == the edge of a place, if it makes one
 --   made_none, made_more, made_all == the edges of places, one after the other
-use Rattle.std.proofs.Common.{ℕ, ◌≡◌, ◌+◌, ◌<◌, ◌⊎◌, ◌↔◌, ◌==◌, inl, inr, ⊎_elim, arith, Bool, true, List, [], ◌∷◌, ◌++◌, length, map, get_or, set, refl, sym, ap, ◌∙◌, subst}
+--   numbers_more, empty_more, put_in_row == what a program holds
+use Rattle.std.proofs.Common.{ℕ, zero, suc, ◌≡◌, ◌+◌, ◌<◌, ◌⊎◌, ◌↔◌, ◌==◌, inl, inr, arith, Bool, true, List, [], ◌∷◌, ◌++◌, length, map, get_or, set, refl, sym, ap, ◌∙◌, subst}
 use Rattle.std.specs.Global.{Vec}
 use Rattle.std.proofs.lemmas.Bool.{cases_eq}
 use Rattle.std.proofs.lemmas.List.{get_or-map, get_or-set_other, get_or-set_same, length-map, length-set, map-append, map-set}
+use Rattle.ml_lists.specs.Ascending.{IsAscending}
 use Rattle.ml_lists.specs.Member.{IsMember}
+use Rattle.ml_lists.proofs.Ascending.{ascending-apart}
 use Rattle.ml_lists.proofs.Member.{member-append, member-append_left, member-append_right}
 use Rattle.ml_graph.specs.Graph.{Graph, node_at, priority_at}
 use Rattle.ml_graph.specs.declared.node.Node.{Node}
 use Rattle.ml_graph.specs.declared.node.Node.TheVariants as node
 use Rattle.ml_labelled.specs.Labelled.{Edge}
+use Rattle.ml_labelled.specs.private.Views.{edge_of, edges_in, rows_of}
+use Rattle.ml_labelled.specs.declared.labelled.CubeEdge.{CubeEdge}
 use Rattle.ml_translate.specs.Places.{Place}
 use Rattle.ml_translate.specs.private.Finding.{HaveEdges, IsEdgePut, IsPut, Makes, MakesAt, row_at}
 
@@ -165,3 +170,45 @@ module _ (g : Graph) (numbers : List ℕ) where
       → IsMember s left
       → IsMember s all
   left_among all left rows s m k = subst (IsMember s) (sym m.whole) (member-append_left s left m.done k)
+
+-- ---- numbers of states
+
+-- the number of one state more
+pub numbers_more : (states numbers : List ℕ) (i n : ℕ)
+    → IsAscending states
+    → i < length states
+    → n ≡ get_or states i 0
+    → n < length numbers
+    → ((p : ℕ) → p < i → get_or numbers (get_or states p 0) 0 ≡ p)
+    → (p : ℕ) → p < i + 1 → get_or (set numbers n i) (get_or states p 0) 0 ≡ p
+numbers_more states numbers i n ascend low is within so_far p below = by (cases_eq p i)
+  where
+    by : (p ≡ i) ⊎ (p ≡ i → ⊥) → get_or (set numbers n i) (get_or states p 0) 0 ≡ p
+    by (inl same) =
+        ap (λ k. get_or (set numbers n i) k 0) (ap (λ j. get_or states j 0) same ∙ sym is)
+        ∙ get_or-set_same numbers n i 0 within
+        ∙ sym same
+    by (inr other) =
+        let less = ascending-apart states p i 0 ascend (omega arith) low in
+        get_or-set_other numbers n (get_or states p 0) i 0 (λ e. let f : get_or states p 0 ≡ n = e in absurd (omega arith))
+        ∙ so_far p (omega arith)
+
+-- a row without edges more
+pub empty_more : (rows : List (Vec CubeEdge)) (row : Vec CubeEdge)
+    → row.items ≡ []
+    → ((p : ℕ) → row_at (rows_of rows) p ≡ [])
+    → (p : ℕ) → row_at (rows_of (rows ++ row ∷ [])) p ≡ []
+empty_more [] row none so_far zero = ap (map edge_of) none
+empty_more [] row none so_far (suc p) = refl
+empty_more (r ∷ rows) row none so_far zero = so_far 0
+empty_more (r ∷ rows) row none so_far (suc p) = empty_more rows row none (λ q. so_far (suc q)) p
+
+-- a row in which an edge is put is that row with the edge
+pub put_in_row : (rows : List (Vec CubeEdge)) (i : ℕ) (row : Vec CubeEdge) (e : CubeEdge) (d : Vec CubeEdge)
+    → i < length rows
+    → row.items ≡ (get_or rows i d).items ++ e ∷ []
+    → edges_in row ≡ row_at (rows_of rows) i ++ edge_of e ∷ []
+put_in_row rows i row e d low is =
+    ap (map edge_of) is
+    ∙ map-append edge_of (get_or rows i d).items (e ∷ [])
+    ∙ ap (λ es. es ++ edge_of e ∷ []) (sym (get_or-map edges_in rows i d [] low))

@@ -14,3 +14,9 @@ pub mod EdgesMade
 pub mod KnownLiterals
 -- what the automaton accepts
 pub mod Translated
+-- two word automata of one formula
+pub mod SamePlaces
+-- propositions by their numbers
+pub mod PropositionNumbers
+-- places fit
+pub mod FitPlaces

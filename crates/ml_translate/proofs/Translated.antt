@@ -230,7 +230,7 @@ module _ (a : word.Automaton) (props : List (List ℕ)) (b : labelled.Automaton)
   number_low : (n : ℕ) → word.IsState g n → get_or numbers n 0 < length a.states
   number_low n is =
       let at = member-place n a.states ((has.are_states n).1 is) in
-      let number = number_of n at.place at.below (sym (at.holds 0)) in
+      let number = number_of n at.place at.below (at.holds 0) in
       let low = at.below in omega arith
 
   on_goes : (v : Node) (c d : List Literal) (m : ℕ) → GoesOnAt g props v c m d → word.GoesOn v m

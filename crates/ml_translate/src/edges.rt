@@ -31,7 +31,7 @@ fn empty_rows(alloc: Global, count: usize) -> Result<Vec<Vec<CubeEdge>>, NoMemor
     ensures empty { IfOk result (λ rows. (p : ℕ) → row_at (held.rows_of rows.items) p ≡ []) }
 {
     let mut rows = Vec::with_capacity(alloc, count)?;
-    for _ in 0..count {
+    for _row in 0..count {
         rows.push(Vec::new(alloc))?;
     }
     Ok(rows)

@@ -1,5 +1,6 @@
 // The propositions of a formula, and their numbers.
 ghost use Rattle.std.specs.Prelude.{◌≡◌, ◌≢◌, ◌<◌, ◌^◌, ℕ, Some, slice_get, MatchOption, IfOk, length};
+ghost use Rattle.ml_lists.specs.Added.{HasOnePlace};
 ghost use Rattle.ml_translate.specs.Translation as plain;
 ghost use Rattle.ml_translate.specs.private.Finding.{AreNumbers};
 
@@ -45,7 +46,8 @@ fn numbered(
     graph: &ModalGraph,
     props: &IndexSet<Name>,
 ) -> Result<Vec<Option<u32>>, NoMemory>
-    requires { length props.now.keys < 2 ^ 32 }
+    requires few { length props.now.keys < 2 ^ 32 }
+    requires once { HasOnePlace props.now.keys }
     ensures { IfOk result (λ numbers. AreNumbers graph.now props.now.keys numbers.items) }
 {
     let names = graph.props();
@@ -61,7 +63,8 @@ fn of_names(
     props: &IndexSet<Name>,
     graph: &ModalGraph,
 ) -> Result<Propositions, NoMemory>
-    requires { length props.now.keys < 2 ^ 32 }
+    requires few { length props.now.keys < 2 ^ 32 }
+    requires once { HasOnePlace props.now.keys }
     ensures names { IfOk result (λ p. p.names.items ≡ props.now.keys) }
     ensures numbers { IfOk result (λ p. AreNumbers graph.now p.names.items p.numbers.items) }
 {
