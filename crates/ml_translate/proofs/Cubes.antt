@@ -7,7 +7,8 @@
 --   not_joined       == one of the other sign doesn't
 --   fits_joined      == a cube with a literal more fits a letter where both do
 --   some_joined      == where both do, there is such a cube
-use Rattle.std.proofs.Common.{ℕ, zero, suc, ◌≡◌, ◌≢◌, ◌+◌, ◌<◌, ◌≤◌, ◌⊎◌, ◌↔◌, inl, inr, ⊎_elim, arith, Bool, true, false, List, [], ◌∷◌, ◌++◌, length, map, take, drop, get_or, refl, sym, ap, ◌∙◌, subst}
+use Rattle.std.proofs.Common.{ℕ, zero, suc, ◌≡◌, ◌≢◌, ◌+◌, ◌<◌, ◌≤◌, ◌⊎◌, ◌↔◌, inl, inr, ⊎_elim, arith, Bool, true, false, not, List, [], ◌∷◌, ◌++◌, length, map, take, drop, get_or, refl, sym, ap, ◌∙◌, subst}
+use Rattle.std.specs.Bool.{beq}
 use Rattle.std.proofs.lemmas.Bool.{cases_eq, cases_lt}
 use Rattle.std.proofs.lemmas.List.{get_or_default, take-append-drop}
 use Rattle.ml_lists.specs.Ascending.{IsAscending}
@@ -193,17 +194,23 @@ some_joined props letter c l ascend fits is_true =
 -- ---- what a program reads
 
 -- where the literal at a place has another proposition, so it is whatever the default
-pub new_literal : (c : List Literal) (at : ℕ) (l known : Literal)
+pub new_at : (c : List Literal) (at : ℕ) (l d : Literal)
     → at < length c
-    → known ≡ get_or c at known
-    → known.prop ≢ l.prop
-    → (d : Literal) → at < length c → (get_or c at d).prop ≢ l.prop
-new_literal c at l known low is other d within =
-    subst (λ (n : Literal). n.prop ≢ l.prop) (is ∙ get_or_default c at known d low) other
-
--- the literal at a place stands in the cube
-pub known_there : (c : List Literal) (at : ℕ) (known : Literal) → at < length c → known ≡ get_or c at known → IsMember known c
-known_there c at known low is = subst (λ (n : Literal). IsMember n c) (sym is) (place-member c at known low)
+    → (get_or c at d).prop ≢ l.prop
+    → (e : Literal) → at < length c → (get_or c at e).prop ≢ l.prop
+new_at c at l d low other e within = subst (λ (n : Literal). n.prop ≢ l.prop) (get_or_default c at d e low) other
 
 pub one_of_both : (l known : Literal) → known.prop ≡ l.prop → known.positive ≡ l.positive → known ≡ l
 one_of_both l known same sign = λ i. record { prop = same i; positive = sign i }
+
+pub other_sign : (x y : Bool) → not (beq x y) ≡ true → x ≢ y
+other_sign true true e same = absurd (cc)
+other_sign true false e same = absurd (cc)
+other_sign false true e same = absurd (cc)
+other_sign false false e same = absurd (cc)
+
+pub same_sign : (x y : Bool) → not (beq x y) ≡ false → x ≡ y
+same_sign true true e = refl
+same_sign true false e = absurd (cc)
+same_sign false true e = absurd (cc)
+same_sign false false e = refl

@@ -3,8 +3,8 @@
 --   put_one              == an edge behind those of a state
 --   put_diamond, put_true, put_nothing == the edge of a place, if it makes one
 --   made_none, made_more, made_all == the edges of places, one after the other
---   numbers_more, empty_more, put_in_row == what a program holds
-use Rattle.std.proofs.Common.{ℕ, zero, suc, ◌≡◌, ◌+◌, ◌<◌, ◌⊎◌, ◌↔◌, ◌==◌, inl, inr, arith, Bool, true, List, [], ◌∷◌, ◌++◌, length, map, get_or, set, refl, sym, ap, ◌∙◌, subst}
+--   numbers_more, empty_more, put_in_row, put_made, none_left == what a program holds
+use Rattle.std.proofs.Common.{ℕ, zero, suc, ◌≡◌, ◌+◌, ◌<◌, ◌⊎◌, ◌↔◌, ◌==◌, inl, inr, arith, Bool, true, false, List, [], ◌∷◌, ◌++◌, length, map, get_or, set, refl, sym, ap, ◌∙◌, subst}
 use Rattle.std.specs.Global.{Vec}
 use Rattle.std.proofs.lemmas.Bool.{cases_eq}
 use Rattle.std.proofs.lemmas.List.{get_or-map, get_or-set_other, get_or-set_same, length-map, length-set, map-append, map-set}
@@ -18,6 +18,7 @@ use Rattle.ml_graph.specs.declared.node.Node.TheVariants as node
 use Rattle.ml_labelled.specs.Labelled.{Edge}
 use Rattle.ml_labelled.specs.private.Views.{edge_of, edges_in, rows_of}
 use Rattle.ml_labelled.specs.declared.labelled.CubeEdge.{CubeEdge}
+use Rattle.ml_labelled.specs.declared.labelled.Literal.{Literal}
 use Rattle.ml_translate.specs.Places.{Place}
 use Rattle.ml_translate.specs.private.Finding.{HaveEdges, IsEdgePut, IsPut, Makes, MakesAt, row_at}
 
@@ -212,3 +213,23 @@ put_in_row rows i row e d low is =
     ap (map edge_of) is
     ∙ map-append edge_of (get_or rows i d).items (e ∷ [])
     ∙ ap (λ es. es ++ edge_of e ∷ []) (sym (get_or-map edges_in rows i d [] low))
+
+-- an edge that is pushed onto the row of a state
+pub put_made : (rows : List (Vec CubeEdge)) (s : Place) (to : ℕ) (accepting : Bool) (row old d : Vec CubeEdge) (literals : Vec Literal)
+    → s.state < length rows
+    → old ≡ get_or rows s.state d
+    → row.items ≡ old.items ++ record { cube = literals; to = to; accepting = accepting } ∷ []
+    → literals.items ≡ s.cube
+    → IsEdgePut s to accepting (rows_of rows) (rows_of (set rows s.state row))
+put_made rows s to accepting row old d literals low is pushed cube =
+    let e : CubeEdge = record { cube = literals; to = to; accepting = accepting } in
+    let long = length-map rows edges_in in
+    subst (IsEdgePut s to accepting (rows_of rows)) (sym (map-set edges_in rows s.state row))
+    (put_one (rows_of rows) s to accepting (edges_in row) (omega arith)
+    (put_in_row rows s.state row e d low (pushed ∙ ap (λ (v : Vec CubeEdge). v.items ++ e ∷ []) is)
+    ∙ ap (λ (c : List Literal). row_at (rows_of rows) s.state ++ record { cube = c; to = to; accepting = accepting } ∷ []) cube))
+
+-- where nothing is popped, nothing is left
+pub none_left : (xs : List Place) → (0 < length xs → false ≡ true) → xs ≡ []
+none_left [] none = refl
+none_left (x ∷ xs) none = let wrong = none (omega arith) in absurd (cc)

@@ -1,7 +1,8 @@
 -- Places have nodes of the graph, and states of the automaton.
 --
---   place_fits == so it is of each place
-use Rattle.std.proofs.Common.{ℕ, ◌≡◌, ◌<◌, inl, inr, List, [], ◌∷◌, length, refl, sym, subst}
+--   node_fits, state_fits, all_fit == so it is of each place
+--   listed_low == the node of a state is one
+use Rattle.std.proofs.Common.{ℕ, ◌≡◌, ◌<◌, inl, inr, List, length, get_or, refl, sym, subst}
 use Rattle.ml_graph.specs.Graph.{Graph, IsGraph, node_at, size}
 use Rattle.ml_graph.specs.declared.node.Node.{Node}
 use Rattle.ml_graph.specs.declared.node.Node.TheVariants as node
@@ -40,3 +41,15 @@ module _ (a : Automaton) (props : List (List ℕ)) (has : HasItsStates a) (ok : 
 
   pub all_fit : (xs : List Place) → ArePlaces a props xs → AllFit (size a.graph) (length a.states) xs
   all_fit xs are s m = let is = (are.are s).0 m in (node_fits s is, state_fits s is)
+
+-- the node of a state, where a program reads it
+pub listed_low : (a : Automaton) (g : Graph) (states : List ℕ) (i : ℕ)
+    → HasItsStates a
+    → IsGraph g
+    → g ≡ a.graph
+    → states ≡ a.states
+    → i < length states
+    → get_or states i 0 < size a.graph
+listed_low a g states i has ok same all low =
+    subst (λ xs. get_or xs i 0 < size a.graph) (sym all)
+    (state_low a.graph (subst IsGraph same ok) (node_of a i) (state_at a has i (subst (λ xs. i < length xs) all low)))

@@ -4,7 +4,8 @@
 --   one_behind, none_behind == what stands behind a literal
 --   past_true, past_literal, past_none, past_other == what stands past a state node
 --   on_same, on_past, on_either, on_nothing == what a walk goes on to
-use Rattle.std.proofs.Common.{ℕ, ◌≡◌, ◌≢◌, ◌<◌, ◌⊎◌, ◌↔◌, inl, inr, arith, Bool, true, List, [], ◌∷◌, get_or, Option, Some, None, slice_get, refl, sym, ap, ◌∙◌, subst}
+--   joined_some, joined_none, numbered_some, numbered_none == what a program holds
+use Rattle.std.proofs.Common.{ℕ, ◌≡◌, ◌≢◌, ◌<◌, ◌⊎◌, ◌↔◌, inl, inr, arith, Bool, true, List, [], ◌∷◌, length, Option, Some, None, MatchOption, slice_get, refl, sym, ap, ◌∙◌, subst}
 use Rattle.ml_lists.specs.Added.{HasOnePlace}
 use Rattle.ml_lists.specs.Ascending.{IsAscending}
 use Rattle.ml_lists.specs.Member.{IsMember}
@@ -13,7 +14,7 @@ use Rattle.ml_graph.specs.declared.node.Node.{Node}
 use Rattle.ml_graph.specs.declared.node.Node.TheVariants as node
 use Rattle.ml_labelled.specs.declared.labelled.Literal.{Literal}
 use Rattle.ml_translate.specs.Places.{GoesOnAt, IsJoined, Names, Passes, PassesNode, Place, further}
-use Rattle.ml_translate.specs.private.Finding.{Follows, IsBehindLiteral, IsPast, props_of}
+use Rattle.ml_translate.specs.private.Finding.{AreNumbers, Follows, IsBehindLiteral, IsPast, number_at, props_of}
 use Rattle.ml_translate.proofs.Cubes.{prop_above}
 
 -- ---- cubes are sets
@@ -235,3 +236,46 @@ module _ (g : Graph) (props : List (List ℕ)) (s : Place) where
         (λ m. absurd m),
         (λ f. absurd (none s.cube t.cube t.node (subst (λ w. GoesOnAt g props w s.cube t.node t.cube) is f.goes_on))),
       )
+
+-- ---- what a program holds
+
+pub joined_some : (s : Place) (n : ℕ) (l : Literal) (c d : List Literal) (o : Option (List Literal)) (ts : List Place)
+    → c ≡ s.cube
+    → MatchOption o ((e : List Literal) → ¬ (IsJoined c l e)) (IsJoined c l)
+    → o ≡ Some d
+    → ts ≡ further s n d ∷ []
+    → (t : Place) → IsMember t ts ↔ IsBehindLiteral s n l t
+joined_some s n l c d o ts same told is made t =
+    let j = subst (λ p. MatchOption p ((e : List Literal) → ¬ (IsJoined c l e)) (IsJoined c l)) is told in
+    subst (λ us. IsMember t us ↔ IsBehindLiteral s n l t) (sym made)
+    (one_behind s n l d (subst (λ (e : List Literal). IsJoined e l d) same j) t)
+
+pub joined_none : (s : Place) (n : ℕ) (l : Literal) (c : List Literal) (o : Option (List Literal)) (ts : List Place)
+    → c ≡ s.cube
+    → MatchOption o ((e : List Literal) → ¬ (IsJoined c l e)) (IsJoined c l)
+    → o ≡ None
+    → ts ≡ []
+    → (t : Place) → IsMember t ts ↔ IsBehindLiteral s n l t
+joined_none s n l c o ts same told is made t =
+    let j = subst (λ p. MatchOption p ((e : List Literal) → ¬ (IsJoined c l e)) (IsJoined c l)) is told in
+    subst (λ us. IsMember t us ↔ IsBehindLiteral s n l t) (sym made)
+    (none_behind s n l (λ d k. j d (subst (λ (e : List Literal). IsJoined e l d) (sym same) k)) t)
+
+-- the number of a literal's proposition, where it has one
+pub numbered_some : (g : Graph) (props : List (List ℕ)) (numbers : List (Option ℕ)) (k i : ℕ)
+    → AreNumbers g props numbers
+    → k < length g.props
+    → number_at numbers k ≡ Some i
+    → slice_get props i ≡ Some (prop_at g k)
+numbered_some g props numbers k i are low is =
+    subst (λ o. MatchOption o ((n : ℕ) → slice_get props n ≢ Some (prop_at g k)) (λ n. slice_get props n ≡ Some (prop_at g k))) is
+    (are.are k low)
+
+pub numbered_none : (g : Graph) (props : List (List ℕ)) (numbers : List (Option ℕ)) (k : ℕ)
+    → AreNumbers g props numbers
+    → k < length g.props
+    → number_at numbers k ≡ None
+    → (n : ℕ) → slice_get props n ≢ Some (prop_at g k)
+numbered_none g props numbers k are low is =
+    subst (λ o. MatchOption o ((n : ℕ) → slice_get props n ≢ Some (prop_at g k)) (λ n. slice_get props n ≡ Some (prop_at g k))) is
+    (are.are k low)

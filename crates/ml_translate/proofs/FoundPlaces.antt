@@ -7,16 +7,18 @@
 --   begun_none, begun_more, begun_full == where walks begin
 --   found_first, found_more, found_full == places are followed, one after the other
 --   all_found                == all places are found
---   fit_place                == what is read at a place
-use Rattle.std.proofs.Common.{ℕ, ◌≡◌, ◌+◌, ◌<◌, ◌≤◌, ◌⊎◌, ◌↔◌, inl, inr, ⊎_elim, arith, Bool, true, List, [], ◌∷◌, ◌++◌, length, get_or, Some, slice_get, refl, sym, ap, ◌∙◌, subst, length-append}
-use Rattle.std.proofs.lemmas.Bool.{cases_eq, cases_lt}
-use Rattle.std.proofs.lemmas.Option.{get_or_from_slice_get, slice_get-get_or, slice_get_within}
+--   place_read, begin_is     == what a program reads
+use Rattle.std.proofs.Common.{ℕ, ◌≡◌, ◌+◌, ◌<◌, ◌≤◌, ◌⊎◌, ◌↔◌, inl, inr, arith, Bool, true, List, [], ◌∷◌, ◌++◌, length, get_or, Some, slice_get, refl, sym, ap, ◌∙◌, subst, length-append}
+use Rattle.std.proofs.lemmas.Bool.{cases_eq}
+use Rattle.std.proofs.lemmas.List.{get_or_default}
+use Rattle.std.proofs.lemmas.Option.{slice_get-get_or}
 use Rattle.ml_lists.specs.Added.{HasOnePlace, IsAdded}
 use Rattle.ml_lists.specs.Member.{IsMember}
-use Rattle.ml_lists.proofs.Added.{added_keeps, added_long, added_once, last_or}
-use Rattle.ml_lists.proofs.Member.{member-append, member-append_left, member-append_right, member-place, member_of_get}
+use Rattle.ml_lists.proofs.Added.{added_keeps, added_long, added_once}
+use Rattle.ml_lists.proofs.Member.{member-append, member-place, member_of_get}
 use Rattle.ml_graph.specs.Graph.{Graph}
-use Rattle.ml_word_automaton.specs.Letters.{Automaton, node_of}
+use Rattle.ml_labelled.specs.declared.labelled.Literal.{Literal}
+use Rattle.ml_word_automaton.specs.Letters.{Automaton}
 use Rattle.ml_translate.specs.Places.{HasMorePlaces, IsPlace, Place, begin, begins, further, goes_on}
 use Rattle.ml_translate.specs.private.Finding.{ArePlaces, Follows, IsBegun, IsFollowed, IsFound, IsFull, IsGrown, IsPassed, Overflows, place_at}
 
@@ -320,3 +322,19 @@ module _ (a : Automaton) (props : List (List ℕ)) (limit : ℕ) where
           f.closed at.place s (further s n c) (omega arith)
           (slice_get-get_or xs at.place s at.below ∙ ap Some (at.holds s))
           (record { same_state = refl; goes_on = on })
+
+-- ---- what a program reads
+
+pub place_read : (keys read : List Place) (at : ℕ) (s : Place)
+    → read ≡ keys
+    → s ≡ get_or read at s
+    → at < length keys
+    → s ≡ place_at keys at
+place_read keys read at s same is low =
+    is ∙ ap (λ xs. get_or xs at s) same ∙ get_or_default keys at s (record { state = 0; node = 0; cube = [] }) low
+
+pub begin_is : (a : Automaton) (p : ℕ) (states : List ℕ) (cube : List Literal)
+    → states ≡ a.states
+    → cube ≡ []
+    → record { state = p; node = get_or states p 0; cube = cube } ≡ begin a p
+begin_is a p states cube same none = λ i. record { state = p; node = get_or (same i) p 0; cube = none i }

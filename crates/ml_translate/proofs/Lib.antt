@@ -20,3 +20,5 @@ pub mod SamePlaces
 pub mod PropositionNumbers
 -- places fit
 pub mod FitPlaces
+-- what is written for a formula
+pub mod WrittenTexts

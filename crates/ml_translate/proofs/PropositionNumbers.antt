@@ -3,11 +3,15 @@
 --   props_once  == each stands once
 --   props_few   == they are few
 --   numbers_more, numbers_all == the numbers of a graph's propositions, one after the other
-use Rattle.std.proofs.Common.{ℕ, ◌≡◌, ◌≢◌, ◌+◌, ◌<◌, ◌≤◌, ◌^◌, ◌⊎◌, inl, inr, arith, List, [], ◌∷◌, ◌++◌, length, get_or, Option, Some, None, MatchOption, slice_get, refl, sym, ap, ◌∙◌, subst, bytes_eq, length-append}
-use Rattle.std.specs.List.{IsDistinct}
-use Rattle.std.proofs.lemmas.Bool.{cases_eq}
+--   place_told, none_told == a name that is looked for
+use Rattle.std.proofs.Common.{ℕ, ◌≡◌, ◌≢◌, ◌+◌, ◌<◌, ◌≤◌, ◌^◌, ◌⊎◌, inl, inr, arith, List, [], ◌∷◌, ◌++◌, length, get_or, Option, Some, None, MatchOption, slice_get, refl, sym, ap, ◌∙◌, subst, bytes_eq, false, length-append}
+use Rattle.std.specs.List.{IsDistinct, list_any, position}
+use Rattle.std.proofs.lemmas.Bool.{cases_eq, true≢false}
 use Rattle.std.proofs.lemmas.List.{get_or_append_left, get_or_push}
-use Rattle.std.proofs.lemmas.Option.{get_or_from_slice_get, slice_get_within}
+use Rattle.std.proofs.lemmas.List.Quantifiers.{position-Some}
+use Rattle.std.proofs.lemmas.Option.{get_or_from_slice_get, slice_get-get_or, slice_get_within}
+use Rattle.std.proofs.lemmas.Slice.Eq.{bytes_eq-Decides}
+use Rattle.ml_lists.proofs.Member.{member-list_any, member_of_get}
 use Rattle.ml_lists.specs.Added.{HasOnePlace}
 use Rattle.ml_text.specs.Limits.{most_occurrences}
 use Rattle.ml_text.specs.Names.{Proposition, of_kind}
@@ -22,6 +26,7 @@ use Rattle.ml_translate.specs.Translation.{props_of}
 use Rattle.ml_translate.specs.private.Finding.{AreNumbers, number_at}
 
 none_distinct : IsDistinct bytes_eq []
+unfolding IsDistinct
 none_distinct = tt
 
 pub props_once : (f : Formula) → HasOnePlace (props_of f)
@@ -83,3 +88,18 @@ numbers_all g i props numbers once all r = record {
   as_long = r.as_long ∙ all;
   are = λ k low. r.are k (omega arith);
 }
+
+-- ---- names that are looked for
+
+pub place_told : (keys : List (List ℕ)) (name : List ℕ) (at : ℕ)
+    → position (bytes_eq name) keys ≡ Some at
+    → slice_get keys at ≡ Some name
+place_told keys name at found =
+    let here = position-Some (bytes_eq name) keys at [] found in
+    slice_get-get_or keys at [] here.0 ∙ ap Some (sym ((bytes_eq-Decides name (get_or keys at [])).0 here.1))
+
+pub none_told : (keys : List (List ℕ)) (name : List ℕ) (n : ℕ)
+    → list_any (bytes_eq name) keys ≡ false
+    → slice_get keys n ≢ Some name
+none_told keys name n none at =
+    true≢false (sym (member-list_any (bytes_eq name) name keys (member_of_get keys n name at) ((bytes_eq-Decides name name).1 refl)) ∙ none)

@@ -2,7 +2,9 @@
 pub mod Places
 -- the automaton of a formula
 pub mod Translation
--- what is true of places
+-- what is written of it
+pub mod Output
+-- what is true of places and texts
 pub mod Laws
 -- what private contracts cite
 pub mod private

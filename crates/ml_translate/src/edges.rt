@@ -31,7 +31,7 @@ fn empty_rows(alloc: Global, count: usize) -> Result<Vec<Vec<CubeEdge>>, NoMemor
     ensures empty { IfOk result (λ rows. (p : ℕ) → row_at (held.rows_of rows.items) p ≡ []) }
 {
     let mut rows = Vec::with_capacity(alloc, count)?;
-    for _row in 0..count {
+    while rows.len() < count {
         rows.push(Vec::new(alloc))?;
     }
     Ok(rows)
@@ -113,6 +113,8 @@ pub(crate) fn edges_of(
 {
     let numbers = state_numbers(alloc, automaton)?;
     let mut rows = empty_rows(alloc, automaton.states().len())?;
-    put_all(automaton.graph(), &numbers, &mut places, &mut rows)?;
+    let graph = automaton.graph();
+    graph.keeps();
+    put_all(graph, &numbers, &mut places, &mut rows)?;
     Ok(rows)
 }

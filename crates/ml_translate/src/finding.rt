@@ -31,8 +31,9 @@ fn add(places: &mut IndexSet<Place>, place: Place, limit: u32) -> Result<(), Tra
     ensures grown { OnOk result (IsGrown (place ∷ []) places.old.keys places.new.keys) }
     ensures few { OnOk result (length places.new.keys ≤ limit) }
     ensures passed { IsErrOf result refusal.Passed → IsFull limit places.old.keys place }
+    ensures fits { ¬ (IsErrOf result refusal.ClosureTooLarge) }
 {
-    let _at = add_place(places, place)?;
+    let _number = add_place(places, place)?;
     if places.len() > limit as usize {
         return Err(TranslateRefusal::Passed);
     }
@@ -49,6 +50,7 @@ fn add_all(
     ensures grown { OnOk result (IsGrown (places_in behind) places.old.keys places.new.keys) }
     ensures few { OnOk result (length places.new.keys ≤ limit) }
     ensures passed { IsErrOf result refusal.Passed → Overflows limit (places_in behind) places.old.keys }
+    ensures fits { ¬ (IsErrOf result refusal.ClosureTooLarge) }
 {
     match behind {
         Behind::Nothing => Ok(()),
@@ -71,6 +73,7 @@ fn begin_all(
     ensures begun { OnOk result ((props : List (List ℕ))
         → IsBegun automaton.now props (length automaton.now.states) limit places.new.keys) }
     ensures passed { IsErrOf result refusal.Passed → (props : List (List ℕ)) → HasMorePlaces automaton.now props limit }
+    ensures fits { ¬ (IsErrOf result refusal.ClosureTooLarge) }
 {
     for (state, node) in automaton.states().iter().enumerate() {
         let place = Place {
@@ -102,6 +105,7 @@ fn follow(
     ensures few { OnOk result (length places.new.keys ≤ limit) }
     ensures passed { IsErrOf result refusal.Passed → IsPassed reading.now.graph.now
         reading.now.propositions.now.names.items places.old.keys at limit }
+    ensures fits { ¬ (IsErrOf result refusal.ClosureTooLarge) }
 {
     let behind = walk_on(alloc, reading, &places.as_slice()[at])?;
     add_all(places, behind, limit)
@@ -118,6 +122,7 @@ pub(crate) fn places_of(
     ensures places { IfOk result (λ places. ArePlaces automaton.now propositions.now.names.items places.keys) }
     ensures few { IfOk result (λ places. length places.keys ≤ limit) }
     ensures passed { IsErrOf result refusal.Passed → HasMorePlaces automaton.now propositions.now.names.items limit }
+    ensures fits { ¬ (IsErrOf result refusal.ClosureTooLarge) }
 {
     let _states = automaton.states();
     let reading = Reading {

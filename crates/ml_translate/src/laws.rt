@@ -1,5 +1,5 @@
 // Laws over the definitions alone: no caller runs these functions, their contracts are the theorems.
-ghost use Rattle.ml_translate.specs.Laws.{SamePlaces};
+ghost use Rattle.ml_translate.specs.Laws.{SamePlaces, WrittenAccepts};
 ghost use Rattle.ml_translate.specs.Translation.{most_nodes};
 ghost use Rattle.std.specs.Prelude.{◌≡◌};
 
@@ -8,6 +8,15 @@ ghost use Rattle.std.specs.Prelude.{◌≡◌};
 /// Does nothing when called.
 pub fn same_places()
     ensures { SamePlaces }
+{}
+
+/// What is written for a formula stands, by the grammar of automaton texts, for an automaton that accepts exactly the word
+/// lassos that satisfy the formula; `ml_hoa::read` reads it as this automaton, if it has no more states, propositions and edges
+/// than one that is read may have.
+///
+/// Does nothing when called.
+pub fn written_accepts()
+    ensures { WrittenAccepts }
 {}
 
 /// A formula's word automaton has at most 65,536 nodes.

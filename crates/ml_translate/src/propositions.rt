@@ -1,5 +1,6 @@
 // The propositions of a formula, and their numbers.
-ghost use Rattle.std.specs.Prelude.{◌≡◌, ◌≢◌, ◌<◌, ◌^◌, ℕ, Some, slice_get, MatchOption, IfOk, length};
+ghost use Rattle.std.specs.Prelude.{◌≡◌, ◌≢◌, ◌<◌, ◌^◌, ℕ, Some, slice_get, MatchOption, IfOk, OnOk, true, length};
+ghost use Rattle.ml_ctl.specs.Sorts.{is_linear};
 ghost use Rattle.ml_lists.specs.Added.{HasOnePlace};
 ghost use Rattle.ml_translate.specs.Translation as plain;
 ghost use Rattle.ml_translate.specs.private.Finding.{AreNumbers};
@@ -82,6 +83,7 @@ impl Propositions {
     ) -> Result<Propositions, NoMemory>
         ensures names { IfOk result (λ p. p.names.items ≡ plain.props_of formula.now) }
         ensures few { IfOk result (λ p. length p.names.items < 2 ^ 32) }
+        ensures linear { OnOk result (is_linear formula.now ≡ true) }
         ensures numbers { IfOk result (λ p. AreNumbers graph.now p.names.items p.numbers.items) }
     {
         let names = Names::of_paths(alloc, formula.root())?;
