@@ -1,6 +1,7 @@
 -- The places behind a place.
 --
 --   one_cube       == a cube with a literal more is the only one
+--   children_apart == a node has one pair of children
 --   one_behind, none_behind == what stands behind a literal
 --   past_true, past_literal, past_none, past_other == what stands past a state node
 --   on_same, on_past, on_either, on_nothing == what a walk goes on to
@@ -16,6 +17,20 @@ use Rattle.ml_labelled.specs.declared.labelled.Literal.{Literal}
 use Rattle.ml_translate.specs.Places.{GoesOnAt, IsJoined, Names, Passes, PassesNode, Place, further}
 use Rattle.ml_translate.specs.private.Finding.{AreNumbers, Follows, IsBehindLiteral, IsPast, number_at, props_of}
 use Rattle.ml_translate.proofs.Cubes.{prop_above}
+
+-- ---- nodes
+
+-- children that differ differ where the node is written again
+pub children_apart : (v : Node) (l r x y : ℕ) → v ≡ node.And l r → v ≡ node.And x y → (l ≡ r → ⊥) → x ≢ y
+children_apart v l r x y is also other same = other (ap left (sym is ∙ also) ∙ same ∙ sym (ap right (sym is ∙ also)))
+  where
+    left : Node → ℕ
+    left (node.And m n) = m
+    left w = 0
+
+    right : Node → ℕ
+    right (node.And m n) = n
+    right w = 0
 
 -- ---- cubes are sets
 

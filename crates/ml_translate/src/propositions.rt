@@ -1,5 +1,7 @@
 // The propositions of a formula, and their numbers.
 ghost use Rattle.std.specs.Prelude.{◌≡◌, ◌≢◌, ◌<◌, ◌^◌, ℕ, Some, slice_get, MatchOption, IfOk, OnOk, true, length};
+ghost use Rattle.std.specs.List.{All};
+ghost use Rattle.ml_base.specs.Name.{IsName};
 ghost use Rattle.ml_ctl.specs.Sorts.{is_linear};
 ghost use Rattle.ml_lists.specs.Added.{HasOnePlace};
 ghost use Rattle.ml_translate.specs.Translation as plain;
@@ -20,10 +22,12 @@ pub(crate) struct Propositions {
 
 // the names, in order
 fn copied(alloc: Global, props: &IndexSet<Name>) -> Result<Vec<Name>, NoMemory>
-    ensures { IfOk result (λ names. names.items ≡ props.now.keys) }
+    ensures names { IfOk result (λ names. names.items ≡ props.now.keys) }
+    ensures named { OnOk result (All IsName props.now.keys) }
 {
     let mut names = Vec::with_capacity(alloc, props.len())?;
     for name in props.as_slice() {
+        let _bytes = name.bytes();
         names.push(name.copy()?)?;
     }
     Ok(names)
@@ -67,6 +71,7 @@ fn of_names(
     requires few { length props.now.keys < 2 ^ 32 }
     requires once { HasOnePlace props.now.keys }
     ensures names { IfOk result (λ p. p.names.items ≡ props.now.keys) }
+    ensures named { IfOk result (λ p. All IsName p.names.items) }
     ensures numbers { IfOk result (λ p. AreNumbers graph.now p.names.items p.numbers.items) }
 {
     let names = copied(alloc, props)?;
@@ -82,6 +87,7 @@ impl Propositions {
         graph: &ModalGraph,
     ) -> Result<Propositions, NoMemory>
         ensures names { IfOk result (λ p. p.names.items ≡ plain.props_of formula.now) }
+        ensures named { IfOk result (λ p. All IsName p.names.items) }
         ensures few { IfOk result (λ p. length p.names.items < 2 ^ 32) }
         ensures linear { OnOk result (is_linear formula.now ≡ true) }
         ensures numbers { IfOk result (λ p. AreNumbers graph.now p.names.items p.numbers.items) }

@@ -1,5 +1,7 @@
 // The automaton of a formula.
 ghost use Rattle.std.specs.Prelude.{◌<◌, ◌≤◌, ◌^◌, false, IfOk, IsErrOf, length};
+ghost use Rattle.std.specs.List.{All};
+ghost use Rattle.ml_base.specs.Name.{IsName};
 ghost use Rattle.ml_graph.specs.Graph.{size};
 ghost use Rattle.ml_blocks.specs.Closures.{HasMoreThan};
 
@@ -46,11 +48,14 @@ fn with_places(
 ) -> Result<LabelledAutomaton, TranslateRefusal>
     requires numbers { AreNumbers automaton.now.graph propositions.names.items propositions.numbers.items }
     requires few { length propositions.names.items < 2 ^ 32 }
+    requires named { All IsName propositions.names.items }
     ensures made { IfOk result (IsMadeOf automaton.now propositions.names.items limit) }
     ensures passed { IsErrOf result refusal.Passed → HasMorePlaces automaton.now propositions.names.items limit }
     ensures fits { ¬ (IsErrOf result refusal.ClosureTooLarge) }
 {
     let places = places_of(alloc, automaton, &propositions, limit)?;
+    automaton.graph().keeps();
+    let _states = automaton.states();
     let rows = edges_of(alloc, automaton, places)?;
     let Propositions { names, .. } = propositions;
     Ok(LabelledAutomaton::new(names, rows))

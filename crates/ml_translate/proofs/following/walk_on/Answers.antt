@@ -1,10 +1,10 @@
-use Rattle.std.proofs.Common.{◌≡◌, ◌↔◌, sym, ◌∙◌, arith}
+use Rattle.std.proofs.Common.{◌↔◌, sym, ◌∙◌}
 use Rattle.std.proofs.lemmas.Result.{IfOk-weaker}
 use Rattle.ml_lists.specs.Member.{IsMember}
 use Rattle.ml_graph.proofs.References.{and_left}
 use Rattle.ml_translate.specs.Places.{Place}
 use Rattle.ml_translate.specs.private.Finding.{Follows, IsPast, places_in}
-use Rattle.ml_translate.proofs.FollowedPlaces.{on_past}
+use Rattle.ml_translate.proofs.FollowedPlaces.{children_apart, on_past}
 use Rattle.ml_translate.proofs.following.walk_on.Goals as goal
 
 pub past-requires-clause-node : goal.past-requires-clause-node
@@ -23,5 +23,5 @@ returns-in-And-2 c =
     IfOk-weaker c.past.result (λ b. (t : Place) → IsMember t (places_in b) ↔ IsPast g props s l r t)
     (λ b. (t : Place) → IsMember t (places_in b) ↔ Follows g props s t)
     (λ b h. on_past g props s l r (places_in b) (sym c.node.ensures ∙ c.in-And-2.is)
-    (λ (e : c.in-And-2.left ≡ c.in-And-2.right). absurd (omega arith)) h)
+    (children_apart c.node.result.now c.in-And.left c.in-And.right l r c.in-And.is c.in-And-2.is c.if-left-right.false) h)
     c.past.ensures
