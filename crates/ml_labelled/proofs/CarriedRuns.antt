@@ -6,7 +6,7 @@
 --
 --   run_over, accepting_over == runs go along
 --   accepted_over            == so does what is accepted
-use Rattle.std.proofs.Common.{◌≡◌, ◌⊎◌, inl, inr, Bool, true, List, [], ◌∷◌, ◌++◌, refl, subst}
+use Rattle.std.proofs.Common.{◌≡◌, inl, inr, Bool, true, List, [], ◌∷◌, ◌++◌, refl, subst}
 use Rattle.ml_lists.specs.Repeated.{repeated}
 use Rattle.ml_trace.specs.Run.{AcceptingRun, Run}
 use Rattle.ml_trace.specs.WordAutomata.{IsAcceptedFrom, WordLasso, stem, turn}

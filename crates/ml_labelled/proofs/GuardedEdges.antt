@@ -3,14 +3,14 @@
 --   guard_fits, fits_guard == the guard of a cube is true in a letter exactly where the cube fits it
 --   edge_from, edge_to     == the edges with guards are those of the states
 --   guards_lead_same       == the law
-use Rattle.std.proofs.Common.{ℕ, zero, suc, ◌≡◌, ◌+◌, ◌&&◌, ◌⊎◌, Bool, true, false, not, cond, List, [], ◌∷◌, ◌++◌, map, get_or, inl, inr, refl, sym, ap, ◌∙◌, subst, arith}
+use Rattle.std.proofs.Common.{ℕ, zero, suc, ◌≡◌, ◌+◌, ◌⊎◌, Bool, true, false, not, cond, List, [], ◌∷◌, map, get_or, inl, inr, refl, sym, ap, ◌∙◌, subst, arith}
 use Rattle.std.specs.List.{flat_map, enumerate_from}
 use Rattle.std.proofs.lemmas.Bool.{and_from, and_parts}
 use Rattle.ml_lists.specs.Member.{IsMember}
 use Rattle.ml_lists.proofs.Member.{member-append, member-append_left, member-append_right, member-map, member-map_from}
 use Rattle.ml_hoa.specs.Automaton as hoa
 use Rattle.ml_labelled.specs.declared.labelled.Literal.{Literal}
-use Rattle.ml_labelled.specs.Labelled.{Automaton, Edge, Fits, IsTrueIn, Leads, Letter, edges_of, has}
+use Rattle.ml_labelled.specs.Labelled.{Edge, Fits, IsTrueIn, Leads, Letter, has}
 use Rattle.ml_labelled.specs.LabelledText.{GuardsLead, guard_of, guard_on, guarded, guarded_edge, guarded_edges, holds, literal_guard}
 use Rattle.ml_labelled.specs.Laws.{GuardsLeadSame}
 

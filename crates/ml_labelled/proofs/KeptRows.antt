@@ -8,7 +8,7 @@ use Rattle.std.specs.List.{SwappedAt}
 use Rattle.std.proofs.lemmas.Bool.{cases_eq, true≢false}
 use Rattle.std.proofs.lemmas.List.{get_or-take, length-take-le}
 use Rattle.ml_lists.proofs.Counting.{count-false, count-true, count_le}
-use Rattle.ml_lists.proofs.Ranks.{count_passes, count_upto}
+use Rattle.ml_lists.proofs.Ranks.{count_passes}
 use Rattle.ml_labelled.specs.private.Reaching.{IsKept, IsKeptTo, mark, rank}
 
 module _ {X : Type 0} (marks : List Bool) (old : List X) where

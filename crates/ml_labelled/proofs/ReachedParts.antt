@@ -4,7 +4,7 @@
 --   same_accepted == it accepts the same
 --   part_reached  == each of its states is reached
 --   part_labelled == it is an automaton
-use Rattle.std.proofs.Common.{ℕ, ◌≡◌, ◌+◌, ◌<◌, ◌≤◌, ◌^◌, ◌⊎◌, inl, inr, ⊎_elim, arith, Bool, true, List, [], ◌∷◌, length, map, get_or, refl, sym, ap, ◌∙◌, subst}
+use Rattle.std.proofs.Common.{ℕ, ◌≡◌, ◌<◌, ◌≤◌, ◌^◌, inl, inr, ⊎_elim, arith, Bool, true, List, [], ◌∷◌, length, map, get_or, refl, sym, ap, ◌∙◌, subst}
 use Rattle.std.specs.Global.{Vec}
 use Rattle.std.specs.List.{All}
 use Rattle.std.proofs.lemmas.Bool.{cases_lt}
@@ -14,7 +14,6 @@ use Rattle.ml_lists.specs.Member.{IsMember}
 use Rattle.ml_lists.proofs.Counting.{count_le}
 use Rattle.ml_lists.proofs.Member.{member-map, member-map_from, member-place}
 use Rattle.ml_lists.proofs.Ranks.{Ranked, count_hit, count_passes, count_same}
-use Rattle.ml_trace.specs.WordAutomata.{IsWordLasso, WordLasso}
 use Rattle.ml_labelled.specs.Labelled.{AcceptSame, AreReached, Automaton, Edge, Fits, IsCube, IsEdge, IsLabelled, IsReached, Leads, Letter, along, begins, edges_of}
 use Rattle.ml_labelled.specs.private.Reaching.{AreMarked, AreRanks, IsKept, IsPart, TargetsFit, mark, moved, rank, retargeted}
 use Rattle.ml_labelled.specs.private.Views.{edges_in, held, rows_of}
@@ -118,8 +117,7 @@ module _ (marks : List Bool) (a b : Automaton) (is : IsLabelled a) (marked : Are
   there : (l : Letter) (p q : ℕ) (c : Bool) (x : ℕ) → Joined p x → Leads a l p q c → (y : ℕ) × Joined q y × Leads b l x y c
   there l p q c x j lead =
       let e = lead.edge in
-      let to = behind p e j.passes lead.is_edge in
-      (
+      let to = behind p e j.passes lead.is_edge in (
         rank marks e.to,
         subst (λ s. Joined s (rank marks e.to)) lead.to_is to,
         record {
@@ -138,8 +136,7 @@ module _ (marks : List Bool) (a b : Automaton) (is : IsLabelled a) (marked : Are
       let e = i.from in
       let same = i.holds in
       let to = behind p e j.passes i.member in
-      let number : rank marks e.to ≡ y = sym (ap (λ (f : Edge). f.to) same) ∙ lead.to_is in
-      (
+      let number : rank marks e.to ≡ y = sym (ap (λ (f : Edge). f.to) same) ∙ lead.to_is in (
         e.to,
         subst (Joined e.to) number to,
         record {
@@ -158,7 +155,7 @@ module _ (marks : List Bool) (a b : Automaton) (is : IsLabelled a) (marked : Are
   same_accepted w lasso = (
     accepted_over (Leads a) (Leads b) Joined there w 0 0 (λ s y z j k. j.number ∙ sym k.number) start,
     accepted_over (Leads b) (Leads a) (λ x p. Joined p x) back w 0 0
-    (λ x p q j k. count_same (mark marks) p q j.passes k.passes (sym j.number ∙ k.number)) start,
+        (λ x p q j k. count_same (mark marks) p q j.passes k.passes (sym j.number ∙ k.number)) start,
   )
 
   carried : (p : ℕ) → IsReached a p → (mark marks p ≡ true) × IsReached b (rank marks p)

@@ -2,28 +2,24 @@
 --
 --   SetsRead, EdgeRead, EdgesRead, StatesRead == what stands in the text is such a part, and has these edges
 --   sets_read, edge_read, edges_read, states_read == so it is
-use Rattle.std.proofs.Common.{ℕ, zero, suc, ◌≡◌, ◌+◌, ◌*◌, ◌<◌, ◌≤◌, ◌^◌, ◌||◌, ◌⊎◌, Bool, true, false, cond, nat_eq, nat_le, List, [], ◌∷◌, ◌++◌, length, map, Option, Some, None, inl, inr, refl, sym, ap, ◌∙◌, subst, arith, append_assoc, length-append}
+use Rattle.std.proofs.Common.{ℕ, suc, ◌≡◌, ◌+◌, ◌*◌, ◌<◌, ◌≤◌, ◌^◌, ◌||◌, ◌⊎◌, Bool, true, false, nat_eq, nat_le, List, [], ◌∷◌}
+use Rattle.std.proofs.Common.{◌++◌, length, map, Option, Some, None, inl, inr, refl, sym, ap, ◌∙◌, subst, arith, append_assoc, length-append}
 use Rattle.std.specs.List.{flat_map, enumerate_from, list_any}
 use Rattle.std.proofs.lemmas.Bool.Decides.{nat_tests}
 use Rattle.std.proofs.lemmas.Bool.{cond-false}
-use Rattle.std.proofs.lemmas.List.Elements.{All-nil, All-cons}
-use Rattle.std.specs.List.{All}
-use Rattle.ml_lines.specs.Lines.{line_text, next, number}
+use Rattle.ml_lines.specs.Lines.{next, number}
 use Rattle.ml_lines.proofs.Words.{line_text-words}
 use Rattle.ml_lists.specs.Member.{IsMember}
 use Rattle.ml_lists.proofs.Member.{member-append, member-append_left, member-append_right}
 use Rattle.ml_text.specs.Bytes.{is_digit}
-use Rattle.ml_hoa.specs.Automaton as hoa
-use Rattle.ml_hoa.specs.Automaton.{most_operators}
-use Rattle.ml_hoa.specs.AutomatonText.{IsSmallLabel, accepts, body_faults, edge_faults, edge_of, edges_in, has_zero, id_faults, label_faults, most_inside, most_open, number_of, operators_in, past, sets_faults, sets_of}
+use Rattle.ml_hoa.specs.AutomatonText.{accepts, body_faults, edge_faults, edge_of, edges_in, has_zero, id_faults, most_inside, number_of, operators_in, past, sets_faults, sets_of}
 use Rattle.ml_hoa.specs.Grammar.{EdgeText, Heads, Numeral, StateText, edge_tokens, label_tokens, number_token, sets_tokens, state_tokens}
-use Rattle.ml_hoa.specs.Tokens.{Plain, Token, tokens_at}
-use Rattle.ml_hoa.specs.declared.reader.Acceptance.{Acceptance}
+use Rattle.ml_hoa.specs.Tokens.{Plain, tokens_at}
 use Rattle.ml_hoa.specs.declared.reader.Acceptance.TheVariants as acceptance
 use Rattle.ml_hoa.specs.declared.token.Mark.TheVariants as mark
 use Rattle.ml_labelled.specs.declared.labelled.Literal.{Literal}
 use Rattle.ml_labelled.specs.Labelled.{Edge}
-use Rattle.ml_labelled.specs.LabelledText.{bracketed, edge_text, guard_of, guarded_edge, guarded_edges, label, set_words, state_text}
+use Rattle.ml_labelled.specs.LabelledText.{bracketed, edge_text, guarded_edge, guarded_edges, label, set_words, state_text}
 use Rattle.ml_labelled.proofs.ReadLabels.{in_range, label_read, numeral, numeral_is}
 use Rattle.ml_labelled.proofs.WrittenTokens.{number_read, onward, signs_at}
 
@@ -212,12 +208,11 @@ module _ (h : Heads) (states : ℕ) (few_states : states < 2 ^ 32) (few_props : 
           → operators_in here.label ≤ 2 * length e.cube
           → most_inside here.label ≡ 0
           → ((most : ℕ)
-              → ((f : Edge) → IsMember f es → length f.cube ≤ most)
-              → (t : EdgeText) → IsMember t texts → (operators_in t.label ≤ 2 * most) × (most_inside t.label ≡ 0))
+          → ((f : Edge) → IsMember f es → length f.cube ≤ most)
+          → (t : EdgeText) → IsMember t texts → (operators_in t.label ≤ 2 * most) × (most_inside t.label ≡ 0))
           → (operators_in t.label ≤ 2 * most) × (most_inside t.label ≡ 0)
       by_place here texts most all t (inl is) few flat more =
-          let low = all e (inl refl) in
-          (
+          let low = all e (inl refl) in (
             subst (λ (x : EdgeText). operators_in x.label ≤ 2 * most) (sym is) (omega arith),
             subst (λ (x : EdgeText). most_inside x.label ≡ 0) (sym is) flat,
           )
@@ -342,11 +337,11 @@ module _ (h : Heads) (states : ℕ) (few_states : states < 2 ^ 32) (few_props : 
           → (t : EdgeText)
           → IsMember t texts ⊎ IsMember t others
           → ((most : ℕ)
-              → ((e : Edge) → IsMember e es → length e.cube ≤ most)
-              → (t : EdgeText) → IsMember t texts → (operators_in t.label ≤ 2 * most) × (most_inside t.label ≡ 0))
+          → ((e : Edge) → IsMember e es → length e.cube ≤ most)
+          → (t : EdgeText) → IsMember t texts → (operators_in t.label ≤ 2 * most) × (most_inside t.label ≡ 0))
           → ((most : ℕ)
-              → ((e : Edge) → IsMember e (flat_map (λ fs. fs) rows) → length e.cube ≤ most)
-              → (t : EdgeText) → IsMember t others → (operators_in t.label ≤ 2 * most) × (most_inside t.label ≡ 0))
+          → ((e : Edge) → IsMember e (flat_map (λ fs. fs) rows) → length e.cube ≤ most)
+          → (t : EdgeText) → IsMember t others → (operators_in t.label ≤ 2 * most) × (most_inside t.label ≡ 0))
           → (operators_in t.label ≤ 2 * most) × (most_inside t.label ≡ 0)
       by_part texts others most all t (inl m) small more =
           small most (λ e k. all e (member-append_left e es (flat_map (λ fs. fs) rows) k)) t m

@@ -4,30 +4,29 @@
 --   text_read    == its tokens are those of a draft
 --   text_stands  == it stands for the automaton
 --   text_is_read == and is read as it, within the limits
-use Rattle.std.proofs.Common.{ℕ, zero, suc, ◌≡◌, ◌+◌, ◌*◌, ◌<◌, ◌≤◌, ◌^◌, ◌⊎◌, Bool, true, false, cond, nat_le, List, [], ◌∷◌, ◌++◌, length, map, get_or, Option, Some, None, inl, inr, refl, sym, ap, ◌∙◌, subst, arith, append_assoc, length-append, codes}
+use Rattle.std.proofs.Common.{ℕ, ◌≡◌, ◌+◌, ◌*◌, ◌<◌, ◌≤◌, ◌^◌, List, [], ◌∷◌, ◌++◌, length}
+use Rattle.std.proofs.Common.{map, inl, inr, refl, sym, ap, ◌∙◌, subst, arith, append_assoc, codes}
 use Rattle.std.specs.List.{flat_map, enumerate_from, All}
-use Rattle.std.proofs.lemmas.Bool.Decides.{nat_tests}
 use Rattle.std.proofs.lemmas.List.{length-map}
 use Rattle.std.proofs.lemmas.List.Elements.{All-nil, All-cons}
 use Rattle.ml_base.specs.Name.{IsName}
-use Rattle.ml_lines.specs.Lines.{line_text, next, number, text_of}
+use Rattle.ml_lines.specs.Lines.{line_text, next, number}
 use Rattle.ml_lines.proofs.Words.{line_text-words}
 use Rattle.ml_lists.specs.Ascending.{IsAscending}
 use Rattle.ml_lists.specs.Member.{IsMember}
 use Rattle.ml_lists.proofs.Member.{All-member, member-All, member-flat_map_from, member-map_from, member-place}
-use Rattle.ml_hoa.specs.Automaton.{most_edges, most_operators, most_props, most_states}
-use Rattle.ml_hoa.specs.AutomatonText.{IsSmall, IsSmallLabel, StandsFor, automaton_of, body_faults, faults, most_inside, number_of, operators_in}
-use Rattle.ml_hoa.specs.Grammar.{Draft, EdgeText, Header, Heads, IsDraft, IsHeader, IsText, Marked, Numeral, Other, Props, Start, StateText, States, body_tokens, draft_tokens, header_tokens, number_token, state_tokens}
-use Rattle.ml_hoa.specs.Refusals.{IsReadAs}
+use Rattle.ml_hoa.specs.Automaton.{most_props}
+use Rattle.ml_hoa.specs.AutomatonText.{IsSmallLabel, automaton_of, body_faults, faults, most_inside, number_of, operators_in}
+use Rattle.ml_hoa.specs.Grammar.{Draft, EdgeText, Header, Heads, IsDraft, IsHeader, Marked, Other, Props, Start, StateText, States, body_tokens, draft_tokens, header_tokens, number_token, state_tokens}
 use Rattle.ml_hoa.specs.Tokens.{Number, Plain, Text, Token, signs_of, tokens, tokens_at}
 use Rattle.ml_hoa.specs.declared.reader.Acceptance.TheVariants as acceptance
 use Rattle.ml_hoa.specs.declared.token.Mark.TheVariants as mark
 use Rattle.ml_labelled.specs.declared.labelled.Literal.{Literal}
 use Rattle.ml_labelled.specs.Labelled.{Automaton, Edge, IsCube, IsLabelled, edges_of}
-use Rattle.ml_labelled.specs.LabelledText.{IsWithinLimits, StandsIn, automaton_text, guarded, guarded_edges, quoted, state_text}
+use Rattle.ml_labelled.specs.LabelledText.{automaton_text, guarded, quoted, state_text}
 use Rattle.ml_labelled.specs.Laws.{TextIsRead, TextStands}
 use Rattle.ml_labelled.proofs.ReadLabels.{in_range, numeral, numeral_is}
-use Rattle.ml_labelled.proofs.ReadStates.{AreWithin, IsWithin, StatesRead, states_read}
+use Rattle.ml_labelled.proofs.ReadStates.{AreWithin, states_read}
 use Rattle.ml_labelled.proofs.WrittenTokens.{number_read, onward, quoted_read, signs_at}
 
 -- ---- what is fixed
@@ -89,15 +88,14 @@ names_read [] i rest all = (i, refl)
 names_read (p ∷ names) i rest all =
     let behind = flat_map next (map quoted names) ++ rest in
     let here = quoted_read (i + 1) p behind (all p (inl refl)) in
-    let more = names_read names here.0 rest (λ q m. all q (inr m)) in
-    (
+    let more = names_read names here.0 rest (λ q m. all q (inr m)) in (
       more.0,
       ap (signs_at i)
-      (append_assoc (next (quoted p)) (flat_map next (map quoted names)) rest
-      ∙ ap (λ text. 32 ∷ 34 ∷ text) (append_assoc p (34 ∷ []) behind))
-      ∙ blank_read i (p ++ 34 ∷ behind)
-      ∙ here.1
-      ∙ ap (λ ts. Text p ∷ ts) more.1,
+          (append_assoc (next (quoted p)) (flat_map next (map quoted names)) rest
+          ∙ ap (λ text. 32 ∷ 34 ∷ text) (append_assoc p (34 ∷ []) behind))
+          ∙ blank_read i (p ++ 34 ∷ behind)
+          ∙ here.1
+          ∙ ap (λ ts. Text p ∷ ts) more.1,
     )
 
 -- behind the number of propositions a blank stands, or the end of the line

@@ -9,7 +9,7 @@ use Rattle.std.proofs.lemmas.List.{get_or-map, get_or-replicate, get_or-set_othe
 use Rattle.ml_lists.specs.Counting.{count}
 use Rattle.ml_lists.specs.Member.{IsMember}
 use Rattle.ml_lists.proofs.Counting.{count_strict}
-use Rattle.ml_lists.proofs.Member.{member-append, member-append_left, member-append_right, member-map}
+use Rattle.ml_lists.proofs.Member.{member-append, member-append_left, member-append_right}
 use Rattle.ml_labelled.specs.Labelled.{Automaton, Edge, IsLabelled, IsReached, along, begins, edges_of}
 use Rattle.ml_labelled.specs.private.Reaching.{AreMarked, IsSpread, IsWalk, left, mark, targets}
 use Rattle.std.specs.Global.{Vec}

@@ -5,9 +5,9 @@
 --   onward k i       == the place k bytes behind the place i
 --   number_read      == a number, behind which no digit stands
 --   quoted_read      == a name between quotes
-use Rattle.std.proofs.Common.{ℕ, zero, suc, ◌≡◌, ◌+◌, ◌-◌, ◌<◌, ◌^◌, ◌==◌, ◌&&◌, ◌||◌, Bool, true, false, not, nat_le, List, [], ◌∷◌, ◌++◌, length, take, Some, length-append, refl, sym, ap, ◌∙◌, arith, append_assoc}
+use Rattle.std.proofs.Common.{ℕ, zero, suc, ◌≡◌, ◌+◌, ◌-◌, ◌<◌, ◌^◌, ◌==◌, ◌&&◌, Bool, true, false, not, nat_le, List, [], ◌∷◌, ◌++◌, length, take, Some, length-append, refl, sym, ap, ◌∙◌, arith, append_assoc}
 use Rattle.std.specs.Char.{is_ascii_alphabetic, is_ascii_digit}
-use Rattle.std.specs.List.{list_all, prefix_len, take_while, starts_with}
+use Rattle.std.specs.List.{list_all, prefix_len, take_while}
 use Rattle.std.specs.Str.{all_ascii_digits}
 use Rattle.std.proofs.Math.Seq.{take-append_seam}
 use Rattle.std.proofs.lemmas.Bool.{and_parts, cond-true, cond-false}
@@ -16,8 +16,8 @@ use Rattle.std.proofs.lemmas.Fmt.{decimal_nonempty}
 use Rattle.ml_base.specs.Name.{IsName, is_name_byte, longest_name}
 use Rattle.ml_lines.specs.Lines.{number}
 use Rattle.ml_lines.proofs.Numbers.{digits-number}
-use Rattle.ml_text.specs.Bytes.{is_blank, is_digit, is_letter}
-use Rattle.ml_hoa.specs.Tokens.{Token, Number, Text, Placed, Piece, closing_quote, front_piece, number_piece, piece, placed, quoted, signs_of, tokens_at, commented, closing_comment, marked, worded}
+use Rattle.ml_text.specs.Bytes.{is_blank, is_digit}
+use Rattle.ml_hoa.specs.Tokens.{Token, Number, Text, Piece, closing_quote, front_piece, number_piece, piece, placed, quoted, signs_of, tokens_at}
 
 abbrev pub signs_at : ℕ → List ℕ → List Token
 signs_at i text = signs_of (tokens_at 0 i text)
@@ -87,13 +87,12 @@ digits_read i b [] r all some other = absurd (omega arith)
 digits_read i b (d ∷ ds) r all some other =
     let p = number_piece i (d ∷ ds) in
     let less : suc (length ds) - 1 ≡ length ds = omega arith in
-    let behind = passed_over ds (b ∷ r) (i + 1) in
-    (
+    let behind = passed_over ds (b ∷ r) (i + 1) in (
       behind.0,
       ap signs_of
-      (step_from i d (ds ++ b ∷ r) p (front_of_digits i d b ds r all other)
-      ∙ ap (λ k. record { token = Number (d ∷ ds) i; at = i } ∷ tokens_at k (i + 1) (ds ++ b ∷ r)) less
-      ∙ ap (λ ts. record { token = Number (d ∷ ds) i; at = i } ∷ ts) behind.1),
+          (step_from i d (ds ++ b ∷ r) p (front_of_digits i d b ds r all other)
+          ∙ ap (λ k. record { token = Number (d ∷ ds) i; at = i } ∷ tokens_at k (i + 1) (ds ++ b ∷ r)) less
+          ∙ ap (λ ts. record { token = Number (d ∷ ds) i; at = i } ∷ ts) behind.1),
     )
 
 pub number_read : (n i b : ℕ) (r : List ℕ)
@@ -146,13 +145,12 @@ pub quoted_read : (i : ℕ) (name r : List ℕ)
 quoted_read i name r is =
     let p = piece (Text name) (length name + 2) in
     let behind = passed_over (name ++ 34 ∷ []) r (i + 1) in
-    let less : length name + 2 - 1 ≡ length (name ++ 34 ∷ []) = omega (arith, length-append name (34 ∷ [])) in
-    (
+    let less : length name + 2 - 1 ≡ length (name ++ 34 ∷ []) = omega (arith, length-append name (34 ∷ [])) in (
       behind.0,
       ap signs_of
-      (step_from i 34 (name ++ 34 ∷ r) p (quoted_at i name r is)
-      ∙ ap (λ k. record { token = Text name; at = i } ∷ tokens_at k (i + 1) (name ++ 34 ∷ r)) less
-      ∙ ap (λ text. record { token = Text name; at = i } ∷ tokens_at (length (name ++ 34 ∷ [])) (i + 1) text)
-      (sym (append_assoc name (34 ∷ []) r))
-      ∙ ap (λ ts. record { token = Text name; at = i } ∷ ts) behind.1),
+          (step_from i 34 (name ++ 34 ∷ r) p (quoted_at i name r is)
+          ∙ ap (λ k. record { token = Text name; at = i } ∷ tokens_at k (i + 1) (name ++ 34 ∷ r)) less
+          ∙ ap (λ text. record { token = Text name; at = i } ∷ tokens_at (length (name ++ 34 ∷ [])) (i + 1) text)
+          (sym (append_assoc name (34 ∷ []) r))
+          ∙ ap (λ ts. record { token = Text name; at = i } ∷ ts) behind.1),
     )

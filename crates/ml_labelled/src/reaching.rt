@@ -22,7 +22,11 @@ fn visit(marks: &mut Vec<bool>, waiting: &mut Vec<u32>, n: u32) -> Result<(), No
 }
 
 // so for each number to which an edge leads
-fn visit_all(marks: &mut Vec<bool>, waiting: &mut Vec<u32>, edges: &[CubeEdge]) -> Result<(), NoMemory>
+fn visit_all(
+    marks: &mut Vec<bool>,
+    waiting: &mut Vec<u32>,
+    edges: &[CubeEdge],
+) -> Result<(), NoMemory>
     requires { (n : ℕ) → IsMember n (targets edges.now) → n < length marks.old.items }
     ensures { OnOk result (IsSpread (targets edges.now) marks.old.items waiting.old.items marks.new.items waiting.new.items) }
 {
@@ -102,7 +106,10 @@ fn keep_marked(rows: &mut Vec<Vec<CubeEdge>>, marks: &[bool])
 /// `NoMemory` alone.
 ///
 /// Cost: linear in the edges.
-pub fn reached_part(alloc: Global, automaton: LabelledAutomaton) -> Result<LabelledAutomaton, NoMemory>
+pub fn reached_part(
+    alloc: Global,
+    automaton: LabelledAutomaton,
+) -> Result<LabelledAutomaton, NoMemory>
     ensures labelled { IfOk result IsLabelled }
     ensures same { IfOk result (λ b. AcceptSame automaton b) }
     ensures props { IfOk result (λ b. b.props ≡ automaton.props) }

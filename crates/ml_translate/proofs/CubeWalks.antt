@@ -4,11 +4,10 @@
 --   walk_of        == a place whose cube fits a letter is come to under the letter
 --   place_at_walk  == what is come to under a letter is a place whose cube fits it
 --   KnowsLiterals  == the literals of the graph name propositions that are listed
-use Rattle.std.proofs.Common.{ℕ, ◌≡◌, ◌≢◌, ◌<◌, ◌⊎◌, ◌↔◌, inl, inr, ⊎_elim, arith, Bool, true, false, List, [], ◌∷◌, length, get_or, Some, slice_get, refl, sym, ap, ◌∙◌, subst}
+use Rattle.std.proofs.Common.{ℕ, ◌≡◌, ◌<◌, ◌⊎◌, inl, inr, Bool, List, [], length, Some, slice_get, refl, sym, ap, ◌∙◌, subst}
 use Rattle.std.proofs.lemmas.Bool.{cases_eq}
-use Rattle.std.proofs.lemmas.Option.{get_or_from_slice_get, slice_get-get_or}
+use Rattle.std.proofs.lemmas.Option.{get_or_from_slice_get}
 use Rattle.ml_lists.specs.Ascending.{IsAscending}
-use Rattle.ml_lists.specs.Member.{IsMember}
 use Rattle.ml_graph.specs.Graph.{Graph, node_at, prop_at}
 use Rattle.ml_graph.specs.declared.node.Node.{Node}
 use Rattle.ml_graph.specs.declared.node.Node.TheVariants as node
@@ -16,7 +15,7 @@ use Rattle.ml_labelled.specs.declared.labelled.Literal.{Literal}
 use Rattle.ml_labelled.specs.Labelled.{Fits, IsTrueIn, Letter, has}
 use Rattle.ml_word_automaton.specs.Letters.{Automaton, node_of}
 use Rattle.ml_word_automaton.specs.WordAutomaton.{IsTrueNode, Walks, itself, past_same, past_true, to_left, to_right}
-use Rattle.ml_translate.specs.Places.{GoesOn, GoesOnAt, IsJoined, IsPlace, Names, Passes, PassesNode, Place, begin, begins, further, goes_on}
+use Rattle.ml_translate.specs.Places.{GoesOn, GoesOnAt, IsPlace, Names, PassesNode, Place, begins, goes_on}
 use Rattle.ml_translate.specs.private.Finding.{props_of}
 use Rattle.ml_translate.proofs.Cubes.{fits_joined, some_joined}
 
@@ -80,11 +79,10 @@ module _ (g : Graph) (props : List (List ℕ)) (letter : Letter) where
       → Fits props letter d
       → IsTrueNode g letter v × Fits props letter c
   passed_true node.True c d same fits = (tt, subst (Fits props letter) same fits)
-  passed_true (node.Lit k b) c d (l, names, joined) fits =
-      (
-        true_literal g props letter k b l names (fits l ((joined.literals l).1 (inr refl))),
-        λ m i. fits m ((joined.literals m).1 (inl i)),
-      )
+  passed_true (node.Lit k b) c d (l, names, joined) fits = (
+    true_literal g props letter k b l names (fits l ((joined.literals l).1 (inr refl))),
+    λ m i. fits m ((joined.literals m).1 (inl i)),
+  )
   passed_true node.False c d none fits = absurd none
   passed_true (node.And x y) c d none fits = absurd none
   passed_true (node.Or x y) c d none fits = absurd none

@@ -7,7 +7,7 @@
 --   not_joined       == one of the other sign doesn't
 --   fits_joined      == a cube with a literal more fits a letter where both do
 --   some_joined      == where both do, there is such a cube
-use Rattle.std.proofs.Common.{ℕ, zero, suc, ◌≡◌, ◌≢◌, ◌+◌, ◌<◌, ◌≤◌, ◌⊎◌, ◌↔◌, inl, inr, ⊎_elim, arith, Bool, true, false, not, List, [], ◌∷◌, ◌++◌, length, map, take, drop, get_or, refl, sym, ap, ◌∙◌, subst}
+use Rattle.std.proofs.Common.{ℕ, zero, suc, ◌≡◌, ◌≢◌, ◌<◌, ◌≤◌, ◌⊎◌, ◌↔◌, inl, inr, arith, Bool, true, false, not, List, [], ◌∷◌, ◌++◌, length, take, drop, get_or, refl, sym, ap, ◌∙◌, subst}
 use Rattle.std.specs.Bool.{beq}
 use Rattle.std.proofs.lemmas.Bool.{cases_eq, cases_lt}
 use Rattle.std.proofs.lemmas.List.{get_or_default, take-append-drop}
@@ -63,14 +63,13 @@ ascends_inserted (x ∷ xs) zero l (above, ascend) low high =
     by : (y : ℕ) → IsMember y (props_of (x ∷ xs)) → l.prop < x.prop → l.prop < y
     by y (inl same) less = subst (λ z. l.prop < z) (sym same) less
     by y (inr m) less = let more = above y m in omega arith
-ascends_inserted (x ∷ xs) (suc at) l (above, ascend) low high =
-    (
-      (λ y m. by y (member-map_from (λ (k : Literal). k.prop) y (inserted xs at l) m).from
+ascends_inserted (x ∷ xs) (suc at) l (above, ascend) low high = (
+  (λ y m. by y (member-map_from (λ (k : Literal). k.prop) y (inserted xs at l) m).from
       (member-map_from (λ (k : Literal). k.prop) y (inserted xs at l) m).member
       (member-map_from (λ (k : Literal). k.prop) y (inserted xs at l) m).holds (low zero x (omega arith) (omega arith))),
-      ascends_inserted xs at l ascend (λ k d less within. low (suc k) d (omega arith) (omega arith))
-          (λ d within. high d (omega arith)),
-    )
+  ascends_inserted xs at l ascend (λ k d less within. low (suc k) d (omega arith) (omega arith))
+      (λ d within. high d (omega arith)),
+)
   where
     parts : (m : Literal) → IsMember m xs ⊎ (m ≡ l) → x.prop < l.prop → x.prop < m.prop
     parts m (inl k) less = prop_above x.prop xs above m k
@@ -151,11 +150,14 @@ split_at [] p ascend = (0, record { within = omega arith; below = λ k d less. a
 split_at (x ∷ xs) p (above, ascend) = by (cases_lt x.prop p) (split_at xs p ascend)
   where
     by : (x.prop < p) ⊎ (p ≤ x.prop) → (at : ℕ) × IsSplit xs p at → (at : ℕ) × IsSplit (x ∷ xs) p at
-    by (inl low) (at, s) = (suc at, record {
-      within = let within = s.within in omega arith;
-      below = below;
-      behind = λ d less. s.behind d (omega arith);
-    })
+    by (inl low) (at, s) = (
+      suc at,
+      record {
+        within = let within = s.within in omega arith;
+        below = below;
+        behind = λ d less. s.behind d (omega arith);
+      },
+    )
       where
         below : (k : ℕ) (d : Literal) → k < suc at → (get_or (x ∷ xs) k d).prop < p
         below zero d less = low
@@ -187,9 +189,11 @@ some_joined props letter c l ascend fits is_true =
 
         at_place : ((get_or c at l).prop ≡ l.prop) ⊎ ((get_or c at l).prop ≡ l.prop → ⊥) → (d : List Literal) × IsJoined c l d
         at_place (inl same) = (c, joined_known c l ascend (subst (λ (n : Literal). IsMember n c) (same_literal same) there))
-        at_place (inr other) =
-            (inserted c at l, joined_new c at l ascend s
-            (λ d within. subst (λ (n : Literal). n.prop ≢ l.prop) (get_or_default c at l d low) other))
+        at_place (inr other) = (
+          inserted c at l,
+          joined_new c at l ascend s
+              (λ d within. subst (λ (n : Literal). n.prop ≢ l.prop) (get_or_default c at l d low) other),
+        )
 
 -- ---- what a program reads
 

@@ -13,7 +13,6 @@ use Rattle.ml_word_automaton.proofs.HeldTransitions.{state_low}
 use Rattle.ml_word_automaton.proofs.NumberedStates.{state_at}
 use Rattle.ml_translate.specs.Places.{GoesOnAt, IsPlace, Place, begins, goes_on}
 use Rattle.ml_translate.specs.private.Finding.{AllFit, ArePlaces}
-use Rattle.ml_lists.specs.Member.{IsMember}
 
 on_low : (g : Graph) (props : List (List ℕ)) (ok : IsGraph g) (n m : ℕ) (c d : List Literal) (v : Node)
     → n < size g

@@ -6,7 +6,7 @@
 --   past_true, past_literal, past_none, past_other == what stands past a state node
 --   on_same, on_past, on_either, on_nothing == what a walk goes on to
 --   joined_some, joined_none, numbered_some, numbered_none == what a program holds
-use Rattle.std.proofs.Common.{ℕ, ◌≡◌, ◌≢◌, ◌<◌, ◌⊎◌, ◌↔◌, inl, inr, arith, Bool, true, List, [], ◌∷◌, length, Option, Some, None, MatchOption, slice_get, refl, sym, ap, ◌∙◌, subst}
+use Rattle.std.proofs.Common.{ℕ, ◌≡◌, ◌≢◌, ◌<◌, ◌⊎◌, ◌↔◌, inl, inr, arith, Bool, List, [], ◌∷◌, length, Option, Some, None, MatchOption, slice_get, refl, sym, ap, ◌∙◌, subst}
 use Rattle.ml_lists.specs.Added.{HasOnePlace}
 use Rattle.ml_lists.specs.Ascending.{IsAscending}
 use Rattle.ml_lists.specs.Member.{IsMember}
@@ -14,7 +14,7 @@ use Rattle.ml_graph.specs.Graph.{Graph, node_at, prop_at}
 use Rattle.ml_graph.specs.declared.node.Node.{Node}
 use Rattle.ml_graph.specs.declared.node.Node.TheVariants as node
 use Rattle.ml_labelled.specs.declared.labelled.Literal.{Literal}
-use Rattle.ml_translate.specs.Places.{GoesOnAt, IsJoined, Names, Passes, PassesNode, Place, further}
+use Rattle.ml_translate.specs.Places.{GoesOnAt, IsJoined, Passes, PassesNode, Place, further}
 use Rattle.ml_translate.specs.private.Finding.{AreNumbers, Follows, IsBehindLiteral, IsPast, number_at, props_of}
 use Rattle.ml_translate.proofs.Cubes.{prop_above}
 
@@ -246,11 +246,10 @@ module _ (g : Graph) (props : List (List ℕ)) (s : Place) where
       → node_at g s.node ≡ v
       → ((c d : List Literal) (n : ℕ) → GoesOnAt g props v c n d → ⊥)
       → (t : Place) → IsMember t [] ↔ Follows g props s t
-  on_nothing v is none t =
-      (
-        (λ m. absurd m),
-        (λ f. absurd (none s.cube t.cube t.node (subst (λ w. GoesOnAt g props w s.cube t.node t.cube) is f.goes_on))),
-      )
+  on_nothing v is none t = (
+    (λ m. absurd m),
+    (λ f. absurd (none s.cube t.cube t.node (subst (λ w. GoesOnAt g props w s.cube t.node t.cube) is f.goes_on))),
+  )
 
 -- ---- what a program holds
 

@@ -4,7 +4,7 @@
 --   Kind p       == p is a block, or the True that blocks share, or a constant or proposition beside one
 --   kinds        == so is each node that is reached
 --   known_literals == the literals name propositions of the formula
-use Rattle.std.proofs.Common.{ℕ, ◌≡◌, ◌+◌, ◌<◌, ◌⊎◌, inl, inr, arith, Bool, true, false, not, List, [], ◌∷◌, ◌++◌, length, get_or, Option, Some, None, slice_get, refl, sym, ap, ◌∙◌, subst}
+use Rattle.std.proofs.Common.{ℕ, ◌≡◌, ◌+◌, ◌<◌, inl, inr, arith, Bool, true, false, not, List, [], ◌∷◌, Option, Some, None, slice_get, refl, sym, ap, ◌∙◌, subst}
 use Rattle.std.specs.Bool.{beq}
 use Rattle.std.specs.List.{AllByRecursion}
 use Rattle.std.proofs.lemmas.Bool.{false≢true}
@@ -12,7 +12,7 @@ use Rattle.std.proofs.lemmas.Option.{slice_get-get_or}
 use Rattle.ml_lists.specs.Member.{IsMember}
 use Rattle.ml_lists.proofs.Entries.{some_entry}
 use Rattle.ml_lists.proofs.Member.{member-append_left, member-append_right, member_of_get}
-use Rattle.ml_text.specs.Names.{Action, Kind, KindedName, Proposition, Variable, of_kind}
+use Rattle.ml_text.specs.Names.{Action, KindedName, Proposition, Variable, of_kind}
 use Rattle.ml_text.specs.NameLists.{place_of}
 use Rattle.ml_text.proofs.NameLists.{added_names, is_among, place_found}
 use Rattle.ml_graph.specs.Graph.{Graph, node_at, prop_at, size}
@@ -20,7 +20,6 @@ use Rattle.ml_graph.specs.declared.node.Node.{Node}
 use Rattle.ml_graph.specs.declared.node.Node.TheVariants as node
 use Rattle.ml_nodes.specs.ClosureGraph.{HasForm, IsNumberOf, IsNumberedBy, IsReached, at_root, behind, children, And, Or, Diamond}
 use Rattle.ml_nodes.specs.Nodes.{constant}
-use Rattle.ml_ctl.specs.Formula as plain
 use Rattle.ml_ctl.specs.Formula.{Formula}
 use Rattle.ml_ctl.specs.FormulaNames.{names}
 use Rattle.ml_ctl.specs.Sorts.{is_linear}

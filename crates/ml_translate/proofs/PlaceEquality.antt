@@ -4,7 +4,7 @@
 --   place_eq-same  == it holds of no two
 --   place_eq-refl  == and of each with itself
 --   place_eq-tells == so it tells equal places
-use Rattle.std.proofs.Common.{◌≡◌, ◌&&◌, Bool, true, nat_eq, ap, subst, sym}
+use Rattle.std.proofs.Common.{◌≡◌, ◌&&◌, Bool, true, nat_eq, subst}
 use Rattle.std.specs.Bool.{Decides}
 use Rattle.std.proofs.lemmas.Bool.{and_from, and_parts, eqb-true}
 use Rattle.std.proofs.lemmas.Cmp.{nat_eq_equiv}

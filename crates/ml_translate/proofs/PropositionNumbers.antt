@@ -17,7 +17,7 @@ use Rattle.ml_text.specs.Limits.{most_occurrences}
 use Rattle.ml_text.specs.Names.{Proposition, of_kind}
 use Rattle.ml_text.proofs.NameLists.{distinct_names}
 use Rattle.ml_text.proofs.Names.{few_added}
-use Rattle.ml_graph.specs.Graph.{Graph, prop_at}
+use Rattle.ml_graph.specs.Graph.{Graph}
 use Rattle.ml_graph.proofs.Places.{same_place}
 use Rattle.ml_ctl.specs.Formula.{Formula, occurrences}
 use Rattle.ml_ctl.specs.FormulaNames.{names}

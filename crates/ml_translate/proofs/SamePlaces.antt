@@ -3,20 +3,18 @@
 --   same_states  == graphs that are one but for their lists of names have the same states
 --   same_passes, same_on == walks go on alike
 --   same_places  == the law
-use Rattle.std.proofs.Common.{ℕ, ◌≡◌, ◌<◌, ◌≤◌, ◌⊎◌, ◌↔◌, inl, inr, arith, Bool, List, [], length, get_or, Some, slice_get, refl, sym, ap, ◌∙◌, subst}
+use Rattle.std.proofs.Common.{ℕ, ◌≡◌, ◌<◌, ◌≤◌, ◌⊎◌, inl, inr, arith, List, [], length, get_or, Some, refl, sym, ap, ◌∙◌, subst}
 use Rattle.std.proofs.lemmas.Bool.{cases_lt}
 use Rattle.std.proofs.lemmas.List.{get_or_past}
-use Rattle.ml_lists.specs.Member.{IsMember}
 use Rattle.ml_lists.proofs.Ascending.{ascending_same}
-use Rattle.ml_graph.specs.Graph.{Graph, node_at, prop_at, size}
+use Rattle.ml_graph.specs.Graph.{Graph, node_at, size}
 use Rattle.ml_graph.specs.declared.node.Node.{Node}
 use Rattle.ml_graph.specs.declared.node.Node.TheVariants as node
 use Rattle.ml_nodes.specs.AlikeNodes.{AreAlike, AreAlikeNodes}
 use Rattle.ml_labelled.specs.declared.labelled.Literal.{Literal}
-use Rattle.ml_word_automaton.specs.Letters.{Automaton, GoesOn, HasItsStates, IsAutomatonOf, IsState, begins, behind, is_true, node_of}
+use Rattle.ml_word_automaton.specs.Letters.{Automaton, GoesOn, IsState, begins, behind, is_true}
 use Rattle.ml_word_automaton.proofs.BlockGraphs.{one_graph}
-use Rattle.ml_word_automaton.proofs.MarkedStates.{goes_inside, inside}
-use Rattle.ml_translate.specs.Laws.{HaveSamePlaces, SamePlaces}
+use Rattle.ml_translate.specs.Laws.{SamePlaces}
 use Rattle.ml_translate.specs.Places as places
 use Rattle.ml_translate.specs.Places.{GoesOnAt, IsPlace, PassesNode, Place}
 

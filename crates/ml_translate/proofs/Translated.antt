@@ -4,25 +4,24 @@
 --   accepts_words         == so it accepts exactly the words that satisfy the formula
 --   made_labelled         == it is an automaton
 --   made_translated       == what is left of it when states that aren't reached go is the formula's automaton
-use Rattle.std.proofs.Common.{ℕ, ◌≡◌, ◌<◌, ◌≤◌, ◌^◌, ◌⊎◌, ◌↔◌, ◌==◌, inl, inr, arith, Bool, true, false, List, [], ◌∷◌, length, map, get_or, Some, slice_get, refl, sym, ap, ◌∙◌, subst}
+use Rattle.std.proofs.Common.{ℕ, ◌≡◌, ◌<◌, ◌≤◌, ◌^◌, ◌⊎◌, ◌↔◌, ◌==◌, inl, inr, arith, Bool, true, false, List, length, get_or, refl, sym, ap, ◌∙◌, subst}
 use Rattle.std.specs.List.{All}
 use Rattle.std.proofs.lemmas.Option.{slice_get_within}
 use Rattle.ml_base.specs.Name.{IsName}
-use Rattle.ml_lists.specs.Ascending.{IsAscending}
 use Rattle.ml_lists.specs.Member.{IsMember}
 use Rattle.ml_lists.proofs.FirstEntries.{none_more}
 use Rattle.ml_lists.proofs.Member.{member-place}
-use Rattle.ml_graph.specs.Graph.{Graph, node_at, priority_at, size}
+use Rattle.ml_graph.specs.Graph.{Graph, node_at, priority_at}
 use Rattle.ml_graph.specs.declared.node.Node.{Node}
 use Rattle.ml_graph.specs.declared.node.Node.TheVariants as node
-use Rattle.ml_trace.specs.WordAutomata.{IsAcceptedFrom, IsWordLasso, WordLasso}
+use Rattle.ml_trace.specs.WordAutomata.{IsAcceptedFrom, WordLasso}
 use Rattle.ml_ctl.specs.Formula.{Formula}
 use Rattle.ml_ctl.specs.Sorts.{is_linear}
 use Rattle.ml_labelled.specs.declared.labelled.Literal.{Literal}
 use Rattle.ml_labelled.specs.Labelled as labelled
 use Rattle.ml_labelled.specs.Labelled.{Accepts, AcceptSame, AreReached, Edge, Fits, IsCube, IsEdge, IsLabelled, Letter, edges_of}
 use Rattle.ml_labelled.proofs.CarriedRuns.{accepted_over}
-use Rattle.ml_word_automaton.specs.Laws.{HasOneNumber, LeadToStates}
+use Rattle.ml_word_automaton.specs.Laws.{LeadToStates}
 use Rattle.ml_word_automaton.specs.Letters as word
 use Rattle.ml_word_automaton.specs.Letters.{HasItsStates, IsAutomatonOf, node_of}
 use Rattle.ml_word_automaton.specs.WordAutomaton.{Leads, Walks}
@@ -31,8 +30,7 @@ use Rattle.ml_word_automaton.proofs.NumberedStates.{state_at}
 use Rattle.ml_word_automaton.proofs.RowsAccept.{lead_to_states}
 use Rattle.ml_translate.specs.Places.{GoesOnAt, HasMorePlaces, IsPlace, PassesNode, Place, begins, goes_on}
 use Rattle.ml_translate.specs.Translation.{AcceptsWords, IsTranslated, IsWordAutomaton, props_of}
-use Rattle.ml_translate.specs.private.Finding as finding
-use Rattle.ml_translate.specs.private.Finding.{ArePlaces, AreStateNumbers, HaveEdges, IsMadeOf, Makes, MakesAt}
+use Rattle.ml_translate.specs.private.Finding.{IsMadeOf, Makes, MakesAt}
 use Rattle.ml_translate.proofs.CubeWalks.{KnowsLiterals, ascends_place, place_at_walk, walk_of}
 use Rattle.ml_translate.proofs.PlaceEquality.{place_eq, place_eq-tells}
 
@@ -106,8 +104,7 @@ module _ (a : word.Automaton) (props : List (List ℕ)) (b : labelled.Automaton)
         → (x : ℕ) × Joined x q × labelled.Leads b l p x c
     goes_there l n q c p j lead =
         let from = subst (λ m. Leads g l m q c) (sym j.node) lead in
-        let to = states.lead l p q c j.low from in
-        (
+        let to = states.lead l p q c j.low from in (
           to.number,
           record { low = to.is_low; node = to.is },
           there_at l p q c j.low from to.number to.is_low to.is,
@@ -166,8 +163,7 @@ module _ (a : word.Automaton) (props : List (List ℕ)) (b : labelled.Automaton)
         let fits = subst (λ ps. Fits ps l e.cube) made.same_props lead.fits in
         let to = led l p e of.place (node_at g (of.place).node) of.is_place of.state refl of.makes fits in
         let one = states.lead l p to.node e.accepting j.low to.leads in
-        let same : one.number ≡ x = sym (number_of to.node one.number one.is_low one.is) ∙ sym to.number ∙ lead.to_is in
-        (
+        let same : one.number ≡ x = sym (number_of to.node one.number one.is_low one.is) ∙ sym to.number ∙ lead.to_is in (
           to.node,
           subst (λ y. Joined y to.node) same (record { low = one.is_low; node = one.is }),
           subst (λ m. Leads g l m to.node c) j.node (subst (λ d. Leads g l (node_of a p) to.node d) lead.accepting_is to.leads),

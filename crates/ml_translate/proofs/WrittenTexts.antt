@@ -3,19 +3,18 @@
 --   as_many_edges  == an automaton has as many edges with guards as with cubes
 --   same_accepted  == with guards it accepts what it does with cubes
 --   written_accepts == the law
-use Rattle.std.proofs.Common.{ℕ, ◌≡◌, ◌+◌, ◌≤◌, ◌↔◌, Bool, List, [], ◌∷◌, ◌++◌, length, map, refl, sym, ap, ◌∙◌, subst, arith, length-append}
+use Rattle.std.proofs.Common.{ℕ, ◌≡◌, ◌+◌, ◌↔◌, Bool, List, [], ◌∷◌, length, map, refl, sym, ap, ◌∙◌, subst, arith, length-append}
 use Rattle.std.specs.List.{enumerate_from, flat_map}
 use Rattle.std.proofs.lemmas.List.{length-map}
 use Rattle.ml_trace.specs.WordAutomata.{WordLasso, IsAcceptedFrom}
 use Rattle.ml_labelled.specs.Labelled as labelled
 use Rattle.ml_labelled.specs.Labelled.{Accepts, Edge, Leads, Letter}
-use Rattle.ml_labelled.specs.LabelledText.{GuardsLead, StandsIn, automaton_text, guarded, guarded_edge, guarded_edges}
+use Rattle.ml_labelled.specs.LabelledText.{GuardsLead, StandsIn, guarded, guarded_edge, guarded_edges}
 use Rattle.ml_labelled.proofs.CarriedRuns.{accepted_over}
 use Rattle.ml_labelled.proofs.GuardedEdges.{guards_lead_same}
 use Rattle.ml_labelled.proofs.ReadTexts.{text_is_read, text_stands}
 use Rattle.ml_hoa.specs.Refusals.{IsReadAs}
 use Rattle.ml_translate.specs.Laws.{WrittenAccepts}
-use Rattle.ml_translate.specs.Output.{IsSmall, IsWrittenFor, TextAccepts}
 
 as_many_edges : (n : ℕ) (rows : List (List Edge))
     → length (flat_map guarded_edges (enumerate_from n rows)) ≡ length (flat_map (λ es. es) rows)

@@ -8,7 +8,7 @@
 --   AcceptsWords a f        == the automaton a accepts exactly the word lassos that satisfy f
 --   IsTranslated f limit a  == a is an automaton of f, which has a word automaton within the limits
 --   HasTooManyPlaces f limit == the word automaton of f isn't too large, and has more places than the limit
-use Rattle.std.specs.Prelude.{ℕ, ◌≡◌, ◌≤◌, ◌↔◌, Bool, false, List, [], length}
+use Rattle.std.specs.Prelude.{ℕ, ◌≡◌, ◌≤◌, ◌↔◌, false, List, [], length}
 use Rattle.ml_graph.specs.Graph.{size}
 use Rattle.ml_trace.specs.WordAutomata.{WordLasso, IsWordLasso}
 use Rattle.ml_ctl.specs.Formula.{Formula}

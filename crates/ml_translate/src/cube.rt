@@ -51,10 +51,7 @@ impl Cube {
     pub(crate) fn copy(&self) -> Result<Cube, AllocError>
         ensures { IfOk result (λ c. c ≡ self.now) }
     {
-        Ok(Cube::of(Vec::from_slice(
-            *self.literals.allocator(),
-            &self.literals,
-        )?))
+        Ok(Cube::of(Vec::from_slice(*self.literals.allocator(), &self.literals)?))
     }
 }
 

@@ -38,7 +38,12 @@ fn empty_rows(alloc: Global, count: usize) -> Result<Vec<Vec<CubeEdge>>, NoMemor
 }
 
 // an edge behind those of a state
-fn put(rows: &mut Vec<Vec<CubeEdge>>, place: Place, to: u32, accepting: bool) -> Result<(), NoMemory>
+fn put(
+    rows: &mut Vec<Vec<CubeEdge>>,
+    place: Place,
+    to: u32,
+    accepting: bool,
+) -> Result<(), NoMemory>
     requires { place.state < length rows.old.items }
     ensures { OnOk result (IsEdgePut place to accepting (held.rows_of rows.old.items) (held.rows_of rows.new.items)) }
 {
@@ -73,11 +78,8 @@ fn put_edge(
             let to = numbers[place.node as usize];
             put(rows, place, to, true)
         }
-        Node::False
-        | Node::Lit { .. }
-        | Node::And { .. }
-        | Node::Or { .. }
-        | Node::Square { .. } => Ok(()),
+        Node::False | Node::Lit { .. } | Node::And { .. } | Node::Or { .. } | Node::Square { .. } =>
+            Ok(()),
     }
 }
 

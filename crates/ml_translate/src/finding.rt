@@ -41,11 +41,7 @@ fn add(places: &mut IndexSet<Place>, place: Place, limit: u32) -> Result<(), Tra
 }
 
 // the places to which a walk goes on
-fn add_all(
-    places: &mut IndexSet<Place>,
-    behind: Behind,
-    limit: u32,
-) -> Result<(), TranslateRefusal>
+fn add_all(places: &mut IndexSet<Place>, behind: Behind, limit: u32) -> Result<(), TranslateRefusal>
     requires few { length places.old.keys ≤ limit }
     ensures grown { OnOk result (IsGrown (places_in behind) places.old.keys places.new.keys) }
     ensures few { OnOk result (length places.new.keys ≤ limit) }

@@ -91,11 +91,7 @@ fn past(
 }
 
 // the places to which a walk goes on from a place
-pub(crate) fn walk_on(
-    alloc: Global,
-    reading: &Reading,
-    place: &Place,
-) -> Result<Behind, NoMemory>
+pub(crate) fn walk_on(alloc: Global, reading: &Reading, place: &Place) -> Result<Behind, NoMemory>
     requires graph { IsGraph reading.now.graph.now }
     requires node { place.now.node < size reading.now.graph.now }
     requires numbers { AreNumbers reading.now.graph.now reading.now.propositions.now.names.items reading.now.propositions.now.numbers.items }
@@ -107,10 +103,7 @@ pub(crate) fn walk_on(
         Node::And { left, right } if left == right => Ok(Behind::One(moved(place, right)?)),
         Node::And { left, right } => past(alloc, reading, place, left, right),
         Node::Or { left, right } => Ok(Behind::Two(moved(place, left)?, moved(place, right)?)),
-        Node::True
-        | Node::False
-        | Node::Lit { .. }
-        | Node::Diamond { .. }
-        | Node::Square { .. } => Ok(Behind::Nothing),
+        Node::True | Node::False | Node::Lit { .. } | Node::Diamond { .. } | Node::Square { .. } =>
+            Ok(Behind::Nothing),
     }
 }

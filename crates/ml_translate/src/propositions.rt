@@ -81,7 +81,7 @@ fn of_names(
 
 impl Propositions {
     // those of a formula, with the numbers of those of its graph
-    pub fn of(
+    pub(crate) fn of(
         alloc: Global,
         formula: &ml_ltl::Formula,
         graph: &ModalGraph,

@@ -4,7 +4,6 @@ ghost use Rattle.std.specs.List.{All};
 ghost use Rattle.ml_base.specs.Name.{IsName};
 ghost use Rattle.ml_graph.specs.Graph.{size};
 ghost use Rattle.ml_blocks.specs.Closures.{HasMoreThan};
-
 ghost use Rattle.ml_word_automaton.specs.Letters.{IsAutomatonOf};
 ghost use Rattle.ml_word_automaton.specs.WordAutomaton.{start_block};
 ghost use Rattle.ml_translate.specs.Places.{HasMorePlaces};

@@ -13,7 +13,7 @@
 --   moved, IsPart ms a b      == b has the states of a with marks, by their ranks
 --   IsKept ms rows kept       == the rows with marks are kept, in their order
 --   IsKeptTo p at ms old rows == so are those of the first p, in front
-use Rattle.std.specs.Prelude.{ℕ, ◌≡◌, ◌+◌, ◌*◌, ◌<◌, ◌≤◌, ◌⊎◌, ◌↔◌, Bool, true, false, not, List, [], length, map, get_or}
+use Rattle.std.specs.Prelude.{ℕ, ◌≡◌, ◌+◌, ◌*◌, ◌<◌, ◌≤◌, ◌⊎◌, Bool, true, false, not, List, length, map, get_or}
 use Rattle.ml_lists.specs.Counting.{count}
 use Rattle.ml_lists.specs.Member.{IsMember}
 use Rattle.ml_labelled.specs.Labelled.{Automaton, Edge, IsReached, edges_of}

@@ -1,4 +1,4 @@
-use Rattle.std.proofs.Common.{rules, ◌≡◌, ◌+◌, true, false, length, arith, sym, ap, ◌∙◌, subst}
+use Rattle.std.proofs.Common.{rules, ◌≡◌, ◌+◌, true, false, length, arith}
 use Rattle.ml_lists.proofs.Counting.{count_le}
 use Rattle.ml_labelled.specs.private.Reaching.{IsKeptTo, mark}
 use Rattle.ml_labelled.proofs.KeptRows.{kept_all, kept_less, kept_more}
@@ -27,7 +27,7 @@ loop-p-preserved c =
     let marks = c.args.marks.now in
     let old = c.args.rows.now.items in
     elim c.if-is_marked.branch [
-      then-is_marked w ↦
+      | then-is_marked w ↦
           let marked : mark marks l.p ≡ true = search (rules) in
           let long : length w.swap.new.self.items ≡ length l.rows.items = search (rules) in
           let now : IsKeptTo (l.p + 1) (l.at + 1) marks old w.swap.new.self.items =

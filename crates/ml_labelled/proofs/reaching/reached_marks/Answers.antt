@@ -1,6 +1,5 @@
 use Rattle.std.proofs.Common.{◌≡◌, [], ◌∷◌, length, replicate, false, sym, ap, ◌∙◌, subst, arith}
 use Rattle.std.proofs.lemmas.List.{length-map}
-
 use Rattle.ml_labelled.specs.private.Reaching.{IsSpread}
 use Rattle.ml_labelled.specs.private.Views.{edges_in}
 use Rattle.ml_labelled.proofs.SpreadMarks.{row_held, target_state, waits_below, walk_begins, walk_goes_on}

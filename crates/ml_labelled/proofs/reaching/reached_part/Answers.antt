@@ -1,5 +1,4 @@
-use Rattle.std.proofs.Common.{◌≤◌, length, sym, subst}
-use Rattle.ml_labelled.specs.Labelled.{AcceptSame, AreReached, Automaton}
+use Rattle.std.proofs.Common.{sym, subst}
 use Rattle.ml_labelled.proofs.ReachedParts.{IsReachedPart, fit_from, part_from}
 use Rattle.ml_labelled.proofs.reaching.reached_part.Goals as goal
 

@@ -1,7 +1,7 @@
-use Rattle.std.proofs.Common.{rules, ◌≡◌, [], ◌∷◌, ◌++◌, true, false, set, sym, subst}
+use Rattle.std.proofs.Common.{rules, ◌≡◌, [], ◌∷◌, true, false, set, sym, subst}
 use Rattle.std.proofs.lemmas.Bool.{not-true}
 use Rattle.ml_labelled.specs.private.Reaching.{IsSpread, mark}
-use Rattle.ml_labelled.proofs.SpreadMarks.{spread_known, spread_new}
+use Rattle.ml_labelled.proofs.SpreadMarks.{spread_new}
 use Rattle.ml_labelled.proofs.reaching.visit.Goals as goal
 
 pub returns-in_ok-push : goal.returns-in_ok-push

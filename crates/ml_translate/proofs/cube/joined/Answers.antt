@@ -1,4 +1,4 @@
-use Rattle.std.proofs.Common.{◌≡◌, ◌<◌, List, false, length, get_or, sym, ◌∙◌, subst, arith}
+use Rattle.std.proofs.Common.{◌<◌, List, false, length, get_or, sym, ◌∙◌, subst, arith}
 use Rattle.ml_lists.specs.Member.{IsMember}
 use Rattle.ml_lists.proofs.Member.{place-member}
 use Rattle.ml_labelled.specs.declared.labelled.Literal.{Literal}

@@ -1,5 +1,5 @@
-use Rattle.std.proofs.Common.{ℕ, ◌<◌, List, length, sym, ap, ◌∙◌, subst}
-use Rattle.ml_graph.specs.Graph.{Graph, size}
+use Rattle.std.proofs.Common.{◌<◌, length, sym, ap, ◌∙◌, subst}
+use Rattle.ml_graph.specs.Graph.{size}
 use Rattle.ml_labelled.specs.private.Views.{rows_of}
 use Rattle.ml_translate.specs.private.Finding.{HaveEdges}
 use Rattle.ml_translate.proofs.edges.edges_of.Goals as goal

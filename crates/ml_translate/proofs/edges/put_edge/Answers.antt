@@ -1,4 +1,4 @@
-use Rattle.std.proofs.Common.{◌<◌, ◌==◌, length, get_or, sym, ◌∙◌, subst, arith}
+use Rattle.std.proofs.Common.{◌<◌, ◌==◌, get_or, sym, ◌∙◌, subst, arith}
 use Rattle.std.proofs.lemmas.Result.{on_ok_weaker}
 use Rattle.ml_graph.specs.Graph.{size}
 use Rattle.ml_graph.proofs.References.{diamond_target}

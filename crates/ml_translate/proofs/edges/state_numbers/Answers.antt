@@ -1,6 +1,5 @@
-use Rattle.std.proofs.Common.{◌≡◌, ◌<◌, length, get_or, sym, ap, ◌∙◌, subst, arith, refl}
+use Rattle.std.proofs.Common.{get_or, sym, ◌∙◌, subst, arith, refl}
 use Rattle.std.proofs.lemmas.List.{length-set}
-use Rattle.ml_graph.specs.Graph.{size}
 use Rattle.ml_lists.specs.Ascending.{IsAscending}
 use Rattle.ml_translate.proofs.EdgesMade.{numbers_more}
 use Rattle.ml_translate.proofs.FitPlaces.{listed_low}

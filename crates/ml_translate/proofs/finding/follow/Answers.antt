@@ -1,8 +1,8 @@
-use Rattle.std.proofs.Common.{◌≡◌, ◌↔◌, subst}
+use Rattle.std.proofs.Common.{◌↔◌, subst}
 use Rattle.std.proofs.lemmas.Result.{on_ok_weaker}
 use Rattle.ml_lists.specs.Member.{IsMember}
 use Rattle.ml_translate.specs.Places.{Place}
-use Rattle.ml_translate.specs.private.Finding.{Follows, place_at, places_in}
+use Rattle.ml_translate.specs.private.Finding.{Follows, places_in}
 use Rattle.ml_translate.proofs.FoundPlaces.{followed, passed_limit, place_read}
 use Rattle.ml_translate.proofs.finding.follow.Goals as goal
 

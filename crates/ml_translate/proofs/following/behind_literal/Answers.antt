@@ -8,7 +8,7 @@ pub returns : goal.returns
 returns c =
     let s = c.args.place.now in
     elim c.match-branch-2.branch [
-      in-Some w ↦
+      | in-Some w ↦
           joined_some s c.args.node c.args.literal c.literals.result.now w.in-Some.cube c.in_ok-cube.field-0
           (places_in c.match-branch-2.result) c.literals.ensures c.in_ok-cube.ensures w.in-Some.is (ap places_in w.result-is)
       | in-None w ↦
