@@ -1,0 +1,22 @@
+-- the tokens of numbers, names and marks
+pub mod WrittenTokens
+-- labels
+pub mod ReadLabels
+-- edges and states
+pub mod ReadStates
+-- the whole text
+pub mod ReadTexts
+-- guards lead as cubes do
+pub mod GuardedEdges
+-- what is written part by part
+pub mod WrittenParts
+-- marks that spread along edges
+pub mod SpreadMarks
+-- rows with marks that are kept
+pub mod KeptRows
+-- edges that lead to new numbers
+pub mod Retargeted
+-- runs carried over to another automaton
+pub mod CarriedRuns
+-- the part that is reached accepts the same
+pub mod ReachedParts

@@ -1,0 +1,8 @@
+use Rattle.std.proofs.Common.{◌≡◌, ◌++◌}
+use Rattle.ml_labelled.specs.LabelledText.{state_text}
+use Rattle.ml_labelled.specs.private.Views.{rows_of}
+use Rattle.ml_labelled.proofs.WrittenParts.{rows_to}
+use Rattle.ml_labelled.proofs.writing.write_states.Given as goal
+
+abbrev pub invariant-loop-state : goal.invariant-loop-state
+invariant-loop-state l = l.out.items ≡ l.fn.out.items ++ rows_to state_text (rows_of l.rows) l.state

@@ -1,0 +1,6 @@
+-- What only private contracts and proofs cite: a reader of the public calls needs none of it.
+
+-- what the program holds, as plain values
+pub mod Views
+-- how states that are reached are found
+pub mod Reaching
