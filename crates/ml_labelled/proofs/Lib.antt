@@ -20,3 +20,7 @@ pub mod Retargeted
 pub mod CarriedRuns
 -- the part that is reached accepts the same
 pub mod ReachedParts
+-- runs carried over where a transition says where its copy ends
+pub mod ChosenRuns
+-- states with the same edges
+pub mod MergedStates

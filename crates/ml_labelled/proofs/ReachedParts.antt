@@ -202,12 +202,25 @@ module _ (marks : List Bool) (a b : Automaton) (is : IsLabelled a) (marked : Are
 
 -- ---- all of it
 
+pub same_on : (a b c : Automaton) → AcceptSame a b → AcceptSame b c → AcceptSame a c
+same_on a b c first second w lasso = (λ k. (second w lasso).0 ((first w lasso).0 k), λ k. (first w lasso).1 ((second w lasso).1 k))
+
 pub record IsReachedPart (a b : Automaton) : Type 0 where
   pub labelled : IsLabelled b
   pub same : AcceptSame a b
   pub props : b.props ≡ a.props
   pub reached : AreReached b
   pub few : length b.edges ≤ length a.edges
+
+-- one behind the other
+pub parts_joined : (a b c : Automaton) → IsReachedPart a b → IsReachedPart b c → IsReachedPart a c
+parts_joined a b c first second = record {
+  labelled = second.labelled;
+  same = same_on a b c first.same second.same;
+  props = second.props ∙ first.props;
+  reached = second.reached;
+  few = let most = first.few in let more = second.few in omega arith;
+}
 
 pub part_made : (marks : List Bool) (numbers : List ℕ) (props : List (List ℕ)) (rows kept new : List (Vec CubeEdge))
     → IsLabelled (held props rows)

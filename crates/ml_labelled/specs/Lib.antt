@@ -1,5 +1,7 @@
 -- automata whose edges have cubes
 pub mod Labelled
+-- equality of cubes
+pub mod CubeEquality
 -- their texts
 pub mod LabelledText
 -- what is true of them

@@ -4,3 +4,5 @@
 pub mod Views
 -- how states that are reached are found
 pub mod Reaching
+-- states with the same edges
+pub mod Merging

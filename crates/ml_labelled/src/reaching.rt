@@ -76,7 +76,7 @@ fn retarget(edges: &mut Vec<CubeEdge>, numbers: &[u32])
     }
 }
 
-fn retarget_all(rows: &mut Vec<Vec<CubeEdge>>, numbers: &[u32])
+pub(crate) fn retarget_all(rows: &mut Vec<Vec<CubeEdge>>, numbers: &[u32])
     requires { TargetsFit (length numbers.now) (rows_of rows.old.items) }
     ensures { rows_of rows.new.items ≡ map (map (retargeted numbers.now)) (rows_of rows.old.items) }
 {

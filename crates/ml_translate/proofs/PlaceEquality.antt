@@ -10,7 +10,7 @@ use Rattle.std.proofs.lemmas.Bool.{and_from, and_parts, eqb-true}
 use Rattle.std.proofs.lemmas.Cmp.{nat_eq_equiv}
 use Rattle.ml_translate.specs.Places.{Place}
 use Rattle.ml_translate.specs.contracts.place.PlacePartialEq.TheImpl as test
-use Rattle.ml_translate.specs.private.CubeEquality.{cube_eq, cube_eq-same, cube_eq_equiv}
+use Rattle.ml_labelled.specs.CubeEquality.{cube_eq, cube_eq-same, cube_eq_equiv}
 
 abbrev pub place_eq : Place → Place → Bool
 place_eq = (test.ghosts).eq

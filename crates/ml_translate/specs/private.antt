@@ -2,5 +2,3 @@
 
 -- how places are found
 pub mod Finding
--- equality of cubes
-pub mod CubeEquality

@@ -3,7 +3,7 @@ ghost use Rattle.std.specs.Prelude.{◌≡◌, ◌≤◌, List, MatchOption, IfO
 ghost use Rattle.ml_lists.specs.Ascending.{IsAscending};
 ghost use Rattle.ml_labelled.specs.declared.labelled.Literal.{Literal};
 ghost use Rattle.ml_translate.specs.Places.{IsJoined};
-ghost use Rattle.ml_translate.specs.private.CubeEquality.{cube_eq, cube_eq_equiv, cube_writes};
+ghost use Rattle.ml_labelled.specs.CubeEquality.{cube_eq, cube_eq_equiv, cube_writes};
 ghost use Rattle.ml_translate.specs.private.Finding as finding;
 ghost use Rattle.ml_translate.specs.private.Finding.{IsSplit, props_of};
 
@@ -73,7 +73,7 @@ impl Eq for Cube {
 
 impl Hash for Cube {
     ghost use Rattle.std.proofs.Common.{ap};
-    ghost use Rattle.ml_translate.specs.private.CubeEquality.{cube_eq-same};
+    ghost use Rattle.ml_labelled.specs.CubeEquality.{cube_eq-same};
 
     ghost hash_input = { cube_writes };
 

@@ -17,7 +17,7 @@ use crate::limits::MOST_NODES;
 use crate::propositions::Propositions;
 use crate::refusal::TranslateRefusal;
 use ml_graph::ClosureRefusal;
-use ml_labelled::{LabelledAutomaton, reached_part};
+use ml_labelled::{LabelledAutomaton, without_copies};
 use ml_word_automaton::{WordAutomaton, automaton_of};
 use std::alloc::Global;
 
@@ -84,5 +84,5 @@ pub fn automaton_of_formula(
     let automaton = word_automaton(alloc, formula)?;
     let propositions = Propositions::of(alloc, formula, automaton.graph())?;
     let made = with_places(alloc, &automaton, propositions, limit)?;
-    Ok(reached_part(alloc, made)?)
+    Ok(without_copies(alloc, made)?)
 }
