@@ -21,11 +21,7 @@ use ml_search_cores::Candidate;
 use std::alloc::Global;
 
 /// A structure that passes its check; `None` where it doesn't.
-fn checked_model(
-    alloc: Global,
-    graph: &ModalGraph,
-    model: Model,
-) -> Result<Option<Found>, NoMemory>
+fn checked_model(alloc: Global, graph: &ModalGraph, model: Model) -> Result<Option<Found>, NoMemory>
     ensures { IfOk result (λ found. IfSome found (IsFound graph.now)) }
 {
     if is_model(alloc, graph, &model)? {
@@ -85,11 +81,7 @@ fn sought_by_frames(
 }
 
 /// What is found where threads are weak.
-fn sought_by_focus(
-    alloc: Global,
-    graph: &ModalGraph,
-    limit: u32,
-) -> Result<Option<Found>, NoMemory>
+fn sought_by_focus(alloc: Global, graph: &ModalGraph, limit: u32) -> Result<Option<Found>, NoMemory>
     ensures { IfOk result (λ found. IfSome found (IsFound graph.now)) }
 {
     match ml_search_focus::candidate(alloc, graph, limit)? {
@@ -122,12 +114,14 @@ fn sought_by_rounds(
 {
     match ml_search_engine::candidate(alloc, graph, limit)? {
         Some(ml_search_engine::Candidate::Model(model)) => checked_model(alloc, graph, model),
-        Some(ml_search_engine::Candidate::Refutation {
-            names,
-            sequents,
-            stacks,
-            entries,
-        }) => checked_refutation(alloc, graph, names, sequents, stacks, entries),
+        Some(
+            ml_search_engine::Candidate::Refutation {
+                names,
+                sequents,
+                stacks,
+                entries,
+            },
+        ) => checked_refutation(alloc, graph, names, sequents, stacks, entries),
         None => Ok(None),
     }
 }

@@ -272,7 +272,10 @@ impl<'a> Knowledge<'a> {
         let (group, thread, tree) = (core.born, core.thread, core.tree);
         self.listed.clear();
         self.listed.extend_from_slice(&core.nodes)?;
-        self.solver.set_owner(&self.terms, owner_of_group(group), row(&self.twins, group))?;
+        let twins = row(&self.twins, group);
+        write_copies(self.terms.actions, twins, &mut self.copies)?;
+        self.solver
+            .set_owner(&self.terms, owner_of_group(group), &self.copies)?;
         self.solver.branch.watches.min_level = 0;
         self.solver.branch.watches.max_born = group;
         self.solver

@@ -63,6 +63,9 @@ impl<'a> Engine<'a> {
 
     /// The search, if the graph is one of those.
     pub(crate) fn run(&mut self) -> Result<Option<Candidate>, NoMemory> {
+        if !has_one_diamond(self.known.terms.graph) {
+            return Ok(None);
+        }
         self.known.terms.fill()?;
         if !self.fits() {
             return Ok(None);
@@ -75,27 +78,22 @@ impl<'a> Engine<'a> {
         }
     }
 
-    /// Has the graph one diamond, which stands in each sequent, and does each thread stay at one node?
+    /// Stands the one diamond in each sequent, and does each thread stay at one node?
     fn fits(&self) -> bool {
-        let traces = &self.known.terms.traces;
-        if self.known.terms.always == NONE || !traces.is_weak || traces.has_local_cycles {
+        let terms = &self.known.terms;
+        if terms.always == NONE || !terms.traces.is_weak || terms.traces.has_local_cycles {
             return false;
         }
-        let mut diamonds: u32 = 0;
-        for n in 0..self.known.terms.size {
-            let to = match self.known.terms.node(n) {
-                Node::Diamond { to, .. } => {
-                    diamonds = diamonds.saturating_add(1);
-                    to
-                }
-                Node::Square { to, .. } => to,
+        for n in 0..terms.size {
+            let to = match terms.node(n) {
+                Node::Diamond { to, .. } | Node::Square { to, .. } => to,
                 _ => continue,
             };
-            if self.known.terms.threads(n, to) && !traces.is_simple(to) {
+            if terms.threads(n, to) && !terms.traces.is_simple(to) {
                 return false;
             }
         }
-        diamonds == 1
+        true
     }
 
     /// The path begins at the root.
@@ -251,6 +249,17 @@ impl<'a> Engine<'a> {
         }
         Ok(Some(Verdict::GaveUp))
     }
+}
+
+/// Has the graph one diamond?
+fn has_one_diamond(graph: &ModalGraph) -> bool {
+    let mut diamonds: u32 = 0;
+    for node in graph.nodes() {
+        if let Node::Diamond { .. } = node {
+            diamonds = diamonds.saturating_add(1);
+        }
+    }
+    diamonds == 1
 }
 
 /// Writes the positive literals that stand.

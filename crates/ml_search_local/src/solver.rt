@@ -169,7 +169,10 @@ impl Solver {
     ) -> Result<u32, NoMemory> {
         self.branch.undo(t, 0);
         self.branch.spend(nodes.len() as u64);
-        let id = self.branch.watches.add(t, action, nodes, thread, owner, born)?;
+        let id = self
+            .branch
+            .watches
+            .add(t, action, nodes, thread, owner, born)?;
         if let Some(core) = self.branch.watches.cores.at_mut(id) {
             core.thread = thread;
         }
