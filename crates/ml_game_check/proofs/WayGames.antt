@@ -149,9 +149,12 @@ module _ (g : ParityGame) (cs : Claims) (ok : IsGame g) (early : KeepsEarly g cs
       same_priority : (v : ℕ) → priority_of h v ≡ priority_of g v
       same_priority v = ap (λ (ps : List ℕ). get_or ps v 0) is.priorities
 
-      module _ (s : GameSolution) (solves : IsSolution h s) where
+      module _ (win : ℕ → Player) (next : ℕ → ℕ)
+          (chosen : (v : ℕ) → v < size h → HasMove h v (next v))
+          (winning : (v : ℕ) → v < size h → WinsFrom h (win v) next v)
+          where
         -- where p wins what is claimed for p, no claim for p breaks the fourth rule
-        pub no_bad_cycle : ((v : ℕ) → IsLost cs s.winner v → ⊥) → (v : ℕ) → BreaksFour g cs p v → ⊥
+        pub no_bad_cycle : ((v : ℕ) → IsClaimed cs p v → win v ≡ opponent p → ⊥) → (v : ℕ) → BreaksFour g cs p v → ⊥
         no_bad_cycle none_lost v (claimed, b) = no_own_opponent p (sym good ∙ ap side lowest_is ∙ b.bad)
           where
             l : Lasso
@@ -163,16 +166,16 @@ module _ (g : ParityGame) (cs : Claims) (ok : IsGame g) (early : KeepsEarly g cs
             first : IsClaimed cs p (at 0)
             first = (b.ways.joined 0 (omega (arith, b.ways.starts))).0
 
-            won : winner_at s.winner (at 0) ≡ p
+            won : win (at 0) ≡ p
             won =
-                ⊎_elim (λ (same : winner_at s.winner (at 0) ≡ p). same)
-                (λ (other : winner_at s.winner (at 0) ≡ opponent p). absurd (none_lost (at 0) (p, first, other)))
-                (cases_player (winner_at s.winner (at 0)) p)
+                ⊎_elim (λ (same : win (at 0) ≡ p). same)
+                (λ (other : win (at 0) ≡ opponent p). absurd (none_lost (at 0) first other))
+                (cases_player (win (at 0)) p)
 
-            wins : WinsFrom h p (choice_at s.choice) (at 0)
+            wins : WinsFrom h p next (at 0)
             wins =
-                subst (λ q. WinsFrom h q (choice_at s.choice) (at 0)) won
-                (solves.wins (at 0) (omega (arith, is.sizes, low p (at 0) first)))
+                subst (λ q. WinsFrom h q next (at 0)) won
+                (winning (at 0) (omega (arith, is.sizes, low p (at 0) first)))
 
             good : winner h l ≡ p
             good =
@@ -185,16 +188,13 @@ module _ (g : ParityGame) (cs : Claims) (ok : IsGame g) (early : KeepsEarly g cs
             lowest_is = ap (λ (ps : List ℕ). lowest_on_loop (λ x. get_or ps x 0) l) is.priorities ∙ b.lowest
 
         -- from a vertex that the opponent wins the choices lead to a cycle that is bad for p
-        module _ (v : ℕ) (claimed : IsClaimed cs p v) (lost : winner_at s.winner v ≡ opponent p) where
-          abbrev pub next : ℕ → ℕ
-          next = choice_at s.choice
-
+        module _ (v : ℕ) (claimed : IsClaimed cs p v) (lost : win v ≡ opponent p) where
           record On (x : ℕ) : Type 0 where
             pub claimed_too : IsClaimed cs p x
             pub wins : WinsFrom h (opponent p) next x
 
           move : (x : ℕ) → IsClaimed cs p x → HasMove h x (next x)
-          move x here = solves.strategies (opponent p) x (omega (arith, is.sizes, low p x here)) (owner_is x here)
+          move x here = chosen x (omega (arith, is.sizes, low p x here))
 
           goes_on : (x : ℕ) → On x → On (next x)
           goes_on x on = record {
@@ -207,7 +207,7 @@ module _ (g : ParityGame) (cs : Claims) (ok : IsGame g) (early : KeepsEarly g cs
             claimed_too = claimed;
             wins =
                 subst (λ q. WinsFrom h q next v) lost
-                (solves.wins v (omega (arith, is.sizes, low p v claimed)));
+                (winning v (omega (arith, is.sizes, low p v claimed)));
           }
 
           along : (x : ℕ) → On x → (k : ℕ) → On (walk next x k)
@@ -309,12 +309,16 @@ made_is_game g cs ok early owner priority successors a b moves is_a is_b are_mov
     (record { sizes = owners.many; owners = owners.at; priorities = are_priorities; moves = ways.at })
     (ways.many ∙ sym owners.many)
 
--- each choice of a solution is a vertex
+-- each choice of a solution is a move
+choices_move : (h : ParityGame) (s : GameSolution) → IsSolution h s → (v : ℕ) → v < size h → HasMove h v (choice_at s.choice v)
+choices_move h s solves v below = solves.strategies (owner_of h v) v below refl
+
+-- so it is a vertex
 pub choices_low : (h : ParityGame) (s : GameSolution) → IsGame h → IsSolution h s → (k d : ℕ) → k < length s.choice
     → get_or s.choice k d < length s.choice
 choices_low h s ok solves k d below =
     let inside : k < size h = omega (arith, solves.choices) in
-    let there = ok.in_range k (get_or s.choice k 0) (solves.strategies (owner_of h k) k inside refl) in
+    let there = ok.in_range k (get_or s.choice k 0) (choices_move h s solves k inside) in
     let same = get_or_default s.choice k 0 d below in
     omega (arith, solves.choices)
 
@@ -349,9 +353,12 @@ pub tells_four : (g : ParityGame) (cs : Claims) (h : ParityGame) (s : GameSoluti
     ((v : ℕ) → IsLost cs s.winner v → ⊥)
     (LeadsRound cs s.winner (choice_at s.choice) (priority_of h) (length cs))
     → TellsFour g cs o
-tells_four g cs h s ok early is solves None none = λ p v. no_bad_cycle g cs ok early h is p s solves none v
+tells_four g cs h s ok early is solves None none =
+    λ p v. no_bad_cycle g cs ok early h is p (winner_at s.winner) (choice_at s.choice) (choices_move h s solves) solves.wins
+        (λ x claimed lost. none x (p, claimed, lost)) v
 tells_four g cs h s ok early is solves (Some x) leads = (
   leads.is_lost.0,
-  lost_breaks g cs ok early h is leads.is_lost.0 s solves leads.start leads.is_lost.1 leads.is_lost.2 x
+  lost_breaks g cs ok early h is leads.is_lost.0 (winner_at s.winner) (choice_at s.choice) (choices_move h s solves)
+      solves.wins leads.start leads.is_lost.1 leads.is_lost.2 x
       (subst (λ n. IsLowestFrom (choice_at s.choice) (priority_of h) n leads.start x) early.places leads.lowest),
 )
