@@ -7,10 +7,9 @@ use Rattle.std.proofs.Common.{ℕ, ◌≡◌, ◌≤◌, ◌⊎◌, inl, inr, re
 use Rattle.ml_parity.specs.Game.{ParityGame}
 use Rattle.ml_game_check.specs.Laws.{NamesFour, OneVerdict}
 use Rattle.ml_game_check.specs.RightClaims.{AreRight, Claims}
-use Rattle.ml_game_check.specs.Verdicts.{Breaks, BreaksEarly, IsBroken, IsVerdict, number_of}
+use Rattle.ml_game_check.specs.Verdicts.{Breaks, BreaksEarly, IsBroken, number_of}
 use Rattle.ml_game_check.specs.declared.verdict.Rule.{Rule}
 use Rattle.ml_game_check.specs.declared.verdict.Rule.TheVariants as rule
-use Rattle.ml_game_check.specs.declared.verdict.Verdict.{Verdict}
 use Rattle.ml_game_check.specs.declared.verdict.Verdict.TheVariants as verdict
 
 same_rule : (r q : Rule) → number_of r ≡ number_of q → r ≡ q

@@ -8,7 +8,7 @@
 --   ways_of_game, is_way_game == the game of ways
 --   by_cycles     == the verdict, where none of the first three rules is broken
 --   some_verdict  == the theorem
-use Rattle.std.proofs.Common.{ℕ, ◌≡◌, ◌<◌, ◌≤◌, ◌⊎◌, List, [], Option, Some, None, length, map, inl, inr, ⊎_elim, refl, sym, ap, ◌∙◌, arith}
+use Rattle.std.proofs.Common.{ℕ, ◌≡◌, ◌<◌, ◌⊎◌, List, [], Option, Some, None, map, inl, inr, ⊎_elim, refl, sym, ap, ◌∙◌, arith}
 use Rattle.std.specs.List.{range_with_len}
 use Rattle.std.proofs.lemmas.List.FromFn.{get_or-map-range_with_len, length-map-range_with_len}
 use Rattle.ml_lists.specs.Found.{Found}
@@ -145,9 +145,11 @@ module _ (g : ParityGame) (cs : Claims) where
           let p = f.holds.0 in
           let lowest = some_lowest w.choice (priority_of ways_of_game) (size g) f.place (size g) in (
             verdict.Broken lowest.0 rule.NoBadCycle,
-            four_broken g cs early lowest.0
-                (p, lost_breaks g cs ok early ways_of_game is_way_game p w.win w.choice w.moves w.wins f.place f.holds.1
-                f.holds.2 lowest.0 lowest.1),
+            four_broken g cs early lowest.0 (
+              p,
+              lost_breaks g cs ok early ways_of_game is_way_game p w.win w.choice w.moves w.wins f.place f.holds.1
+                  f.holds.2 lowest.0 lowest.1,
+            ),
           )
 
     by_cycles : (answer : Verdict) × IsVerdict g cs answer
