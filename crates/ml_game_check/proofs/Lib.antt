@@ -8,3 +8,7 @@ pub mod FirstRules
 pub mod Rounds
 -- the game of ways
 pub mod WayGames
+-- claims have a verdict
+pub mod SomeVerdict
+-- and one alone
+pub mod OneVerdict

@@ -6,6 +6,7 @@
 --   Period, period   == how many steps lead round, from the step n on
 --   Round            == a walk from x comes back to x, and f is nowhere lower
 --   lowest_first, lowest_more == the lowest of no step, and of one step more
+--   some_lowest      == some step of m is the lowest
 --   lower_below      == the lower of two numbers is one of them
 --   lowest_round     == from the lowest of n steps behind the first n steps on it does
 use Rattle.std.proofs.Common.{ℕ, zero, suc, ◌≡◌, ◌+◌, ◌-◌, ◌<◌, ◌≤◌, ◌⊎◌, inl, inr, arith, refl, sym, ap, ◌∙◌, subst}
@@ -164,6 +165,25 @@ module _ (next : ℕ → ℕ) (f : ℕ → ℕ) (n v : ℕ) where
     pub lowest_more : (y : ℕ) → IsLower f x (next at) y → IsLowestTo next f n v (m + 1) y
     lowest_more y (inl (same, falls)) = subst (IsLowestTo next f n v (m + 1)) (sym same) (lowest_falls falls)
     lowest_more y (inr (same, stays)) = subst (IsLowestTo next f n v (m + 1)) (sym same) (lowest_stays stays)
+
+  pub some_lowest : (m : ℕ) → (x : ℕ) × IsLowestTo next f n v m x
+  some_lowest zero = (walk next v n, lowest_first (walk next v n) refl)
+  some_lowest (suc m) = more (some_lowest m)
+    where
+      more : (x : ℕ) × IsLowestTo next f n v m x → (x : ℕ) × IsLowestTo next f n v (suc m) x
+      more (x, is) = by_order (cases_lt (f (next (walk next v (n + m)))) (f x))
+        where
+          at : ℕ
+          at = walk next v (n + m)
+
+          one : (y : ℕ) → IsLower f x (next at) y → IsLowestTo next f n v (suc m) y
+          one y lower =
+              let e : m + 1 ≡ suc m = omega arith in
+              subst (λ k. IsLowestTo next f n v k y) e (lowest_more m at x refl is y lower)
+
+          by_order : (f (next at) < f x) ⊎ (f x ≤ f (next at)) → (y : ℕ) × IsLowestTo next f n v (suc m) y
+          by_order (inl falls) = (next at, one (next at) (inl (refl, falls)))
+          by_order (inr stays) = (x, one x (inr (refl, stays)))
 
 pub lower_below : (f : ℕ → ℕ) (x y z n : ℕ) → IsLower f x y z → x < n → y < n → z < n
 lower_below f x y z n (inl (same, falls)) x_low y_low = omega arith

@@ -149,122 +149,122 @@ module _ (g : ParityGame) (cs : Claims) (ok : IsGame g) (early : KeepsEarly g cs
       same_priority : (v : ℕ) → priority_of h v ≡ priority_of g v
       same_priority v = ap (λ (ps : List ℕ). get_or ps v 0) is.priorities
 
-      module _ (s : GameSolution) (solves : IsSolution h s) where
-        -- where p wins what is claimed for p, no claim for p breaks the fourth rule
-        pub no_bad_cycle : ((v : ℕ) → IsLost cs s.winner v → ⊥) → (v : ℕ) → BreaksFour g cs p v → ⊥
-        no_bad_cycle none_lost v (claimed, b) = no_own_opponent p (sym good ∙ ap side lowest_is ∙ b.bad)
-          where
-            l : Lasso
-            l = b.cycle
-
-            at : ℕ → ℕ
-            at k = get_or (round l) k 0
-
-            first : IsClaimed cs p (at 0)
-            first = (b.ways.joined 0 (omega (arith, b.ways.starts))).0
-
-            won : winner_at s.winner (at 0) ≡ p
-            won =
-                ⊎_elim (λ (same : winner_at s.winner (at 0) ≡ p). same)
-                (λ (other : winner_at s.winner (at 0) ≡ opponent p). absurd (none_lost (at 0) (p, first, other)))
-                (cases_player (winner_at s.winner (at 0)) p)
-
-            wins : WinsFrom h p (choice_at s.choice) (at 0)
-            wins =
-                subst (λ q. WinsFrom h q (choice_at s.choice) (at 0)) won
-                (solves.wins (at 0) (omega (arith, is.sizes, low p (at 0) first)))
-
-            good : winner h l ≡ p
-            good =
-                wins l
-                (record { starts = b.ways.starts; joined = λ k below. move_of_way (at k) (at (k + 1)) (b.ways.joined k below) })
-                (sym (round-entry l 0 (omega (arith, b.ways.starts))))
-                (λ k below own. absurd (not_own (at k) (b.ways.joined k below).0 own))
-
-            lowest_is : lowest_on_loop (priority_of h) l ≡ priority_of g v
-            lowest_is = ap (λ (ps : List ℕ). lowest_on_loop (λ x. get_or ps x 0) l) is.priorities ∙ b.lowest
-
-        -- from a vertex that the opponent wins the choices lead to a cycle that is bad for p
-        module _ (v : ℕ) (claimed : IsClaimed cs p v) (lost : winner_at s.winner v ≡ opponent p) where
-          abbrev pub next : ℕ → ℕ
-          next = choice_at s.choice
-
-          record On (x : ℕ) : Type 0 where
-            pub claimed_too : IsClaimed cs p x
-            pub wins : WinsFrom h (opponent p) next x
-
-          move : (x : ℕ) → IsClaimed cs p x → HasMove h x (next x)
-          move x here = solves.strategies (opponent p) x (omega (arith, is.sizes, low p x here)) (owner_is x here)
-
-          goes_on : (x : ℕ) → On x → On (next x)
-          goes_on x on = record {
-            claimed_too = leads p x (next x) (way_of_move x (next x) on.claimed_too (move x on.claimed_too));
-            wins = kept_by_move h (opponent p) next x (next x) on.wins (move x on.claimed_too) (λ own. refl);
-          }
-
-          at_first : On v
-          at_first = record {
-            claimed_too = claimed;
-            wins =
-                subst (λ q. WinsFrom h q next v) lost
-                (solves.wins v (omega (arith, is.sizes, low p v claimed)));
-          }
-
-          along : (x : ℕ) → On x → (k : ℕ) → On (walk next x k)
-          along x on zero = on
-          along x on (suc k) = goes_on (walk next x k) (along x on k)
-
-          pub within : (k : ℕ) → walk next v k < size g
-          within k = low p (walk next v k) (along v at_first k).claimed_too
-
-          pub lost_breaks : (x : ℕ) → IsLowestFrom next (priority_of h) (size g) v x → BreaksFour g cs p x
-          lost_breaks x lowest = from (lowest_round next (priority_of h) (size g) v x within lowest)
+      module _ (win : ℕ → Player) (next : ℕ → ℕ)
+          (chosen : (v : ℕ) → v < size h → HasMove h v (next v))
+          (winning : (v : ℕ) → v < size h → WinsFrom h (win v) next v)
+        where
+          -- where p wins what is claimed for p, no claim for p breaks the fourth rule
+          pub no_bad_cycle : ((v : ℕ) → IsClaimed cs p v → win v ≡ opponent p → ⊥) → (v : ℕ) → BreaksFour g cs p v → ⊥
+          no_bad_cycle none_lost v (claimed, b) = no_own_opponent p (sym good ∙ ap side lowest_is ∙ b.bad)
             where
-              on : On x
-              on = subst On lowest.there (along v at_first lowest.steps)
+              l : Lasso
+              l = b.cycle
 
-              from : Round next (priority_of h) x → BreaksFour g cs p x
-              from r = (
-                on.claimed_too,
-                record {
-                  cycle = l;
-                  ways = lasso_of_is (IsWay g cs p) c 0 r.length_of r.some (sym r.closed)
-                      (λ k below. subst (IsWay g cs p (c k)) (sym (walk-add-one next x k))
-                      (way_of_move (c k) (next (c k)) (along x on k).claimed_too (move (c k) (along x on k).claimed_too)));
-                  place = 0;
-                  on_loop = omega arith;
-                  in_list = omega (arith, r.some, lasso_of-length c 0 r.length_of);
-                  here = first;
-                  lowest = lowest_of (priority_of g) (λ k. subst₂ (λ a b. a ≤ b) (same_priority x) (same_priority (c k)) (r.lowest k));
-                  bad =
-                      ap side (sym (same_priority x) ∙ sym (lowest_of (priority_of h) r.lowest))
-                      ∙ on.wins l
-                      (lasso_of_is (HasMove h) c 0 r.length_of r.some (sym r.closed)
-                      (λ k below. subst (HasMove h (c k)) (sym (walk-add-one next x k)) (move (c k) (along x on k).claimed_too)))
-                      first
-                      (λ k below own.
-                      lasso_of-round c 0 r.length_of (k + 1) r.some (sym r.closed) (omega (arith, lasso_of-length c 0 r.length_of))
-                      ∙ walk-add-one next x k
-                      ∙ ap next (sym (lasso_of-round c 0 r.length_of k r.some (sym r.closed) (omega (arith, lasso_of-length c 0 r.length_of)))));
-                },
-              )
-                where
-                  c : ℕ → ℕ
-                  c = walk next x
+              at : ℕ → ℕ
+              at k = get_or (round l) k 0
 
-                  l : Lasso
-                  l = lasso_of c 0 r.length_of
+              first : IsClaimed cs p (at 0)
+              first = (b.ways.joined 0 (omega (arith, b.ways.starts))).0
 
-                  first : entry l 0 ≡ x
-                  first = lasso_of-entry c 0 r.length_of 0 r.some
+              won : win (at 0) ≡ p
+              won =
+                  ⊎_elim (λ (same : win (at 0) ≡ p). same)
+                  (λ (other : win (at 0) ≡ opponent p). absurd (none_lost (at 0) first other))
+                  (cases_player (win (at 0)) p)
 
-                  lowest_of : (f : ℕ → ℕ) → ((k : ℕ) → f x ≤ f (c k)) → lowest_on_loop f l ≡ f x
-                  lowest_of f least =
-                      lowest_on_loop_is f l 0 (omega arith) (omega (arith, r.some, lasso_of-length c 0 r.length_of))
-                      (λ j later below.
-                      subst₂ (λ a b. f a ≤ f b) (sym first)
-                      (sym (lasso_of-entry c 0 r.length_of j (omega (arith, lasso_of-length c 0 r.length_of)))) (least j))
-                      ∙ ap f first
+              wins : WinsFrom h p next (at 0)
+              wins =
+                  subst (λ q. WinsFrom h q next (at 0)) won
+                  (winning (at 0) (omega (arith, is.sizes, low p (at 0) first)))
+
+              good : winner h l ≡ p
+              good =
+                  wins l
+                  (record { starts = b.ways.starts; joined = λ k below. move_of_way (at k) (at (k + 1)) (b.ways.joined k below) })
+                  (sym (round-entry l 0 (omega (arith, b.ways.starts))))
+                  (λ k below own. absurd (not_own (at k) (b.ways.joined k below).0 own))
+
+              lowest_is : lowest_on_loop (priority_of h) l ≡ priority_of g v
+              lowest_is = ap (λ (ps : List ℕ). lowest_on_loop (λ x. get_or ps x 0) l) is.priorities ∙ b.lowest
+
+          -- from a vertex that the opponent wins the choices lead to a cycle that is bad for p
+          module _ (v : ℕ) (claimed : IsClaimed cs p v) (lost : win v ≡ opponent p) where
+            record On (x : ℕ) : Type 0 where
+              pub claimed_too : IsClaimed cs p x
+              pub wins : WinsFrom h (opponent p) next x
+
+            move : (x : ℕ) → IsClaimed cs p x → HasMove h x (next x)
+            move x here = chosen x (omega (arith, is.sizes, low p x here))
+
+            goes_on : (x : ℕ) → On x → On (next x)
+            goes_on x on = record {
+              claimed_too = leads p x (next x) (way_of_move x (next x) on.claimed_too (move x on.claimed_too));
+              wins = kept_by_move h (opponent p) next x (next x) on.wins (move x on.claimed_too) (λ own. refl);
+            }
+
+            at_first : On v
+            at_first = record {
+              claimed_too = claimed;
+              wins =
+                  subst (λ q. WinsFrom h q next v) lost
+                  (winning v (omega (arith, is.sizes, low p v claimed)));
+            }
+
+            along : (x : ℕ) → On x → (k : ℕ) → On (walk next x k)
+            along x on zero = on
+            along x on (suc k) = goes_on (walk next x k) (along x on k)
+
+            pub within : (k : ℕ) → walk next v k < size g
+            within k = low p (walk next v k) (along v at_first k).claimed_too
+
+            pub lost_breaks : (x : ℕ) → IsLowestFrom next (priority_of h) (size g) v x → BreaksFour g cs p x
+            lost_breaks x lowest = from (lowest_round next (priority_of h) (size g) v x within lowest)
+              where
+                on : On x
+                on = subst On lowest.there (along v at_first lowest.steps)
+
+                from : Round next (priority_of h) x → BreaksFour g cs p x
+                from r = (
+                  on.claimed_too,
+                  record {
+                    cycle = l;
+                    ways = lasso_of_is (IsWay g cs p) c 0 r.length_of r.some (sym r.closed)
+                        (λ k below. subst (IsWay g cs p (c k)) (sym (walk-add-one next x k))
+                        (way_of_move (c k) (next (c k)) (along x on k).claimed_too (move (c k) (along x on k).claimed_too)));
+                    place = 0;
+                    on_loop = omega arith;
+                    in_list = omega (arith, r.some, lasso_of-length c 0 r.length_of);
+                    here = first;
+                    lowest = lowest_of (priority_of g) (λ k. subst₂ (λ a b. a ≤ b) (same_priority x) (same_priority (c k)) (r.lowest k));
+                    bad =
+                        ap side (sym (same_priority x) ∙ sym (lowest_of (priority_of h) r.lowest))
+                        ∙ on.wins l
+                        (lasso_of_is (HasMove h) c 0 r.length_of r.some (sym r.closed)
+                        (λ k below. subst (HasMove h (c k)) (sym (walk-add-one next x k)) (move (c k) (along x on k).claimed_too)))
+                        first
+                        (λ k below own.
+                        lasso_of-round c 0 r.length_of (k + 1) r.some (sym r.closed) (omega (arith, lasso_of-length c 0 r.length_of))
+                        ∙ walk-add-one next x k
+                        ∙ ap next (sym (lasso_of-round c 0 r.length_of k r.some (sym r.closed) (omega (arith, lasso_of-length c 0 r.length_of)))));
+                  },
+                )
+                  where
+                    c : ℕ → ℕ
+                    c = walk next x
+
+                    l : Lasso
+                    l = lasso_of c 0 r.length_of
+
+                    first : entry l 0 ≡ x
+                    first = lasso_of-entry c 0 r.length_of 0 r.some
+
+                    lowest_of : (f : ℕ → ℕ) → ((k : ℕ) → f x ≤ f (c k)) → lowest_on_loop f l ≡ f x
+                    lowest_of f least =
+                        lowest_on_loop_is f l 0 (omega arith) (omega (arith, r.some, lasso_of-length c 0 r.length_of))
+                        (λ j later below.
+                        subst₂ (λ a b. f a ≤ f b) (sym first)
+                        (sym (lasso_of-entry c 0 r.length_of j (omega (arith, lasso_of-length c 0 r.length_of)))) (least j))
+                        ∙ ap f first
 
 -- the game of ways is a game
 pub is_game : (g : ParityGame) (cs : Claims)
@@ -309,12 +309,20 @@ made_is_game g cs ok early owner priority successors a b moves is_a is_b are_mov
     (record { sizes = owners.many; owners = owners.at; priorities = are_priorities; moves = ways.at })
     (ways.many ∙ sym owners.many)
 
--- each choice of a solution is a vertex
+-- each choice of a solution is a move
+choices_move : (h : ParityGame) (s : GameSolution)
+    → IsSolution h s
+    → (v : ℕ)
+    → v < size h
+    → HasMove h v (choice_at s.choice v)
+choices_move h s solves v below = solves.strategies (owner_of h v) v below refl
+
+-- so it is a vertex
 pub choices_low : (h : ParityGame) (s : GameSolution) → IsGame h → IsSolution h s → (k d : ℕ) → k < length s.choice
     → get_or s.choice k d < length s.choice
 choices_low h s ok solves k d below =
     let inside : k < size h = omega (arith, solves.choices) in
-    let there = ok.in_range k (get_or s.choice k 0) (solves.strategies (owner_of h k) k inside refl) in
+    let there = ok.in_range k (get_or s.choice k 0) (choices_move h s solves k inside) in
     let same = get_or_default s.choice k 0 d below in
     omega (arith, solves.choices)
 
@@ -349,9 +357,12 @@ pub tells_four : (g : ParityGame) (cs : Claims) (h : ParityGame) (s : GameSoluti
     ((v : ℕ) → IsLost cs s.winner v → ⊥)
     (LeadsRound cs s.winner (choice_at s.choice) (priority_of h) (length cs))
     → TellsFour g cs o
-tells_four g cs h s ok early is solves None none = λ p v. no_bad_cycle g cs ok early h is p s solves none v
+tells_four g cs h s ok early is solves None none =
+    λ p v. no_bad_cycle g cs ok early h is p (winner_at s.winner) (choice_at s.choice) (choices_move h s solves) solves.wins
+    (λ x claimed lost. none x (p, claimed, lost)) v
 tells_four g cs h s ok early is solves (Some x) leads = (
   leads.is_lost.0,
-  lost_breaks g cs ok early h is leads.is_lost.0 s solves leads.start leads.is_lost.1 leads.is_lost.2 x
+  lost_breaks g cs ok early h is leads.is_lost.0 (winner_at s.winner) (choice_at s.choice) (choices_move h s solves)
+      solves.wins leads.start leads.is_lost.1 leads.is_lost.2 x
       (subst (λ n. IsLowestFrom (choice_at s.choice) (priority_of h) n leads.start x) early.places leads.lowest),
 )

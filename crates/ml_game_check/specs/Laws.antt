@@ -4,7 +4,9 @@
 --   RightAreWon           == where claims are right, vertices are won as they say, and their moves win
 --   claims_of g s         == the claims of a solution: a winner for each vertex, and the move where the owner is the winner
 --   SolutionsAreRight     == the claims of a solution are right
-use Rattle.std.specs.Prelude.{ℕ, ◌≡◌, ◌<◌, map, Option, Some, None}
+--   SomeVerdict           == for claims about a game, one for each vertex at most, there is a verdict
+--   OneVerdict            == and one alone, but for the vertex that is named with the fourth rule
+use Rattle.std.specs.Prelude.{ℕ, ◌≡◌, ◌<◌, ◌⊎◌, length, map, Option, Some, None}
 use Rattle.std.specs.List.{range_with_len}
 use Rattle.ml_parity.specs.declared.players.Player.{Player}
 use Rattle.ml_parity.specs.declared.players.Player.TheVariants.{Even, Odd}
@@ -12,7 +14,11 @@ use Rattle.ml_parity.specs.Game.{ParityGame, IsGame, owner_of, size}
 use Rattle.ml_parity.specs.Solution.{GameSolution, IsSolution, choice_at, winner_at}
 use Rattle.ml_parity.specs.Winner.{WinsFrom, Wins}
 use Rattle.ml_game_check.specs.RightClaims.{AreRight, Claims, IsClaimed, IsMoved, claim}
+use Rattle.ml_game_check.specs.Verdicts.{IsVerdict}
 use Rattle.ml_game_check.specs.declared.claims.Claim.{Claim}
+use Rattle.ml_game_check.specs.declared.verdict.Rule.TheVariants.{NoBadCycle}
+use Rattle.ml_game_check.specs.declared.verdict.Verdict.{Verdict}
+use Rattle.ml_game_check.specs.declared.verdict.Verdict.TheVariants.{Broken}
 
 abbrev pub Makes : ParityGame → Claims → Player → (ℕ → ℕ) → Type 0
 Makes g cs p s = (v w : ℕ) → owner_of g v ≡ p → IsMoved cs p v w → s v ≡ w
@@ -38,3 +44,14 @@ claims_of g s = map (claim_of g s) (range_with_len 0 (size g))
 
 abbrev pub SolutionsAreRight : Type 0
 SolutionsAreRight = (g : ParityGame) (s : GameSolution) → IsGame g → IsSolution g s → AreRight g (claims_of g s)
+
+abbrev pub SomeVerdict : Type 0
+SomeVerdict = (g : ParityGame) (cs : Claims) → IsGame g → length cs ≡ size g → (answer : Verdict) × IsVerdict g cs answer
+
+abbrev pub NamesFour : Verdict → Type 0
+NamesFour answer = (v : ℕ) × (answer ≡ Broken v NoBadCycle)
+
+abbrev pub OneVerdict : Type 0
+OneVerdict =
+    (g : ParityGame) (cs : Claims) (a b : Verdict) → IsVerdict g cs a → IsVerdict g cs b
+    → (a ≡ b) ⊎ (NamesFour a × NamesFour b)

@@ -3,10 +3,11 @@
 --   front_refused     == the game's text is refused
 --   comes_later       == it has no fault, and this comes behind it
 --   entries_refused   == the solution is refused
+--   entries_never_lack == and never for want of memory
 --   checked           == claims that were made of a whole solution are those of the text
 --   entries_unknown   == some id of an entry is none
 --   game_unknown      == some successor is none
-use Rattle.std.proofs.Common.{◌≡◌, ℕ, ◌+◌, List, length, take, map, Option, Some, None, Ok, refl, sym, ◌∙◌, ap, subst, inl, inr}
+use Rattle.std.proofs.Common.{◌≡◌, ◌≢◌, ℕ, ◌+◌, List, length, take, map, Option, Some, None, Ok, Err, refl, sym, ◌∙◌, ap, subst, inl, inr}
 use Rattle.std.specs.Prelude.{MatchOption}
 use Rattle.ml_game_check.specs.RightClaims.{Claims}
 use Rattle.ml_lists.specs.Times.{IsApart}
@@ -99,6 +100,10 @@ module _ (text : List ℕ) (i : ℕ) (word : word_in text ≡ Some i) (from : �
       inr (comes_later text (Some i) word faultless TooLarge at
       (refused_solution (behind text i) (length text) (refusal.TooLarge at) (sym same_out ∙ told)))
   entries_refused faultless refusal.NoMemory told = tt
+
+  pub entries_never_lack : (e : GameTextRefusal) → out ≡ Err e → e ≢ refusal.NoMemory
+  entries_never_lack e is lack =
+      refused_solution (behind text i) (length text) refusal.NoMemory (sym same_out ∙ is ∙ ap Err lack)
 
   module _ (s : EntryState) (is : out ≡ Ok s) where
     w : WholeSolution (signs_of (behind text i)) s

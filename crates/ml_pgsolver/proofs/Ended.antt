@@ -15,7 +15,7 @@ use Rattle.ml_lists.proofs.Member.{member-append_right, member-flat_map, member-
 use Rattle.ml_pgsolver.specs.Tokens.{Token, Number}
 use Rattle.ml_pgsolver.specs.Grammar.{Vertex, Draft, vertices_of, vertex_tokens, header_tokens, draft_tokens}
 use Rattle.ml_pgsolver.specs.GameText.{Row, row_of}
-use Rattle.ml_pgsolver.specs.Refusals.{Cause, TooLarge, IsFaulty, HasNoFault, ids_of, successors_among, greatest_number}
+use Rattle.ml_pgsolver.specs.Refusals.{Cause, TooLarge, IsFaulty, HasNoFault, ids_of, successors_among, greatest_number, most_vertices}
 use Rattle.ml_pgsolver.specs.declared.reader.Stage.TheVariants as stage
 use Rattle.ml_pgsolver.specs.private.Assembled.{IsReadable}
 use Rattle.ml_pgsolver.specs.private.Machine.{State}
@@ -57,6 +57,8 @@ pub record Whole (ts : List Token) (s : State) : Type 0 where
   pub ids_there : ids_of ts ≡ map (λ r. r.id) (map row_of (vertices_of draft))
   pub successors_there : successors_among ts ≡ flat_map (λ r. r.successors) (map row_of (vertices_of draft))
   pub apart : IsApart (map (λ r. r.id) (map row_of (vertices_of draft)))
+  pub few : length s.ids ≤ most_vertices
+  pub small : (n : ℕ) → IsMember n s.ids → n ≤ greatest_number
   pub faultless : IsFaultless ts
 
 ended_body : (ts : List Token) (h : Option (List ℕ)) (v : Vertex) (vs : List Vertex) → Read ts (Body h (v ∷ vs) Id)
@@ -72,6 +74,8 @@ ended_body ts h v vs read =
       ids_there = read.ids ∙ ids;
       successors_there = read.successors ∙ append-nil (flat_map (λ (r : Row). r.successors) rows);
       apart = subst IsApart ids read.apart;
+      few = read.few_ids;
+      small = read.small;
       faultless = read.faultless;
     }
 

@@ -49,7 +49,7 @@ front_token-within b rest =
     (λ other. one (token.Stray b) refl)))))
 
 -- the bytes of a token are passed over
-skipped : (k i : ℕ) (xs : List ℕ) → k ≤ length xs → tokens_at k i xs ≡ tokens_at 0 (i + k) (drop k xs)
+pub skipped : (k i : ℕ) (xs : List ℕ) → k ≤ length xs → tokens_at k i xs ≡ tokens_at 0 (i + k) (drop k xs)
 unfolding tokens_at
 skipped zero i xs fits = let e : i ≡ i + 0 = omega arith in ap (λ j. tokens_at 0 j xs) e
 skipped (suc k) i [] fits = absurd (omega arith)
@@ -57,18 +57,18 @@ skipped (suc k) i (b ∷ rest) fits =
     let e : i + 1 + k ≡ i + suc k = omega arith in
     skipped k (i + 1) rest (omega arith) ∙ ap (λ j. tokens_at 0 j (drop k rest)) e
 
-tokens_at-blank : (i b : ℕ) (rest : List ℕ) → is_blank b ≡ true → tokens_at 0 i (b ∷ rest) ≡ tokens_at 0 (i + 1) rest
+pub tokens_at-blank : (i b : ℕ) (rest : List ℕ) → is_blank b ≡ true → tokens_at 0 i (b ∷ rest) ≡ tokens_at 0 (i + 1) rest
 unfolding tokens_at
 tokens_at-blank i b rest blank = cond-true _ _ _ blank
 
-tokens_at-token : (i b : ℕ) (rest : List ℕ) → is_blank b ≡ false
+pub tokens_at-token : (i b : ℕ) (rest : List ℕ) → is_blank b ≡ false
     → tokens_at 0 i (b ∷ rest)
     ≡ record { token = front_token b rest; at = i }
     ∷ tokens_at (length (spelling (front_token b rest)) - 1) (i + 1) rest
 unfolding tokens_at
 tokens_at-token i b rest other = cond-false _ _ _ other
 
-tokens_at-end : (i : ℕ) → tokens_at 0 i [] ≡ []
+pub tokens_at-end : (i : ℕ) → tokens_at 0 i [] ≡ []
 unfolding tokens_at
 tokens_at-end i = refl
 

@@ -70,3 +70,13 @@ mod CheckedAnswers
 mod WordPlaces
 -- each text with a solution has one answer
 pub mod OneChecked
+-- each text with a solution has an answer
+pub mod SomeChecked
+-- what is found of claims
+pub mod OneFound
+-- the word behind the text of a game
+pub mod WordsBehind
+-- the text of a solution, sign by sign
+mod WrittenSigns
+-- what is written for a solution is accepted
+pub mod WrittenSolutions

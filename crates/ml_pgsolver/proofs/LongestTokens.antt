@@ -30,7 +30,7 @@ run_longer p (d ∷ ds) rest (x ∷ xs) is all =
     omega arith
 
 -- a run that is ended by a byte that does not pass
-run_ended : (p : ℕ → Bool) (ds rest : List ℕ) (e : ℕ) → ((b : ℕ) → IsMember b ds → p b ≡ true) → p e ≡ false
+pub run_ended : (p : ℕ → Bool) (ds rest : List ℕ) (e : ℕ) → ((b : ℕ) → IsMember b ds → p b ≡ true) → p e ≡ false
     → take_while p (ds ++ e ∷ rest) ≡ ds
 run_ended p [] rest e all stops = ap (λ k. take k (e ∷ rest)) (cond-false _ _ _ stops)
 run_ended p (d ∷ ds) rest e all stops =
@@ -57,13 +57,13 @@ run_first p x xs b m later true is =
     part (inl e) = ap p e ∙ is
     part (inr rest) = later rest
 
-run_passes : (p : ℕ → Bool) (xs : List ℕ) (b : ℕ) → IsMember b (take_while p xs) → p b ≡ true
+pub run_passes : (p : ℕ → Bool) (xs : List ℕ) (b : ℕ) → IsMember b (take_while p xs) → p b ≡ true
 run_passes p [] b m = absurd m
 run_passes p (x ∷ xs) b m = run_first p x xs b m (λ later. run_passes p xs b later) (p x) refl
 
 -- ---- what begins a text
 
-closed_name : (inner rest : List ℕ)
+pub closed_name : (inner rest : List ℕ)
     → ((b : ℕ) → IsMember b inner → is_inner b ≡ true)
     → quoted (inner ++ 34 ∷ rest) ≡ Name inner
 closed_name inner rest all =

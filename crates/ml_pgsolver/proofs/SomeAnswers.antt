@@ -204,7 +204,7 @@ some_game rows readable =
     let sorted = sorted_rows rows readable.apart in
     game_in_order rows readable sorted (some_given (ids_in sorted.order) sorted.order)
 
-refused : (text : List ℕ) (e : GameTextRefusal) → RefusedIn (tokens text) (length text) e → (e ≢ refusal.NoMemory) × IsRefusedBy text e
+pub refused : (text : List ℕ) (e : GameTextRefusal) → RefusedIn (tokens text) (length text) e → (e ≢ refusal.NoMemory) × IsRefusedBy text e
 refused text (refusal.Syntax at) is = (λ e. cc, is)
 refused text (refusal.Repeated at) is = (λ e. cc, is)
 refused text (refusal.Unknown at) is = absurd is

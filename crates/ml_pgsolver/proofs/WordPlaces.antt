@@ -14,14 +14,14 @@ use Rattle.ml_pgsolver.specs.Tokens.{quoted, spelling}
 use Rattle.ml_pgsolver.specs.private.Claiming.{IsBehindName}
 use Rattle.ml_pgsolver.proofs.FirstTokens.{quoted-within}
 
-abbrev word : List ℕ
+abbrev pub word : List ℕ
 word = codes "paritysol"
 
-abbrev stands : List ℕ → Bool
+abbrev pub stands : List ℕ → Bool
 stands xs = starts_with nat_eq xs word
 
 -- the bytes of a name are passed over
-passed : (k i : ℕ) (xs : List ℕ) → k ≤ length xs → word_from k i xs ≡ word_from 0 (i + k) (drop k xs)
+pub passed : (k i : ℕ) (xs : List ℕ) → k ≤ length xs → word_from k i xs ≡ word_from 0 (i + k) (drop k xs)
 unfolding word_from
 passed zero i xs fits = let e : i ≡ i + 0 = omega arith in ap (λ j. word_from 0 j xs) e
 passed (suc k) i [] fits = absurd (omega arith)
@@ -29,12 +29,12 @@ passed (suc k) i (b ∷ rest) fits =
     let e : i + 1 + k ≡ i + suc k = omega arith in
     passed k (i + 1) rest (omega arith) ∙ ap (λ j. word_from 0 j (drop k rest)) e
 
-one_byte : (i b : ℕ) (rest : List ℕ) → stands (b ∷ rest) ≡ false
+pub one_byte : (i b : ℕ) (rest : List ℕ) → stands (b ∷ rest) ≡ false
     → word_from 0 i (b ∷ rest) ≡ word_from (inside_name b rest) (i + 1) rest
 unfolding word_from
 one_byte i b rest other = cond-false _ _ _ other
 
-here_byte : (i b : ℕ) (rest : List ℕ) → stands (b ∷ rest) ≡ true → word_from 0 i (b ∷ rest) ≡ Some i
+pub here_byte : (i b : ℕ) (rest : List ℕ) → stands (b ∷ rest) ≡ true → word_from 0 i (b ∷ rest) ≡ Some i
 unfolding word_from
 here_byte i b rest is = cond-true _ _ _ is
 

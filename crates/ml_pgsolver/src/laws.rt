@@ -1,6 +1,6 @@
 // What holds of texts and answers by their definitions alone: the functions do nothing, their contracts are the theorems.
 ghost use Rattle.std.specs.Prelude.{◌≡◌};
-ghost use Rattle.ml_pgsolver.specs.Laws.{IsUnambiguous, OneAnswer, OneCheckedAnswer, SolutionOrFault};
+ghost use Rattle.ml_pgsolver.specs.Laws.{IsUnambiguous, OneAnswer, OneCheckedAnswer, OneFinding, SolutionOrFault, WrittenIsAccepted};
 ghost use Rattle.ml_pgsolver.specs.Longest.{FrontIsLongest};
 ghost use Rattle.ml_pgsolver.specs.declared.limits.TheConstants as limit;
 
@@ -18,6 +18,12 @@ pub fn one_checked_answer()
     ensures { OneCheckedAnswer }
 {}
 
+/// Something is found of the claims of such a text, or it is refused, and never both. Two things that are found are the same, but
+/// that with the fourth rule they may name two vertices. So `check_solution` answers each exactly where it is said to come.
+pub fn one_finding()
+    ensures { OneFinding }
+{}
+
 /// The token at the front of a text is the longest one of the grammar with which the text begins; a byte that begins none
 /// is a token by itself, which the grammar has nowhere.
 pub fn longest_token()
@@ -32,6 +38,12 @@ pub fn limits()
     ensures numbers { limit.GREATEST_NUMBER ≡ 4294967294 }
     ensures bytes { limit.LONGEST_GAME_TEXT ≡ 67108864 }
     ensures checked_bytes { limit.LONGEST_CHECKED_TEXT ≡ 134217728 }
+{}
+
+/// What is written for a solution of the game that a text stands for, put behind the text, is read as the claims of the solution,
+/// and `check_solution` accepts it.
+pub fn written_is_accepted()
+    ensures { WrittenIsAccepted }
 {}
 
 /// Tokens behind the word `paritysol` are those of a solution and none of them is at fault, or they have a first fault.
