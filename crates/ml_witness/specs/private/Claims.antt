@@ -45,24 +45,13 @@ NodeIsKept g m rs s n (node.Square a to) =
     (t : ℕ) → Contains (targets m s (action_at g a)) t → LeadsTo g rs s n t to
 
 abbrev pub StandsBeside : Graph → Structure → List ℕ → ℕ → ℕ → Node → Type 0
-StandsBeside g m rs s n node.True = Unit {0}
-StandsBeside g m rs s n node.False = ⊥
-StandsBeside g m rs s n (node.Lit p positive) = lists m s (prop_at g p) ≡ positive
-StandsBeside g m rs s n (node.And l r) = LeadsTo g rs s n s l × LeadsTo g rs s n s r
-StandsBeside g m rs s n (node.Or l r) = LeadsTo g rs s n s l ⊎ LeadsTo g rs s n s r
-StandsBeside g m rs s n (node.Diamond a to) =
-    (t : ℕ) × Contains (targets m s (action_at g a)) t × LeadsTo g rs s n t to
 StandsBeside g m rs s n (node.Square a to) = Unit {0}
+StandsBeside g m rs s n x = NodeIsKept g m rs s n x
 
 abbrev pub SquareIsKept : Graph → List ℕ → Edge → ℕ → Node → Type 0
-SquareIsKept g rs e n node.True = Unit {0}
-SquareIsKept g rs e n node.False = Unit {0}
-SquareIsKept g rs e n (node.Lit p positive) = Unit {0}
-SquareIsKept g rs e n (node.And l r) = Unit {0}
-SquareIsKept g rs e n (node.Or l r) = Unit {0}
-SquareIsKept g rs e n (node.Diamond a to) = Unit {0}
 SquareIsKept g rs e n (node.Square a to) =
     0 < rank_of g rs e.source n → bytes_eq e.action (action_at g a) ≡ true → LeadsTo g rs e.source n e.target to
+SquareIsKept g rs e n x = Unit {0}
 
 abbrev pub AllStandAt : Graph → Structure → List ℕ → ℕ → Type 0
 AllStandAt g m rs s = (n : ℕ) → n < size g → 0 < rank_of g rs s n → StandsBeside g m rs s n (node_at g n)
