@@ -9,10 +9,10 @@
 --   even_leads   == a good vertex of Even's leads to some good one
 --   odd_leads    == a good vertex of Odd's leads to good ones alone
 --   kept_holds   == where each claim is kept, a node that is claimed at a state holds there
-use Rattle.std.proofs.Common.{ℕ, ◌≡◌, ◌+◌, ◌*◌, ◌<◌, ◌≤◌, ◌%◌, ◌⊎◌, Bool, true, false, cond, List, [], ◌∷◌, length, get_or, map, Contains, inl, inr, refl, sym, ap, ◌∙◌, subst, arith}
+use Rattle.std.proofs.Common.{ℕ, ◌≡◌, ◌<◌, ◌≤◌, ◌%◌, ◌⊎◌, Bool, true, false, cond, List, [], ◌∷◌, length, get_or, map, Contains, inl, inr, refl, sym, ap, ◌∙◌, subst, arith}
 use Rattle.std.specs.Bool.{beq}
 use Rattle.std.proofs.lemmas.Bool.{cases_lt, cases_eq}
-use Rattle.std.proofs.lemmas.List.{length-map, get_or-map}
+use Rattle.std.proofs.lemmas.List.{get_or-map}
 use Rattle.ml_base.specs.Structure.{Structure, IsStructure, lists}
 use Rattle.ml_lists.specs.Member.{IsMember}
 use Rattle.ml_lists.proofs.Decided.{Decided}
@@ -26,7 +26,7 @@ use Rattle.ml_graph.specs.Graph.{Graph, IsGraph, size, node_at, priority_at, pro
 use Rattle.ml_graph.specs.CheckingGame.{Vertex, Pair, Sink, HoldsAt, checking_game, mover, owner_at, pairs_or_sink, priority_at_vertex, successors, successors_of, targets, vertex_number, vertices}
 use Rattle.ml_graph.proofs.CheckingGame.{IsVertex, is_game, is_vertex, leads_to_vertices, number_low, vertex_at, vertices-length}
 use Rattle.ml_graph.proofs.OneStep.{pair_member}
-use Rattle.ml_witness.specs.private.Claims.{AreKept, Leads, LeadsTo, NodeIsKept, rank_of}
+use Rattle.ml_witness.specs.private.Claims.{AreKept, LeadsTo, NodeIsKept, rank_of}
 use Rattle.ml_witness.proofs.RankedWins.{Falls, GoodMove, even_wins}
 
 abbrev pub IsGood : Graph → List ℕ → Vertex → Type 0

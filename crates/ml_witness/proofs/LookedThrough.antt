@@ -4,7 +4,7 @@
 --   way_along    == an edge from s of the action leads to a target
 --   kept_node    == what stands beside, and along each edge if it is a square, is kept
 --   all_kept     == so each claim is kept
-use Rattle.std.proofs.Common.{ℕ, ◌≡◌, ◌<◌, ◌==◌, true, false, ◌&&◌, Bool, List, length, get_or, ltb, map, filter, All, Contains, refl, sym, subst, arith}
+use Rattle.std.proofs.Common.{ℕ, ◌≡◌, ◌<◌, ◌==◌, true, false, ◌&&◌, Bool, List, length, get_or, ltb, filter, All, Contains, refl, sym, subst, arith}
 use Rattle.std.specs.Str.{bytes_eq}
 use Rattle.std.proofs.lemmas.Bool.{ltb-true}
 use Rattle.std.proofs.lemmas.Bool.Decides.{nat_tests}
@@ -14,7 +14,7 @@ use Rattle.ml_lists.specs.Member.{IsMember}
 use Rattle.ml_lists.proofs.Member.{All-member, Image, member-filter, member-filter_from, member-map, member-map_from, place-member}
 use Rattle.ml_lists.proofs.Members.{contains_of_member, member_of_contains}
 use Rattle.ml_graph.specs.CheckingGame.{targets}
-use Rattle.ml_graph.specs.Graph.{Graph, action_at, node_at, size}
+use Rattle.ml_graph.specs.Graph.{Graph, action_at, node_at}
 use Rattle.ml_graph.specs.declared.node.Node.{Node}
 use Rattle.ml_graph.specs.declared.node.Node.TheVariants as node
 use Rattle.ml_witness.specs.private.Claims.{AllStandAt, AreKept, LeadsTo, NodeIsKept, SquareIsKept, SquaresLead, StandsBeside, rank_of}

@@ -7,18 +7,17 @@
 --
 --   Falls     == the step from a vertex to another one is as it should be
 --   even_wins == the theorem
-use Rattle.std.proofs.Common.{ℕ, zero, suc, ◌≡◌, ◌+◌, ◌-◌, ◌<◌, ◌≤◌, ◌%◌, ◌⊎◌, length, get_or, inl, inr, ⊎_elim, refl, sym, ap, ◌∙◌, subst, cond, eqb, arith}
-use Rattle.ml_lists.specs.Lasso.{Lasso, entry, round, lowest_on_loop}
+use Rattle.std.proofs.Common.{ℕ, ◌≡◌, ◌+◌, ◌-◌, ◌<◌, ◌≤◌, ◌%◌, ◌⊎◌, length, get_or, inl, inr, sym, ap, ◌∙◌, subst, cond, eqb, arith}
+use Rattle.ml_lists.specs.Lasso.{Lasso, round, lowest_on_loop}
 use Rattle.ml_lists.proofs.Decided.{Decided}
 use Rattle.ml_lists.proofs.Lasso.{LowestOnLoop, lasso_keeps, loop_closed, loop_length, lowest_on_loop_le, lowest_on_loop_place, on_loop, on_loop-entry, round-entry}
 use Rattle.ml_lists.proofs.Loops.{loop_is_flat}
 use Rattle.ml_lists.proofs.Member.{place-member}
 use Rattle.ml_lists.proofs.Members.{contains_of_member}
-use Rattle.ml_parity.specs.declared.players.Player.{Player}
 use Rattle.ml_parity.specs.declared.players.Player.TheVariants.{Even, Odd}
 use Rattle.ml_parity.specs.Game.{ParityGame, IsGame, HasMove, moves_of, owner_of, priority_of, size}
-use Rattle.ml_parity.specs.Player.{opponent, side}
-use Rattle.ml_parity.specs.Winner.{Follows, IsPlay, IsStrategyOf, Wins, WinsFrom, winner}
+use Rattle.ml_parity.specs.Player.{side}
+use Rattle.ml_parity.specs.Winner.{Follows, IsPlay, IsStrategyOf, Wins, winner}
 use Rattle.ml_parity.proofs.Opponents.{cases_player}
 
 -- the rank doesn't rise, and falls where the priority is odd, unless that is 0

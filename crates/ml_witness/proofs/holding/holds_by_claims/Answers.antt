@@ -1,4 +1,4 @@
-use Rattle.std.proofs.Common.{◌≡◌, ◌<◌, ◌∙◌, ap, subst, arith}
+use Rattle.std.proofs.Common.{◌<◌, ◌∙◌, ap, subst, arith}
 use Rattle.ml_graph.specs.Graph.{size}
 use Rattle.ml_witness.proofs.KeptClaims.{kept_holds}
 use Rattle.ml_witness.specs.private.Claims.{rank_of}
