@@ -2,6 +2,7 @@
 ghost use Rattle.std.specs.Prelude.{◌≡◌, ◌+◌, ◌<◌, ◌≤◌, ℕ, true, false, length, slice_index_or, IfOk, IsTrue};
 ghost use Rattle.ml_lists.specs.Member.{IsMember};
 ghost use Rattle.ml_extract.specs.Extraction.{IsReachedFrom};
+ghost use Rattle.ml_graph.specs.CheckingGame.{Holds};
 ghost use Rattle.ml_graph.specs.Graph.{size};
 ghost use Rattle.ml_search.specs.Found.{IsModelFound, HasFewEdges, diamonds_with, has_diamond};
 ghost use Rattle.ml_search.specs.private.Checked.{AreAlike, AreReached};
@@ -9,6 +10,7 @@ ghost use Rattle.ml_search.specs.private.Checked.{AreAlike, AreReached};
 use ml_base::{Action, Edge, NoMemory};
 use ml_graph::{ModalGraph, Node, holds_at};
 use ml_kripke::{Model, Structure};
+use ml_witness::surely_holds;
 use std::alloc::Global;
 
 /// Is the node a Diamond of the action?
@@ -115,9 +117,26 @@ fn reach(structure: &Structure, _start: u32, flags: &mut [bool])
     }
 }
 
+/// Does the graph hold at the state? The checking game is solved only where no cheaper check says so.
+fn is_met(
+    alloc: Global,
+    graph: &ModalGraph,
+    structure: &Structure,
+    state: u32,
+) -> Result<bool, NoMemory>
+    requires { state < structure.now.states }
+    ensures { IfOk result (λ b. IsTrue b → Holds graph.now structure.now state) }
+{
+    if surely_holds(alloc, graph, structure, state)? {
+        return Ok(true);
+    }
+    holds_at(alloc, graph, structure, state)
+}
+
 /// Is this a model of the graph, with no state, no action and no edge too many?
 ///
-/// Cost: that of the checking game and its solution; for each edge linear in the nodes.
+/// Cost: that of `ml_witness::surely_holds`, and of the checking game and its solution where this says false; for each edge
+/// linear in the nodes.
 pub(crate) fn is_model(alloc: Global, graph: &ModalGraph, model: &Model) -> Result<bool, NoMemory>
     ensures { IfOk result (λ b. IsTrue b → IsModelFound graph.now model.now.structure model.now.start) }
 {
@@ -126,7 +145,7 @@ pub(crate) fn is_model(alloc: Global, graph: &ModalGraph, model: &Model) -> Resu
     if has_few_edges(graph, &model.structure) {
         let reached = all_reached(alloc, &model.structure, model.start)?;
         if reached {
-            let is_met = holds_at(alloc, graph, &model.structure, model.start)?;
+            let is_met = is_met(alloc, graph, &model.structure, model.start)?;
             return Ok(is_met);
         }
     }

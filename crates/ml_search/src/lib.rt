@@ -8,12 +8,12 @@
 // - `seek` is the search alone, for tests and measurements.
 //
 // Three searches make candidates, of which nothing is proved: that for words (`ml_search_frames`), that for weak threads
-// (`ml_search_focus`), and that for any graph (`ml_search_engine`). A check lets them out: a structure by the checking game
-// (`checking_models`), a refutation by the rules of acceptance (`checking_refutations`). So whatever the engines do, an
-// answer is right (`specs/Found.antt`).
+// (`ml_search_focus`), and that for any graph (`ml_search_engine`). A check lets them out: a structure by claims that are
+// looked through, or else by the checking game (`checking_models`), a refutation by the rules of acceptance
+// (`checking_refutations`). So whatever the engines do, an answer is right (`specs/Found.antt`).
 //
 // Below stand the engines, the decision game (`ml_product`) with what is made of it (`ml_extract`, `ml_refute`), graphs and the
-// checking game (`ml_graph`), and the checker of refutations (`ml_refute_check`).
+// checking game (`ml_graph`), its cheap check (`ml_witness`), and the checker of refutations (`ml_refute_check`).
 #![tactic(auto)]
 
 mod checking_models;

@@ -32,7 +32,7 @@ impl SolvedGame {
     ghost use Rattle.std.specs.Prelude.{◌≡◌, ◌<◌, length};
     ghost use Rattle.ml_parity.specs.Solution.{winner_at};
 
-    /// Who wins the first position, as the solution says: Even where the graph has a model, Odd where it has none.
+    /// Who wins the first position, as the solution says.
     ///
     /// The solution says something of the first position, as that of a decision game does.
     ///
@@ -83,7 +83,7 @@ fn solution_of(alloc: Global, arena: &Arena) -> Result<Solution, NoMemory>
     solve(alloc, &game)
 }
 
-/// What a solved game shows: a model of the graph where Even wins the first position, a refutation where Odd does.
+/// What a solved game shows: a model of the graph, or a refutation of it.
 ///
 /// The graph has at most 4,096 nodes, and the game is its decision game.
 ///

@@ -1,0 +1,2 @@
+-- claims with ranks, and when they are kept
+pub mod Claims
