@@ -17,12 +17,15 @@ use Rattle.ml_model_check.specs.declared.checked.Checked.{Checked}
 use Rattle.ml_model_check.specs.declared.checked.Checked.TheVariants as checked
 use Rattle.ml_refute_check.specs.declared.verdict.Verdict.{Verdict}
 use Rattle.ml_refute_check.specs.declared.verdict.Verdict.TheVariants as verdict
+use Rattle.ml_pgsolver.specs.declared.finding.Finding.{Finding}
+use Rattle.ml_pgsolver.specs.declared.finding.Finding.TheVariants as finding
+use Rattle.ml_driver.specs.CheckedGames.{IsGameChecked, finding_said, if_found, if_unread}
 use Rattle.ml_driver.specs.Decision.{IsAnswered, if_open, if_refused, if_refuted, if_satisfied}
 use Rattle.ml_driver.specs.Tasks.{IsTaskAnswered}
 use Rattle.ml_driver.specs.declared.question.Question.{Question}
 use Rattle.ml_decide.specs.declared.way.Way.TheVariants.{WholeGame, Search}
 use Rattle.ml_driver.specs.declared.command.Command.{Command}
-use Rattle.ml_driver.specs.declared.command.Command.TheVariants.{Decide, Valid, Find, Prove, CheckModel, CheckRefutation, Migrate, Quotient, SolveGame, Determinise, Realize, Gen, Bench}
+use Rattle.ml_driver.specs.declared.command.Command.TheVariants.{Decide, Valid, Find, Prove, CheckModel, CheckRefutation, Migrate, Quotient, SolveGame, CheckGame, Determinise, Realize, Gen, Bench}
 use Rattle.ml_driver.specs.declared.status.Status.{Status}
 use Rattle.ml_driver.specs.declared.status.Status.TheVariants.{Yes, No, Undecided, Text, ReadFault, WriteFault, NoMemory}
 use Rattle.ml_decide.specs.Measures.{answer_of}
@@ -69,6 +72,14 @@ calm_task n text Undecided out x = omega arith
 calm_task n text Text out x = omega arith
 calm_task n text _ out x = absurd x.is_so
 
+calm_finding : (f : Finding) (s : Status) → s ≡ (finding_said f).0 → code_of s ≤ 4
+calm_finding finding.Accepted s is = omega (arith, ap code_of is)
+calm_finding (finding.Rejected id rule) s is = omega (arith, ap code_of is)
+
+calm_game : (text : List ℕ) (s : Status) (out : List ℕ) → IsGameChecked text s out → code_of s ≤ 4
+calm_game text s out (if_found f is said) = calm_finding f s said.0
+calm_game text s out (if_unread e is text_is line) = omega (arith, ap code_of text_is)
+
 -- what is answered is never a fault or want of memory
 calm_answer : (c : Command) (text : List ℕ) (s : Status) (out : List ℕ) → IsAnswer c text s out → code_of s ≤ 4
 calm_answer (Decide l n) text s out x = calm_answered (asked false WholeGame l n) text s out x
@@ -77,6 +88,7 @@ calm_answer (Find l n) text s out x = calm_answered (asked false Search l n) tex
 calm_answer (Prove l n) text s out x = calm_answered (asked true Search l n) text s out x
 calm_answer CheckModel text s out x = calm_check x.finding s x.is_said.0
 calm_answer CheckRefutation text s out x = calm_verdict x.finding s x.is_said.0
+calm_answer CheckGame text s out x = calm_game text s out x
 calm_answer (Realize n) text s out x = calm_task n text s out x
 calm_answer (Bench f n) text s out x = calm_status (answer_of x.finding) s x.status_is
 calm_answer c text Yes out x = omega arith

@@ -32,7 +32,7 @@ use Rattle.ml_driver.specs.declared.status.Status.TheVariants.{Yes, Text}
 -- ---- one status
 
 -- want of memory has no line
-told_cause : (e : GameTextRefusal) (out : List ℕ) → Some out ≡ game_refusal_line e → e ≢ cause.NoMemory
+pub told_cause : (e : GameTextRefusal) (out : List ℕ) → Some out ≡ game_refusal_line e → e ≢ cause.NoMemory
 told_cause e out line is = let none : Some out ≡ None = line ∙ ap game_refusal_line is in absurd (cc)
 
 read_or_refused : (e : Engine) (text out more : List ℕ) → IsSolved e text out → IsRefusedGame text more → ⊥
@@ -54,7 +54,7 @@ one_solved e text _ t out more x y = absurd x
 -- ---- some status
 
 -- the line of a refusal that isn't want of memory
-game_line : (e : GameTextRefusal) → e ≢ cause.NoMemory → (out : List ℕ) × (Some out ≡ game_refusal_line e)
+pub game_line : (e : GameTextRefusal) → e ≢ cause.NoMemory → (out : List ℕ) × (Some out ≡ game_refusal_line e)
 game_line (cause.Syntax at) told = (_, refl)
 game_line (cause.Repeated at) told = (_, refl)
 game_line (cause.Unknown at) told = (_, refl)

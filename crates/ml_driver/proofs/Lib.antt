@@ -8,6 +8,8 @@ pub mod Answered
 pub mod FoundWords
 -- what is due for `solve-game`
 pub mod GameAnswers
+-- what is due for `check-game`
+pub mod CheckedGameAnswers
 -- what is due for `determinise`
 pub mod AutomatonAnswers
 -- what is due for `realize`

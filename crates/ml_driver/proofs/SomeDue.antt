@@ -23,12 +23,13 @@ use Rattle.ml_decide.specs.Measures.{answer_of}
 use Rattle.ml_driver.specs.Bench.{bench_text, gen_text, occurrences_of, status_of}
 use Rattle.ml_driver.proofs.AutomatonAnswers.{on_automaton}
 use Rattle.ml_driver.proofs.FamilyProblems.{family_problem}
+use Rattle.ml_driver.proofs.CheckedGameAnswers.{on_checked_game}
 use Rattle.ml_driver.proofs.GameAnswers.{on_game}
 use Rattle.ml_decide.proofs.Measures.{some_finding}
 use Rattle.ml_decide.specs.declared.way.Way.TheVariants.{WholeGame, Search}
 use Rattle.ml_driver.proofs.QuotientAnswers.{on_structure}
 use Rattle.ml_driver.proofs.TaskAnswers.{on_task}
-use Rattle.ml_driver.specs.declared.command.Command.TheVariants.{Decide, Valid, Find, Prove, CheckModel, CheckRefutation, Migrate, Quotient, SolveGame, Determinise, Realize, Gen, Bench}
+use Rattle.ml_driver.specs.declared.command.Command.TheVariants.{Decide, Valid, Find, Prove, CheckModel, CheckRefutation, Migrate, Quotient, SolveGame, CheckGame, Determinise, Realize, Gen, Bench}
 use Rattle.ml_driver.specs.declared.status.Status.TheVariants.{Yes, Text}
 use Rattle.ml_driver.specs.Statuses.{model_said, refused_document, refutation_said, words_refused}
 use Rattle.ml_driver.specs.Run.{asked}
@@ -117,6 +118,7 @@ answered CheckRefutation text small = on_refutation text
 answered Migrate text small = to_migrate text
 answered Quotient text small = on_structure text
 answered (SolveGame e) text small = on_game e text
+answered CheckGame text small = on_checked_game text
 answered (Determinise n) text small = on_automaton n text
 answered (Realize n) text small = on_task n text
 answered (Gen f n) text small = (Yes, (gen_text f n, refl))

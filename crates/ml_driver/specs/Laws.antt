@@ -14,6 +14,10 @@
 --   OneMeasure       == one output is due at most for `gen` and `bench`
 --   SameWinners      == both engines of `solve-game` name the same winners
 --   OneSolutionDue   == one status and one output are due at most for `solve-game measures`
+--   OneCheckDue      == one status is due at most for `check-game`, with one output, but for the vertex that is named with the
+--                       fourth rule
+--   SolutionsAreAccepted == what is due for `solve-game`, by either engine, put behind the text of the game, is accepted by
+--                       `check-game`, where both together are no longer than the texts that it reads
 --   OneQuotientDue   == one status and one output are due at most for `quotient`
 --   QuotientsAreRead == what is written for `quotient` is read as a document of the same problem, with the quotient
 --   WrittenHoldsTheSame == where its logic speaks of the structure, the problem holds at the start that is written exactly
@@ -28,17 +32,19 @@
 --   DecideIsChecked, ValidIsChecked, FindIsChecked, ProveIsChecked == where they are no longer than documents that are read,
 --                       `check-model` answers `holds` of one with a structure, and `check-refutation` answers `accepted` of
 --                       one with a refutation
-use Rattle.std.specs.Prelude.{ℕ, ◌≡◌, ◌≢◌, ◌<◌, ◌^◌, ◌⊎◌, ◌↔◌, Bool, true, false, List, [], ◌∷◌, Option, Some, codes, if◌then◌else◌}
+use Rattle.std.specs.Prelude.{ℕ, ◌≡◌, ◌≢◌, ◌<◌, ◌^◌, ◌⊎◌, ◌↔◌, Bool, true, false, List, [], ◌∷◌, ◌++◌, Option, Some, codes, if◌then◌else◌}
 use Rattle.ml_buchi.specs.Deterministic.{IsValuationWord}
 use Rattle.ml_buchi.specs.Valuations.{Leads}
 use Rattle.ml_determinise.specs.Numbering.{automaton_of}
 use Rattle.ml_gen.specs.FamilyRanges.{is_in_range}
 use Rattle.ml_gen.specs.declared.family.Family.{Family}
-use Rattle.ml_driver.specs.declared.command.Command.TheVariants.{Decide, Valid, Find, Prove, CheckModel, CheckRefutation, Quotient, SolveGame, Determinise, Gen, Bench}
+use Rattle.ml_driver.specs.declared.command.Command.TheVariants.{Decide, Valid, Find, Prove, CheckModel, CheckRefutation, Quotient, SolveGame, CheckGame, Determinise, Gen, Bench}
 use Rattle.ml_driver.specs.declared.command.Command.{Command}
 use Rattle.ml_bisim.specs.Quotient.{class_of}
 use Rattle.ml_model_check.specs.Checked.{IsCheckedAs, IsDocument}
 use Rattle.ml_model_check.specs.declared.checked.Checked.TheVariants.{Holds}
+use Rattle.ml_game_check.specs.declared.verdict.Rule.TheVariants.{NoBadCycle}
+use Rattle.ml_pgsolver.specs.declared.finding.Finding.TheVariants.{Rejected}
 use Rattle.ml_front.specs.Logics.{logic_of}
 use Rattle.ml_front.specs.Problems.{HoldsAt, IsAdmitted, IsSatisfiable}
 use Rattle.ml_front.specs.declared.logic.Logic.{Logic}
@@ -48,6 +54,7 @@ use Rattle.ml_parity.specs.Game.{size}
 use Rattle.ml_parity.specs.Solution.{winner_at}
 use Rattle.ml_trace.specs.WordAutomata.{IsAcceptedFrom, IsDetAcceptedFrom, IsWordLasso, WordLasso}
 use Rattle.ml_driver.specs.Automata.{IsWrittenFor, StandsForOne}
+use Rattle.ml_driver.specs.CheckedGames.{finding_said}
 use Rattle.ml_driver.specs.Games.{IsSolved}
 use Rattle.ml_driver.specs.declared.engine.Engine.{Engine}
 use Rattle.ml_driver.specs.declared.engine.Engine.TheVariants.{Measures}
@@ -58,7 +65,7 @@ use Rattle.ml_driver.specs.Decision.{IsAnswered, IsProblem, Refuted, Satisfied}
 use Rattle.ml_driver.specs.declared.question.Question.{Question}
 use Rattle.ml_driver.specs.declared.status.Status.{Status}
 use Rattle.ml_driver.specs.Quotients.{IsReduced}
-use Rattle.ml_driver.specs.Run.{IsDue, IsWhole}
+use Rattle.ml_driver.specs.Run.{IsDue, IsWhole, IsWithin}
 use Rattle.ml_driver.specs.Words.{command_of}
 use Rattle.ml_lines.specs.Lines.{Word, line_text}
 
@@ -118,7 +125,10 @@ OneMeasure = (f : Family) (n : ℕ) (text more : List ℕ) (s t : Status) (out o
 pub data IsExact (q : Question) (p : Problem) (s : Status) : Type 0 where
   open_at : (c : Cause) → StaysOpen q.limit p c → s ≡ Undecided → IsExact q p s
   satisfiable_at : IsClosed q.way q.limit p → IsSatisfiable p → s ≡ (if q.negated then No else Yes) → IsExact q p s
-  unsatisfiable_at : IsClosed q.way q.limit p → ¬ (IsSatisfiable p) → s ≡ (if q.negated then Yes else No) → IsExact q p s
+  unsatisfiable_at : IsClosed q.way q.limit p
+      → ¬ (IsSatisfiable p)
+      → s ≡ (if q.negated then Yes else No)
+      → IsExact q p s
 
 abbrev pub AnswersAreExact : Type 0
 AnswersAreExact = (q : Question) (text : List ℕ) (p : Problem) (s : Status) (out : List ℕ)
@@ -168,6 +178,24 @@ OneSolutionDue = (text : List ℕ) (s t : Status) (out more : List ℕ)
     → IsDue (Some (SolveGame Measures)) text s out
     → IsDue (Some (SolveGame Measures)) text t more
     → (s ≡ t) × (out ≡ more)
+
+-- it says of some vertex that its entry breaks the fourth rule
+abbrev pub NamesFour : List ℕ → Type 0
+NamesFour out = (id : ℕ) × (out ≡ line_text (finding_said (Rejected id NoBadCycle)).1)
+
+abbrev pub OneCheckDue : Type 0
+OneCheckDue = (text : List ℕ) (s t : Status) (out more : List ℕ)
+    → IsDue (Some CheckGame) text s out
+    → IsDue (Some CheckGame) text t more
+    → (s ≡ t) × ((out ≡ more) ⊎ (NamesFour out × NamesFour more))
+
+abbrev pub IsFoundRight : List ℕ → Type 0
+IsFoundRight text = IsDue (Some CheckGame) text Yes (line_text (codes "accepted" ∷ []))
+
+abbrev pub SolutionsAreAccepted : Type 0
+SolutionsAreAccepted = (e : Engine) (text out : List ℕ) → IsDue (Some (SolveGame e)) text Yes out
+    → IsWithin CheckGame (text ++ out)
+    → IsFoundRight (text ++ out)
 
 abbrev pub OneQuotientDue : Type 0
 OneQuotientDue = (text : List ℕ) (s t : Status) (out more : List ℕ)

@@ -10,6 +10,8 @@ pub mod Statuses
 pub mod Quotients
 -- parity games that are solved
 pub mod Games
+-- solutions of parity games that are checked
+pub mod CheckedGames
 -- automata that are made deterministic
 pub mod Automata
 -- tasks that are realized

@@ -35,7 +35,7 @@ use Rattle.ml_refute_check.specs.Documents.{HoldsNowhere, IsMigrated, IsVerdict}
 use Rattle.ml_refute_check.specs.declared.verdict.Verdict.{Verdict}
 use Rattle.ml_refute_check.specs.declared.verdict.Verdict.TheVariants as verdict
 use Rattle.ml_driver.specs.declared.command.Command.{Command}
-use Rattle.ml_driver.specs.declared.command.Command.TheVariants.{Decide, Valid, Find, Prove, CheckModel, CheckRefutation, Migrate, Quotient, SolveGame, Determinise, Realize, Gen, Bench}
+use Rattle.ml_driver.specs.declared.command.Command.TheVariants.{Decide, Valid, Find, Prove, CheckModel, CheckRefutation, Migrate, Quotient, SolveGame, CheckGame, Determinise, Realize, Gen, Bench}
 use Rattle.ml_driver.specs.declared.command.TheConstants.{LONGEST_DOCUMENT}
 use Rattle.ml_driver.specs.declared.question.Question.{Question}
 use Rattle.ml_decide.specs.declared.way.Way.{Way}
@@ -44,6 +44,7 @@ use Rattle.ml_driver.specs.declared.status.Status.{Status}
 use Rattle.ml_driver.specs.declared.status.Status.TheVariants.{Yes, Undecided, Text, ReadFault, WriteFault, NoMemory}
 use Rattle.ml_driver.specs.Automata.{IsRefusedAutomaton, IsWrittenFor, PassesLimit, StandsForOne}
 use Rattle.ml_driver.specs.Bench.{IsBenched, gen_text}
+use Rattle.ml_driver.specs.CheckedGames.{IsGameChecked}
 use Rattle.ml_driver.specs.Decision.{IsAnswered}
 use Rattle.ml_driver.specs.Games.{IsSolved, IsRefusedGame}
 use Rattle.ml_driver.specs.Quotients.{IsReduced}
@@ -79,6 +80,7 @@ IsAnswer Quotient text Yes out = IsReduced text out
 IsAnswer Quotient text Text out = IsUnreadable (λ fault. IsCheckedAs text (checked.Unreadable fault)) out
 IsAnswer (SolveGame e) text Yes out = IsSolved e text out
 IsAnswer (SolveGame e) text Text out = IsRefusedGame text out
+IsAnswer CheckGame text s out = IsGameChecked text s out
 IsAnswer (Determinise n) text Yes out = StandsForOne text (λ a. IsWrittenFor a n out)
 IsAnswer (Determinise n) text Undecided out = StandsForOne text (λ a. PassesLimit a n out)
 IsAnswer (Determinise n) text Text out = IsRefusedAutomaton text out

@@ -28,12 +28,12 @@ use Rattle.ml_front.specs.declared.problem.TheConstants.{MOST_NODES}
 use Rattle.ml_hoa.specs.declared.limits.TheConstants.{LONGEST_AUTOMATON_TEXT}
 use Rattle.ml_model_check.specs.declared.checked.Checked.{Checked}
 use Rattle.ml_model_check.specs.declared.checked.Checked.TheVariants.{Holds, Fails, Unreadable, NotTotal, NotAWord, ClosureTooLarge}
-use Rattle.ml_pgsolver.specs.declared.limits.TheConstants.{LONGEST_GAME_TEXT}
+use Rattle.ml_pgsolver.specs.declared.limits.TheConstants.{LONGEST_CHECKED_TEXT, LONGEST_GAME_TEXT}
 use Rattle.ml_refute_check.specs.declared.verdict.Verdict.{Verdict}
 use Rattle.ml_refute_check.specs.declared.verdict.Verdict.TheVariants as verdict
 use Rattle.ml_task.specs.declared.limits.TheConstants.{LONGEST_TASK_TEXT}
 use Rattle.ml_driver.specs.declared.command.Command.{Command}
-use Rattle.ml_driver.specs.declared.command.Command.TheVariants.{CheckModel, CheckRefutation, Migrate, Quotient, SolveGame, Determinise, Realize, Gen, Bench}
+use Rattle.ml_driver.specs.declared.command.Command.TheVariants.{CheckModel, CheckRefutation, Migrate, Quotient, SolveGame, CheckGame, Determinise, Realize, Gen, Bench}
 use Rattle.ml_driver.specs.declared.command.TheConstants.{LONGEST_TEXT, LONGEST_DOCUMENT}
 use Rattle.ml_driver.specs.declared.status.Status.{Status}
 use Rattle.ml_driver.specs.declared.status.Status.TheVariants.{Yes, No, Undecided, Words, Text}
@@ -44,6 +44,7 @@ longest_input CheckRefutation = Some LONGEST_DOCUMENT
 longest_input Migrate = Some LONGEST_DOCUMENT
 longest_input Quotient = Some LONGEST_DOCUMENT
 longest_input (SolveGame e) = Some LONGEST_GAME_TEXT
+longest_input CheckGame = Some LONGEST_CHECKED_TEXT
 longest_input (Determinise n) = Some LONGEST_AUTOMATON_TEXT
 longest_input (Realize n) = Some LONGEST_TASK_TEXT
 longest_input (Gen f n) = None

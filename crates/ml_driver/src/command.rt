@@ -20,7 +20,7 @@ use ml_base::NoMemory;
 use ml_front::Logic;
 use ml_gen::Family;
 use ml_hoa::LONGEST_AUTOMATON_TEXT;
-use ml_pgsolver::LONGEST_GAME_TEXT;
+use ml_pgsolver::{LONGEST_CHECKED_TEXT, LONGEST_GAME_TEXT};
 use ml_task::LONGEST_TASK_TEXT;
 use std::alloc::{AllocError, Global};
 
@@ -45,6 +45,8 @@ pub enum Command {
     Quotient,
     /// `solve-game ENGINE`: who wins each vertex of the parity game on the input, and by which moves?
     SolveGame { engine: Engine },
+    /// `check-game`: is the solution behind the parity game on the input right?
+    CheckGame,
     /// `determinise`: the deterministic automaton of the Büchi automaton on the input, which may have as many states as the
     /// limit.
     Determinise { limit: u32 },
@@ -88,6 +90,7 @@ impl Command {
             Command::CheckModel | Command::CheckRefutation | Command::Migrate | Command::Quotient =>
                 Some(LONGEST_DOCUMENT),
             Command::SolveGame { .. } => Some(LONGEST_GAME_TEXT as u64),
+            Command::CheckGame => Some(LONGEST_CHECKED_TEXT as u64),
             Command::Determinise { .. } => Some(LONGEST_AUTOMATON_TEXT as u64),
             Command::Realize { .. } => Some(LONGEST_TASK_TEXT as u64),
             Command::Gen { .. } | Command::Bench { .. } => None,
@@ -303,6 +306,8 @@ fn bare_by(command: &str) -> Option<Command>
         Some(Command::Migrate)
     } else if command == "quotient" {
         Some(Command::Quotient)
+    } else if command == "check-game" {
+        Some(Command::CheckGame)
     } else {
         None
     }

@@ -4,8 +4,8 @@ ghost use Rattle.ml_realize.specs.TaskGame.{most_nodes};
 ghost use Rattle.ml_task.specs.declared.limits.TheConstants.{LONGEST_TASK_TEXT};
 ghost use Rattle.ml_driver.specs.declared.command.TheConstants.{DEFAULT_LIMIT, GREATEST_LIMIT, LONGEST_DOCUMENT, LONGEST_NUMBER, LONGEST_TEXT};
 ghost use Rattle.ml_driver.specs.Laws.{AnswersAreExact, DecideIsChecked, DecidedAreChecked, FindIsChecked, FindsAsDecided, OneAutomatonDue};
-ghost use Rattle.ml_driver.specs.Laws.{OneAutomatonWritten, OneDue, OneMeasure, OneQuotientDue, OneSolutionDue, OneUnlessOpen, ProveIsChecked, ProvesAsDecided};
-ghost use Rattle.ml_driver.specs.Laws.{QuotientsAreCheckedAlike, QuotientsAreRead, RefutedAreAccepted, SameWinners, SomeDue, SomeDueForWords};
+ghost use Rattle.ml_driver.specs.Laws.{OneAutomatonWritten, OneCheckDue, OneDue, OneMeasure, OneQuotientDue, OneSolutionDue, OneUnlessOpen, ProveIsChecked, ProvesAsDecided};
+ghost use Rattle.ml_driver.specs.Laws.{QuotientsAreCheckedAlike, QuotientsAreRead, RefutedAreAccepted, SameWinners, SolutionsAreAccepted, SomeDue, SomeDueForWords};
 ghost use Rattle.ml_driver.specs.Laws.{ValidIsChecked, WrittenAcceptsTheSame, WrittenHoldsTheSame};
 
 /// For each command but `find` and `prove`, for words that are none, and for each input exactly one status is due: some
@@ -69,6 +69,17 @@ pub fn same_winners()
 /// measures, of which each player has one.
 pub fn one_solution()
     ensures { OneSolutionDue }
+{}
+
+/// For `check-game` one status is due, with one output, but for the vertex that is named with the fourth rule.
+pub fn one_check_of_a_game()
+    ensures { OneCheckDue }
+{}
+
+/// The solution that is due for `solve-game`, by either engine, put behind the text of the game, is one that `check-game`
+/// accepts, where both together are no longer than the texts that it reads.
+pub fn solutions_are_accepted()
+    ensures { SolutionsAreAccepted }
 {}
 
 /// For `quotient` one status is due, with one output. What is written is a document of the same problem with the quotient of

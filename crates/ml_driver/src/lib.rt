@@ -4,8 +4,9 @@
 // and only then writes. Its contract (`specs/Run.antt`) says which status and output are due, and what each status
 // leaves behind. What the answers of `decide` and `valid` mean, in any of the five logics, stands in
 // `specs/Decision.antt` (they are decisions of `ml_decide`, which knows nothing of texts), what `quotient` answers in
-// `specs/Quotients.antt`, what `solve-game` answers in `specs/Games.antt`, what `determinise` answers in
-// `specs/Automata.antt`, and what `realize` answers in `specs/Tasks.antt`. `Status::code` is the number with which the program ends. `laws` says that some status is due for
+// `specs/Quotients.antt`, what `solve-game` answers in `specs/Games.antt`, what `check-game` answers in
+// `specs/CheckedGames.antt`, what `determinise` answers in `specs/Automata.antt`, and what `realize` answers in
+// `specs/Tasks.antt`. `Status::code` is the number with which the program ends. `laws` says that some status is due for
 // all words and each input, and one alone but for `find` and `prove`; that answers are exact; and that what is written is
 // found to be right.
 //
@@ -14,6 +15,7 @@
 
 mod bench;
 mod check;
+mod checking_games;
 mod command;
 mod decide;
 mod determinising;

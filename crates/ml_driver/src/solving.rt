@@ -43,7 +43,7 @@ fn solution_by(alloc: Global, engine: Engine, game: &Game) -> Result<Solution, N
 }
 
 // want of memory is no refusal of a text
-fn refusal_line(alloc: Global, refusal: GameTextRefusal) -> Result<Vec<u8>, NoMemory>
+pub(crate) fn refusal_line(alloc: Global, refusal: GameTextRefusal) -> Result<Vec<u8>, NoMemory>
     ensures { IfOk result (λ line. Some line.items ≡ games.game_refusal_line refusal) }
 {
     match refusal {

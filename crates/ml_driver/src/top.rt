@@ -8,6 +8,7 @@ ghost use Rattle.ml_driver.specs.private.UsualNumbers.{HasUsualNumbers};
 
 use crate::bench::{generate, measure};
 use crate::check::{check_model, check_refutation, migrate};
+use crate::checking_games::check_game;
 use crate::decide::decide;
 use crate::determinising::determinise_text;
 use crate::input::input_of;
@@ -30,14 +31,15 @@ use std::alloc::Global;
 /// memory:
 /// - `Yes` and `No` as the command says, in each of the logics: of `decide` and `find` with a structure and a state at
 ///   which the formula of the text holds, and with a refutation that is accepted, where it holds nowhere; of `valid` and
-///   `prove` where its negation holds nowhere, and where it holds at some state; of `check-model` where the problem of the document holds at
-///   the start of its structure, and where it doesn't; of `check-refutation` where the document's refutation is accepted,
+///   `prove` where its negation holds nowhere, and where it holds at some state; of `check-model` where the problem of the
+///   document holds at the start of its structure, and where it doesn't; of `check-refutation` where the document's
+///   refutation is accepted, and where it isn't; of `check-game` where the solution behind the game of the text is right,
 ///   and where it isn't; of `realize` with a machine that realizes the task of the text, and with an environment that
-///   defeats it; of `bench` where the family's formula is satisfiable, and where it isn't, with its occurrences,
-///   the nodes of its graph and the positions of its game counted; `Yes` of `migrate` with the document that is written
-///   of the same refutation, of `quotient` with the document of the same problem that has the quotient of the structure and
-///   the class of the start, of `solve-game` with the text of a solution, of `determinise` with the text of the
-///   deterministic automaton, and of `gen` with the text of the family's formula;
+///   defeats it; of `bench` where the family's formula is satisfiable, and where it isn't, with its occurrences, the nodes
+///   of its graph and the positions of its game counted; `Yes` of `migrate` with the document that is written of the same
+///   refutation, of `quotient` with the document of the same problem that has the quotient of the structure and the class
+///   of the start, of `solve-game` with the text of a solution, of `determinise` with the text of the deterministic
+///   automaton, and of `gen` with the text of the family's formula;
 /// - `Undecided` of `decide`, `valid` and `bench` exactly where the closure of the problem has too many nodes, or the
 ///   decision game passes the limit; of `find` and `prove` only there; of `check-model` exactly where the closure has too
 ///   many nodes, on a structure of which the logic speaks; of `determinise` exactly where the deterministic automaton has
@@ -110,6 +112,7 @@ fn outcome(alloc: Global, command: Command, text: &[u8]) -> Result<Output, NoMem
         Command::Migrate => migrate(alloc, text),
         Command::Quotient => quotient_document(alloc, text),
         Command::SolveGame { engine } => solve_game(alloc, engine, text),
+        Command::CheckGame => check_game(alloc, text),
         Command::Determinise { limit } => determinise_text(alloc, limit, text),
         Command::Realize { limit } => realize_text(alloc, limit, text),
         Command::Gen { family, n } => generate(alloc, family, n),

@@ -33,7 +33,7 @@ use std::fs;
 use std::io::Print;
 use std::rt::Files;
 
-const FILES: [&str; 35] = [
+const FILES: [&str; 37] = [
     "examples",
     "specifications",
     "patterns",
@@ -67,6 +67,8 @@ const FILES: [&str; 35] = [
     "random_automata",
     "random_games",
     "games_refused",
+    "checked_games",
+    "random_checked_games",
     "random_quotients",
     "small_tasks",
 ];

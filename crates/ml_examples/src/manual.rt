@@ -9,7 +9,7 @@ use std::fs;
 use std::io::Print;
 use std::rt::Files;
 
-const COMMANDS: [&str; 13] = [
+const COMMANDS: [&str; 14] = [
     "decide",
     "valid",
     "find",
@@ -19,6 +19,7 @@ const COMMANDS: [&str; 13] = [
     "migrate",
     "quotient",
     "solve-game",
+    "check-game",
     "determinise",
     "realize",
     "gen",
