@@ -12,6 +12,8 @@ pub mod Quotients
 pub mod Games
 -- automata that are made deterministic
 pub mod Automata
+-- automata of formulas
+pub mod Translations
 -- tasks that are realized
 pub mod Tasks
 -- what a problem is decided to be
