@@ -87,9 +87,9 @@ module _ (a b : Automaton) (g : Guide) (guided : Guides g a.edges) (trimmed : Ar
               accepting_is = refl;
             },
             λ is.
-            ⊎_elim (λ (set : flag_of g p e.to e.accepting ≡ true). inl (covers.accepts set))
-            (λ (more : order p < order e.to). inr (subst (λ n. order p < order n) lead.to_is more))
-            (flag_kept g p e.to e.accepting (lead.accepting_is ∙ is)),
+                ⊎_elim (λ (set : flag_of g p e.to e.accepting ≡ true). inl (covers.accepts set))
+                (λ (more : order p < order e.to). inr (subst (λ n. order p < order n) lead.to_is more))
+                (flag_kept g p e.to e.accepting (lead.accepting_is ∙ is)),
           )
 
   abbrev IsFull : ℕ → Type 0
@@ -124,10 +124,10 @@ module _ (a b : Automaton) (g : Guide) (guided : Guides g a.edges) (trimmed : Ar
           accepting_is = refl;
         },
         λ is.
-        ⊎_elim (λ (set : e.accepting ≡ true). inl set)
-        (λ (other : (order p < order e.to) ⊎ IsFull p).
-        inr (⊎_elim (λ (more : order p < order e.to). inl (subst (λ n. order p < order n) to more)) (λ (full : IsFull p). inr full) other))
-        (flag_from g p e.to e.accepting (sym (ap (λ (x : Edge). x.accepting) same) ∙ lead.accepting_is ∙ is)),
+            ⊎_elim (λ (set : e.accepting ≡ true). inl set)
+            (λ (other : (order p < order e.to) ⊎ IsFull p).
+            inr (⊎_elim (λ (more : order p < order e.to). inl (subst (λ n. order p < order n) to more)) (λ (full : IsFull p). inr full) other))
+            (flag_from g p e.to e.accepting (sym (ap (λ (x : Edge). x.accepting) same) ∙ lead.accepting_is ∙ is)),
       )
 
   pub same_accepted : AcceptSame a b

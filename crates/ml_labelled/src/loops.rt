@@ -155,11 +155,7 @@ fn number_all(
 }
 
 // the numbers of the states, in the order in which a search through the turned arrows begins at them
-fn numbered(
-    alloc: Global,
-    back: &[Vec<usize>],
-    left: &[usize],
-) -> Result<Loops, NoMemory> {
+fn numbered(alloc: Global, back: &[Vec<usize>], left: &[usize]) -> Result<Loops, NoMemory> {
     let mut marks = vec![in alloc; false; back.len()]?;
     let mut loops = Loops {
         numbers: vec![in alloc; 0usize; back.len()]?,

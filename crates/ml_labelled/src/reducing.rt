@@ -19,10 +19,7 @@ fn size_of(automaton: &LabelledAutomaton) -> usize {
 }
 
 // edges are left out and flags changed, states with the same edges are one, and what isn't reached goes
-fn reduced_once(
-    alloc: Global,
-    automaton: LabelledAutomaton,
-) -> Result<LabelledAutomaton, NoMemory>
+fn reduced_once(alloc: Global, automaton: LabelledAutomaton) -> Result<LabelledAutomaton, NoMemory>
     ensures labelled { IfOk result IsLabelled }
     ensures same { IfOk result (λ b. AcceptSame automaton b) }
     ensures props { IfOk result (λ b. b.props ≡ automaton.props) }

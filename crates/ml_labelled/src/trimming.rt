@@ -97,12 +97,7 @@ fn is_covered(kept: &[CubeEdge], edge: &CubeEdge) -> bool
 }
 
 // one edge of p more, with its flag, unless it leads to a dead state or another one covers it
-fn keep(
-    guide: &Guide,
-    p: usize,
-    kept: &mut Vec<CubeEdge>,
-    edge: CubeEdge,
-) -> Result<(), NoMemory>
+fn keep(guide: &Guide, p: usize, kept: &mut Vec<CubeEdge>, edge: CubeEdge) -> Result<(), NoMemory>
     ensures { OnOk result (IsKept guide.now p (edge_of edge) (map edge_of kept.old.items) (map edge_of kept.new.items)) }
 {
     if guide.is_dead(edge.to as usize) {
@@ -143,12 +138,7 @@ fn keep_all(
 }
 
 // the edges of p, trimmed
-fn trim_row(
-    alloc: Global,
-    guide: &Guide,
-    p: usize,
-    row: &mut Vec<CubeEdge>,
-) -> Result<(), NoMemory>
+fn trim_row(alloc: Global, guide: &Guide, p: usize, row: &mut Vec<CubeEdge>) -> Result<(), NoMemory>
     ensures { OnOk result (IsTrimmed guide.now p (map edge_of row.old.items) (map edge_of row.new.items)) }
 {
     sort(guide, p, row)?;
@@ -159,11 +149,7 @@ fn trim_row(
 }
 
 // the edges of all states, trimmed
-fn trim_all(
-    alloc: Global,
-    guide: &Guide,
-    rows: &mut Vec<Vec<CubeEdge>>,
-) -> Result<(), NoMemory>
+fn trim_all(alloc: Global, guide: &Guide, rows: &mut Vec<Vec<CubeEdge>>) -> Result<(), NoMemory>
     ensures { OnOk result (AreTrimmed guide.now (rows_of rows.old.items) (rows_of rows.new.items)) }
 {
     for p in 0..rows.len() {
