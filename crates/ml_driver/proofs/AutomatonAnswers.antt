@@ -42,7 +42,7 @@ written_alike n m text out more x y =
     let d = one_deterministic x.automaton x.is_so.deterministic y.is_so.deterministic x.is_so.is_determinised other in
     x.is_so.is_written ∙ ap automaton_text d ∙ sym y.is_so.is_written
 
-yes_kept : Yes ≢ Text
+pub yes_kept : Yes ≢ Text
 yes_kept is = omega (arith, ap code_of is)
 
 pub one_written : OneAutomatonWritten

@@ -25,7 +25,7 @@ use Rattle.ml_driver.specs.Tasks.{IsTaskAnswered}
 use Rattle.ml_driver.specs.declared.question.Question.{Question}
 use Rattle.ml_decide.specs.declared.way.Way.TheVariants.{WholeGame, Search}
 use Rattle.ml_driver.specs.declared.command.Command.{Command}
-use Rattle.ml_driver.specs.declared.command.Command.TheVariants.{Decide, Valid, Find, Prove, CheckModel, CheckRefutation, Migrate, Quotient, SolveGame, CheckGame, Determinise, Realize, Gen, Bench}
+use Rattle.ml_driver.specs.declared.command.Command.TheVariants.{Decide, Valid, Find, Prove, CheckModel, CheckRefutation, Migrate, Quotient, SolveGame, CheckGame, Determinise, Automaton, Realize, Gen, Bench}
 use Rattle.ml_driver.specs.declared.status.Status.{Status}
 use Rattle.ml_driver.specs.declared.status.Status.TheVariants.{Yes, No, Undecided, Text, ReadFault, WriteFault, NoMemory}
 use Rattle.ml_decide.specs.Measures.{answer_of}
@@ -98,6 +98,7 @@ calm_answer Migrate text _ out x = absurd x
 calm_answer Quotient text _ out x = absurd x
 calm_answer (SolveGame e) text _ out x = absurd x
 calm_answer (Determinise n) text _ out x = absurd x
+calm_answer (Automaton n) text _ out x = absurd x
 calm_answer (Gen f n) text _ out x = absurd x
 
 calm_due : (c : Option Command) (text : List ℕ) (s : Status) (out : List ℕ) → IsDue c text s out → code_of s ≤ 4

@@ -14,7 +14,7 @@ use Rattle.ml_gen.specs.FamilyRanges.{family_named, is_in_range}
 use Rattle.ml_gen.specs.declared.family.Family.{Family}
 use Rattle.ml_front.specs.declared.logic.Logic.{Logic}
 use Rattle.ml_driver.specs.declared.command.Command.{Command}
-use Rattle.ml_driver.specs.declared.command.Command.TheVariants.{Decide, Valid, Find, Prove, CheckModel, CheckRefutation, Migrate, Quotient, SolveGame, CheckGame, Determinise, Realize, Gen, Bench}
+use Rattle.ml_driver.specs.declared.command.Command.TheVariants.{Decide, Valid, Find, Prove, CheckModel, CheckRefutation, Migrate, Quotient, SolveGame, CheckGame, Determinise, Automaton, Realize, Gen, Bench}
 use Rattle.ml_driver.specs.declared.command.TheConstants.{GREATEST_LIMIT, LONGEST_NUMBER}
 use Rattle.ml_driver.specs.declared.engine.Engine.{Engine}
 use Rattle.ml_driver.specs.Games.{engine_named}
@@ -147,17 +147,21 @@ about_fits w subject limit = by_word (bytes_eq w (codes "solve-game"))
 
 alone_fits : (w : Word) (limit : Option Word) → HasFitNumbers (alone w limit)
 alone_fits w limit =
-    by_word (bytes_eq w (codes "determinise")) (bytes_eq w (codes "realize")) limit (limit_named limit)
+    by_word (bytes_eq w (codes "determinise")) (bytes_eq w (codes "realize")) (bytes_eq w (codes "automaton")) limit
+    (limit_named limit)
   where
-    by_word : (t s : Bool) (limit : Option Word) (n : Option ℕ)
+    by_word : (t s r : Bool) (limit : Option Word) (n : Option ℕ)
         → HasFitNumbers (if t then option_map Determinise n
-        else (if s then option_map Realize n else unlimited w limit))
-    by_word true s limit None = tt
-    by_word true s limit (Some n) = tt
-    by_word false true limit None = tt
-    by_word false true limit (Some n) = tt
-    by_word false false None n = bare_fits w
-    by_word false false (Some word) n = tt
+        else (if s then option_map Realize n
+        else (if r then option_map Automaton n else unlimited w limit)))
+    by_word true s r limit None = tt
+    by_word true s r limit (Some n) = tt
+    by_word false true r limit None = tt
+    by_word false true r limit (Some n) = tt
+    by_word false false true limit None = tt
+    by_word false false true limit (Some n) = tt
+    by_word false false false None n = bare_fits w
+    by_word false false false (Some word) n = tt
 
 row_fits : (command subject count limit : Option Word) → HasFitNumbers (row_of command subject count limit)
 row_fits (Some w) (Some subject) None limit = about_fits w subject limit

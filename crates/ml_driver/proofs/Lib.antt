@@ -34,3 +34,5 @@ pub mod FitNumbers
 pub mod FamilyProblems
 -- a search answers what the whole game does
 pub mod Searched
+-- what is due for `automaton`
+pub mod TranslationAnswers

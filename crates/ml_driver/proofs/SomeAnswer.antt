@@ -3,6 +3,7 @@
 -- The text is refused by the parser, or stands for a formula; and each problem has an answer, which is written.
 --
 --   Answer q text   == some status and some output answer the question of the text
+--   told            == what is refused has a line
 --   of_problem      == a problem has one
 --   some_answer     == each text has one
 use Rattle.std.proofs.Common.{◌≡◌, ℕ, ◌<◌, ◌^◌, ◌⊎◌, List, Some, if◌then◌else◌, inl, inr, refl}
@@ -49,7 +50,7 @@ module _ (q : Question) (text : List ℕ) (p : Problem) (is_problem : IsProblem 
 -- ---- texts
 
 -- what is refused for another reason than want of memory has a line
-told : (e : ParseRefusal) → (e ≡ refusal.NoMemory → ⊥) → (out : List ℕ) × (Some out ≡ refusal_line e)
+pub told : (e : ParseRefusal) → (e ≡ refusal.NoMemory → ⊥) → (out : List ℕ) × (Some out ≡ refusal_line e)
 told (refusal.Syntax at) other = (_, refl)
 told (refusal.Unbound at) other = (_, refl)
 told (refusal.NotPositive at) other = (_, refl)

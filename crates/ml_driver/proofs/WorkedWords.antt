@@ -3,7 +3,7 @@ use Rattle.std.proofs.Common.{◌≡◌, [], ◌∷◌, Some, None, refl, codes}
 use Rattle.clap.proofs.OnLiterals.{clap_on_literals}
 use Rattle.ml_front.specs.declared.logic.Logic.TheVariants.{Mu, Pdl, Ctl, Ltl}
 use Rattle.ml_gen.specs.declared.family.Family.TheVariants.{Or, Loop}
-use Rattle.ml_driver.specs.declared.command.Command.TheVariants.{Decide, Valid, CheckModel, Determinise, Realize, Gen, Bench}
+use Rattle.ml_driver.specs.declared.command.Command.TheVariants.{Decide, Valid, CheckModel, Determinise, Automaton, Realize, Gen, Bench}
 use Rattle.ml_driver.specs.Words.{cli, command_of, faults_of, rows_in}
 
 bare : command_of (codes "decide" ∷ codes "mu" ∷ []) ≡ Some (Decide Mu 50000)
@@ -46,6 +46,10 @@ to_determinise_within = refl
 no_state : command_of (codes "determinise" ∷ codes "--limit=0" ∷ []) ≡ None
 unfolding cli faults_of rows_in clap_on_literals
 no_state = refl
+
+to_translate : command_of (codes "automaton" ∷ codes "--limit=6" ∷ []) ≡ Some (Automaton 6)
+unfolding cli faults_of rows_in clap_on_literals
+to_translate = refl
 
 to_realize : command_of (codes "realize" ∷ codes "--limit=3" ∷ []) ≡ Some (Realize 3)
 unfolding cli faults_of rows_in clap_on_literals

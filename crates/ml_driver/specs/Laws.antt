@@ -26,6 +26,8 @@
 --   OneAutomatonDue  == one status and one output are due at most for `determinise`
 --   OneAutomatonWritten == one automaton is written of a text at most, whatever the limit
 --   WrittenAcceptsTheSame == it accepts the words of valuations that the text's automaton accepts
+--   WrittenIsTranslated == what is written for `automaton` stands for an automaton that accepts exactly the words that satisfy
+--                       the formula of the text
 --   IsExact q p s    == the status s says of the problem p what is true of it
 --   AnswersAreExact  == each answer to a question is exact
 --   DecidedAreChecked, RefutedAreAccepted == the documents that answer a question are right, of whatever length
@@ -38,7 +40,7 @@ use Rattle.ml_buchi.specs.Valuations.{Leads}
 use Rattle.ml_determinise.specs.Numbering.{automaton_of}
 use Rattle.ml_gen.specs.FamilyRanges.{is_in_range}
 use Rattle.ml_gen.specs.declared.family.Family.{Family}
-use Rattle.ml_driver.specs.declared.command.Command.TheVariants.{Decide, Valid, Find, Prove, CheckModel, CheckRefutation, Quotient, SolveGame, CheckGame, Determinise, Gen, Bench}
+use Rattle.ml_driver.specs.declared.command.Command.TheVariants.{Decide, Valid, Find, Prove, CheckModel, CheckRefutation, Quotient, SolveGame, CheckGame, Determinise, Automaton, Gen, Bench}
 use Rattle.ml_driver.specs.declared.command.Command.{Command}
 use Rattle.ml_bisim.specs.Quotient.{class_of}
 use Rattle.ml_model_check.specs.Checked.{IsCheckedAs, IsDocument}
@@ -53,6 +55,7 @@ use Rattle.ml_refute_check.specs.Laws.{IsAcceptedDocument}
 use Rattle.ml_parity.specs.Game.{size}
 use Rattle.ml_parity.specs.Solution.{winner_at}
 use Rattle.ml_trace.specs.WordAutomata.{IsAcceptedFrom, IsDetAcceptedFrom, IsWordLasso, WordLasso}
+use Rattle.ml_translate.specs.Output.{TextAccepts}
 use Rattle.ml_driver.specs.Automata.{IsWrittenFor, StandsForOne}
 use Rattle.ml_driver.specs.CheckedGames.{finding_said}
 use Rattle.ml_driver.specs.Games.{IsSolved}
@@ -66,6 +69,7 @@ use Rattle.ml_driver.specs.declared.question.Question.{Question}
 use Rattle.ml_driver.specs.declared.status.Status.{Status}
 use Rattle.ml_driver.specs.Quotients.{IsReduced}
 use Rattle.ml_driver.specs.Run.{IsDue, IsWhole, IsWithin}
+use Rattle.ml_driver.specs.Translations.{StandsForFormula}
 use Rattle.ml_driver.specs.Words.{command_of}
 use Rattle.ml_lines.specs.Lines.{Word, line_text}
 
@@ -98,7 +102,7 @@ FindsAsDecided = AnswersAs Find Decide
 abbrev pub ProvesAsDecided : Type 0
 ProvesAsDecided = AnswersAs Prove Valid
 
--- for `gen`, `determinise` and `realize` a number may be any
+-- for `gen`, `determinise`, `automaton` and `realize` a number may be any
 abbrev pub HasFitNumbers : Option Command → Type 0
 HasFitNumbers (Some (Decide l n)) = n < 2 ^ 32
 HasFitNumbers (Some (Valid l n)) = n < 2 ^ 32
@@ -240,3 +244,8 @@ WrittenAcceptsTheSame = (n : ℕ) (text out : List ℕ) (x : StandsForOne text (
     → IsValuationWord x.automaton w
     → IsAcceptedFrom (Leads x.automaton) x.automaton.start w
     ↔ IsDetAcceptedFrom (automaton_of x.is_so.deterministic.moves) 0 w
+
+abbrev pub WrittenIsTranslated : Type 0
+WrittenIsTranslated = (n : ℕ) (text out : List ℕ)
+    → IsDue (Some (Automaton n)) text Yes out
+    → StandsForFormula text (λ f. TextAccepts f out)

@@ -14,6 +14,8 @@ pub mod Games
 pub mod CheckedGames
 -- automata that are made deterministic
 pub mod Automata
+-- automata of formulas
+pub mod Translations
 -- tasks that are realized
 pub mod Tasks
 -- what a problem is decided to be

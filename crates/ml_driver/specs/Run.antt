@@ -35,7 +35,7 @@ use Rattle.ml_refute_check.specs.Documents.{HoldsNowhere, IsMigrated, IsVerdict}
 use Rattle.ml_refute_check.specs.declared.verdict.Verdict.{Verdict}
 use Rattle.ml_refute_check.specs.declared.verdict.Verdict.TheVariants as verdict
 use Rattle.ml_driver.specs.declared.command.Command.{Command}
-use Rattle.ml_driver.specs.declared.command.Command.TheVariants.{Decide, Valid, Find, Prove, CheckModel, CheckRefutation, Migrate, Quotient, SolveGame, CheckGame, Determinise, Realize, Gen, Bench}
+use Rattle.ml_driver.specs.declared.command.Command.TheVariants.{Decide, Valid, Find, Prove, CheckModel, CheckRefutation, Migrate, Quotient, SolveGame, CheckGame, Determinise, Automaton, Realize, Gen, Bench}
 use Rattle.ml_driver.specs.declared.command.TheConstants.{LONGEST_DOCUMENT}
 use Rattle.ml_driver.specs.declared.question.Question.{Question}
 use Rattle.ml_decide.specs.declared.way.Way.{Way}
@@ -50,6 +50,8 @@ use Rattle.ml_driver.specs.Games.{IsSolved, IsRefusedGame}
 use Rattle.ml_driver.specs.Quotients.{IsReduced}
 use Rattle.ml_driver.specs.Statuses.{IsSaid, IsUnreadable, length_refused, longest_input, model_said, refutation_said, words_refused}
 use Rattle.ml_driver.specs.Tasks.{IsTaskAnswered}
+use Rattle.ml_driver.specs.Translations.{IsRefusedFormula, IsUntranslated, StandsForFormula}
+use Rattle.ml_translate.specs.Output as translation
 
 -- ---- what is answered
 
@@ -84,6 +86,9 @@ IsAnswer CheckGame text s out = IsGameChecked text s out
 IsAnswer (Determinise n) text Yes out = StandsForOne text (λ a. IsWrittenFor a n out)
 IsAnswer (Determinise n) text Undecided out = StandsForOne text (λ a. PassesLimit a n out)
 IsAnswer (Determinise n) text Text out = IsRefusedAutomaton text out
+IsAnswer (Automaton n) text Yes out = StandsForFormula text (λ f. translation.IsWrittenFor f n out)
+IsAnswer (Automaton n) text Undecided out = StandsForFormula text (λ f. IsUntranslated f n out)
+IsAnswer (Automaton n) text Text out = IsRefusedFormula text out
 IsAnswer (Realize n) text s out = IsTaskAnswered n text s out
 IsAnswer (Gen f n) text Yes out = out ≡ gen_text f n
 IsAnswer (Bench f n) text s out = IsBenched f n s out

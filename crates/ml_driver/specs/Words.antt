@@ -17,7 +17,7 @@
 --   Parts              == the words as they are taken apart: three positionals and the option's value
 --   decided_by, solved_by, counted_by, bare_by == the rows of the table with a logic, with an engine, with a family and a
 --                         number, and with none of these and no limit
---   determinised_by limit, realized_by limit == the rows with a limit alone
+--   determinised_by, translated_by, realized_by limit == the rows with a limit alone
 --   unlimited w limit, alone w limit == those of bare_by; these together
 --   row p              == the command whose row the parts p are
 --   if_faultless ks c  == c, where there is no fault
@@ -32,7 +32,7 @@ use Rattle.ml_front.specs.declared.logic.Logic.{Logic}
 use Rattle.ml_gen.specs.FamilyRanges.{family_named, is_in_range}
 use Rattle.ml_gen.specs.declared.family.Family.{Family}
 use Rattle.ml_driver.specs.declared.command.Command.{Command}
-use Rattle.ml_driver.specs.declared.command.Command.TheVariants.{Decide, Valid, Find, Prove, CheckModel, CheckRefutation, Migrate, Quotient, SolveGame, CheckGame, Determinise, Realize, Gen, Bench}
+use Rattle.ml_driver.specs.declared.command.Command.TheVariants.{Decide, Valid, Find, Prove, CheckModel, CheckRefutation, Migrate, Quotient, SolveGame, CheckGame, Determinise, Automaton, Realize, Gen, Bench}
 use Rattle.ml_driver.specs.Games.{engine_named}
 use Rattle.ml_driver.specs.declared.command.TheConstants.{DEFAULT_LIMIT, GREATEST_LIMIT, LONGEST_NUMBER}
 
@@ -116,6 +116,9 @@ bare_by w =
 abbrev pub determinised_by : Option Word → Option Command
 determinised_by limit = option_map Determinise (limit_named limit)
 
+abbrev pub translated_by : Option Word → Option Command
+translated_by limit = option_map Automaton (limit_named limit)
+
 abbrev pub realized_by : Option Word → Option Command
 realized_by limit = option_map Realize (limit_named limit)
 
@@ -128,7 +131,8 @@ unlimited w (Some limit) = None
 abbrev pub alone : Word → Option Word → Option Command
 alone w limit =
     if bytes_eq w (codes "determinise") then determinised_by limit
-    else (if bytes_eq w (codes "realize") then realized_by limit else unlimited w limit)
+    else (if bytes_eq w (codes "realize") then realized_by limit
+    else (if bytes_eq w (codes "automaton") then translated_by limit else unlimited w limit))
 
 -- a command with an engine, and no limit
 abbrev pub solved_by : Word → Option Word → Option Command

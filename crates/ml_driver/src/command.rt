@@ -50,6 +50,9 @@ pub enum Command {
     /// `determinise`: the deterministic automaton of the Büchi automaton on the input, which may have as many states as the
     /// limit.
     Determinise { limit: u32 },
+    /// `automaton`: a Büchi automaton that accepts exactly the words that satisfy the formula of LTL on the input, whose word
+    /// automaton may have as many places as the limit.
+    Automaton { limit: u32 },
     /// `realize`: a machine that realizes the task on the input, or an environment that defeats it. The game may have as many
     /// positions as the limit.
     Realize { limit: u32 },
@@ -66,10 +69,10 @@ pub const LONGEST_TEXT: u64 = 1_048_576;
 /// How many bytes a document has at most, 2^63 - 1: no slice of bytes is longer.
 pub const LONGEST_DOCUMENT: u64 = 0x7fff_ffff_ffff_ffff;
 
-/// How many positions a game may have, or states a deterministic automaton, where the words don't say.
+/// How many positions a game may have, states a deterministic automaton, or places a word automaton, where the words don't say.
 pub const DEFAULT_LIMIT: u32 = 50_000;
 
-/// How many positions a game, or states a deterministic automaton, may have at most.
+/// How many positions a game, states a deterministic automaton, or places a word automaton may have at most.
 pub const GREATEST_LIMIT: u32 = 200_000;
 
 /// How many digits a number has at most.
@@ -86,7 +89,8 @@ impl Command {
             Command::Decide { .. }
             | Command::Valid { .. }
             | Command::Find { .. }
-            | Command::Prove { .. } => Some(LONGEST_TEXT),
+            | Command::Prove { .. }
+            | Command::Automaton { .. } => Some(LONGEST_TEXT),
             Command::CheckModel | Command::CheckRefutation | Command::Migrate | Command::Quotient =>
                 Some(LONGEST_DOCUMENT),
             Command::SolveGame { .. } => Some(LONGEST_GAME_TEXT as u64),
@@ -209,6 +213,8 @@ fn alone(command: &str, limit: Option<&str>) -> Option<Command>
         determinised_by(limit)
     } else if command == "realize" {
         realized_by(limit)
+    } else if command == "automaton" {
+        translated_by(limit)
     } else {
         unlimited(command, limit)
     }
@@ -220,6 +226,14 @@ fn determinised_by(limit: Option<&str>) -> Option<Command>
 {
     let limit = limit_named(limit)?;
     Some(Command::Determinise { limit })
+}
+
+fn translated_by(limit: Option<&str>) -> Option<Command>
+    ensures command { result ≡ command_line.translated_by (option_map (λ s. s.now) limit.entry) }
+    ensures usual { IfSome result HasUsualNumbers }
+{
+    let limit = limit_named(limit)?;
+    Some(Command::Automaton { limit })
 }
 
 fn realized_by(limit: Option<&str>) -> Option<Command>

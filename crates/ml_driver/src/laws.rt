@@ -1,12 +1,13 @@
 // What holds of what is due by its definition alone: the functions do nothing, their contracts are the theorems.
 ghost use Rattle.std.specs.Prelude.{◌≡◌, ◌+◌, ◌^◌};
 ghost use Rattle.ml_realize.specs.TaskGame.{most_nodes};
+ghost use Rattle.ml_translate.specs.Translation as translation;
 ghost use Rattle.ml_task.specs.declared.limits.TheConstants.{LONGEST_TASK_TEXT};
 ghost use Rattle.ml_driver.specs.declared.command.TheConstants.{DEFAULT_LIMIT, GREATEST_LIMIT, LONGEST_DOCUMENT, LONGEST_NUMBER, LONGEST_TEXT};
 ghost use Rattle.ml_driver.specs.Laws.{AnswersAreExact, DecideIsChecked, DecidedAreChecked, FindIsChecked, FindsAsDecided, OneAutomatonDue};
 ghost use Rattle.ml_driver.specs.Laws.{OneAutomatonWritten, OneCheckDue, OneDue, OneMeasure, OneQuotientDue, OneSolutionDue, OneUnlessOpen, ProveIsChecked, ProvesAsDecided};
 ghost use Rattle.ml_driver.specs.Laws.{QuotientsAreCheckedAlike, QuotientsAreRead, RefutedAreAccepted, SameWinners, SolutionsAreAccepted, SomeDue, SomeDueForWords};
-ghost use Rattle.ml_driver.specs.Laws.{ValidIsChecked, WrittenAcceptsTheSame, WrittenHoldsTheSame};
+ghost use Rattle.ml_driver.specs.Laws.{ValidIsChecked, WrittenAcceptsTheSame, WrittenHoldsTheSame, WrittenIsTranslated};
 
 /// For each command but `find` and `prove`, for words that are none, and for each input exactly one status is due: some
 /// status with some output, and no other status. For `find` and `prove` some status is due too, and two that are due are the
@@ -49,11 +50,13 @@ pub fn decided_are_checked()
 
 /// The text of a formula has at most 1,048,576 bytes, that of a task 2,097,152, a document at most 2^63 - 1. A game may have
 /// 50,000 positions, and a deterministic automaton as many states, where the words don't say, and 200,000 at most; a number
-/// has at most six digits. The word automaton of a task is too large with more than 4,096 nodes.
+/// has at most six digits. The word automaton of a task is too large with more than 4,096 nodes, that of a formula for
+/// `automaton` with more than 65,536.
 pub fn limits()
     ensures text { LONGEST_TEXT ≡ 1048576 }
     ensures task { LONGEST_TASK_TEXT ≡ 2097152 }
     ensures automaton { most_nodes ≡ 4096 }
+    ensures translated { translation.most_nodes ≡ 65536 }
     ensures document { LONGEST_DOCUMENT + 1 ≡ 2 ^ 63 }
     ensures usual { DEFAULT_LIMIT ≡ 50000 }
     ensures greatest { GREATEST_LIMIT ≡ 200000 }
@@ -98,4 +101,11 @@ pub fn one_automaton()
     ensures due { OneAutomatonDue }
     ensures written { OneAutomatonWritten }
     ensures same_words { WrittenAcceptsTheSame }
+{}
+
+/// What is written for `automaton` stands, by the grammar of automaton texts, for an automaton that accepts exactly the
+/// ultimately periodic words that satisfy the formula of the text; and it is read as this automaton, if it has no more states,
+/// propositions and edges than one that is read may have.
+pub fn written_is_translated()
+    ensures { WrittenIsTranslated }
 {}

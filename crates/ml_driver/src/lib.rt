@@ -5,10 +5,10 @@
 // leaves behind. What the answers of `decide` and `valid` mean, in any of the five logics, stands in
 // `specs/Decision.antt` (they are decisions of `ml_decide`, which knows nothing of texts), what `quotient` answers in
 // `specs/Quotients.antt`, what `solve-game` answers in `specs/Games.antt`, what `check-game` answers in
-// `specs/CheckedGames.antt`, what `determinise` answers in `specs/Automata.antt`, and what `realize` answers in
-// `specs/Tasks.antt`. `Status::code` is the number with which the program ends. `laws` says that some status is due for
-// all words and each input, and one alone but for `find` and `prove`; that answers are exact; and that what is written is
-// found to be right.
+// `specs/CheckedGames.antt`, what `determinise` answers in `specs/Automata.antt`, what `automaton` answers in
+// `specs/Translations.antt`, and what `realize` answers in `specs/Tasks.antt`. `Status::code` is the number with which the
+// program ends. `laws` says that some status is due for all words and each input, and one alone but for `find` and `prove`;
+// that answers are exact; and that what is written is found to be right.
 //
 // Below stand all crates that it calls; above stands only the program `mlsolver`.
 #![tactic(auto)]
@@ -30,6 +30,7 @@ mod realizing;
 mod solving;
 mod status;
 mod top;
+mod translating;
 
 pub use command::{Command, LONGEST_DOCUMENT, LONGEST_TEXT, command_of};
 pub use engine::Engine;

@@ -17,6 +17,7 @@ use crate::question::Question;
 use crate::quotienting::quotient_document;
 use crate::realizing::realize_text;
 use crate::solving::solve_game;
+use crate::translating::translate_text;
 use crate::{Command, Status, command_of};
 use ml_base::{NoMemory, ReadRefusal, Sink, Source, write_all};
 use ml_decide::Way;
@@ -39,12 +40,14 @@ use std::alloc::Global;
 ///   of its graph and the positions of its game counted; `Yes` of `migrate` with the document that is written of the same
 ///   refutation, of `quotient` with the document of the same problem that has the quotient of the structure and the class
 ///   of the start, of `solve-game` with the text of a solution, of `determinise` with the text of the deterministic
-///   automaton, and of `gen` with the text of the family's formula;
+///   automaton, of `automaton` with that of an automaton that accepts exactly the words that satisfy the formula of the
+///   text, and of `gen` with the text of the family's formula;
 /// - `Undecided` of `decide`, `valid` and `bench` exactly where the closure of the problem has too many nodes, or the
 ///   decision game passes the limit; of `find` and `prove` only there; of `check-model` exactly where the closure has too
 ///   many nodes, on a structure of which the logic speaks; of `determinise` exactly where the deterministic automaton has
-///   more states than the limit; of `realize` exactly where the graph of the word automaton has too many nodes, or the
-///   game of the task passes the limit;
+///   more states than the limit; of `automaton` exactly where the graph of the word automaton has too many nodes, or the
+///   word automaton more places than the limit; of `realize` exactly where the graph of the word automaton has too many
+///   nodes, or the game of the task passes the limit;
 /// - `Words` exactly for words that are no command, `Text` exactly for input that the command refuses, both with one
 ///   line that says so.
 ///
@@ -114,6 +117,7 @@ fn outcome(alloc: Global, command: Command, text: &[u8]) -> Result<Output, NoMem
         Command::SolveGame { engine } => solve_game(alloc, engine, text),
         Command::CheckGame => check_game(alloc, text),
         Command::Determinise { limit } => determinise_text(alloc, limit, text),
+        Command::Automaton { limit } => translate_text(alloc, limit, text),
         Command::Realize { limit } => realize_text(alloc, limit, text),
         Command::Gen { family, n } => generate(alloc, family, n),
         Command::Bench { family, n } => measure(alloc, family, n),

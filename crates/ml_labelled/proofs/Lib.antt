@@ -24,3 +24,11 @@ pub mod ReachedParts
 pub mod ChosenRuns
 -- states with the same edges
 pub mod MergedStates
+-- the part that is reached exists
+pub mod SomeParts
+-- runs where edges are left out and flags are changed
+pub mod TrimmedRuns
+-- so it is of automata
+pub mod TrimmedEdges
+-- edges that are kept one after the other
+pub mod KeptEdges

@@ -6,3 +6,5 @@ pub mod Views
 pub mod Reaching
 -- states with the same edges
 pub mod Merging
+-- edges that are left out, and flags that are changed
+pub mod Trimming

@@ -1,11 +1,11 @@
 // States with the same edges, which become one.
-ghost use Rattle.std.specs.Prelude.{◌≡◌, ◌<◌, ◌≤◌, ◌^◌, true, map, length, IfOk};
-ghost use Rattle.ml_labelled.specs.Labelled.{AcceptSame, AreReached, IsLabelled};
+ghost use Rattle.std.specs.Prelude.{◌≡◌, ◌<◌, ◌^◌, true, map, length, IfOk};
+ghost use Rattle.ml_labelled.specs.Labelled.{AcceptSame};
 ghost use Rattle.ml_labelled.specs.private.Merging.{AreAlike, IsAlike};
 ghost use Rattle.ml_labelled.specs.private.Views.{edge_of, rows_of};
 
 use crate::labelled::{CubeEdge, LabelledAutomaton};
-use crate::reaching::{reached_part, retarget_all};
+use crate::reaching::retarget_all;
 use indexmap::IndexSet;
 use ml_base::NoMemory;
 use std::alloc::Global;
@@ -45,16 +45,21 @@ fn mixed(sum: u64, n: u64) -> u64 {
         .wrapping_add(1)
 }
 
-// a number that the same edges give, and others hardly ever: nothing rests on it
+// a number that the same edge gives with this flag, and others hardly ever: nothing rests on it
+pub(crate) fn mark_of_edge(edge: &CubeEdge, accepting: bool) -> u64 {
+    let mut sum = mixed(u64::from(edge.to), u64::from(accepting));
+    for literal in &edge.cube {
+        sum = mixed(sum, u64::from(literal.prop));
+        sum = mixed(sum, u64::from(literal.positive));
+    }
+    sum
+}
+
+// so it is of the same edges
 fn mark_of(row: &[CubeEdge]) -> u64 {
     let mut sum = 0u64;
     for edge in row {
-        sum = mixed(sum, u64::from(edge.to));
-        sum = mixed(sum, u64::from(edge.accepting));
-        for literal in &edge.cube {
-            sum = mixed(sum, u64::from(literal.prop));
-            sum = mixed(sum, u64::from(literal.positive));
-        }
+        sum = mixed(sum, mark_of_edge(edge, edge.accepting));
     }
     sum
 }
@@ -113,7 +118,10 @@ fn alike(alloc: Global, rows: &[Vec<CubeEdge>]) -> Result<Vec<u32>, NoMemory>
 }
 
 // each edge leads to one of the states with the edges of its target
-fn merged(alloc: Global, automaton: LabelledAutomaton) -> Result<LabelledAutomaton, NoMemory>
+pub(crate) fn merged(
+    alloc: Global,
+    automaton: LabelledAutomaton,
+) -> Result<LabelledAutomaton, NoMemory>
     ensures same { IfOk result (λ b. AcceptSame automaton b) }
     ensures props { IfOk result (λ b. b.props ≡ automaton.props) }
     ensures as_many { IfOk result (λ b. length b.edges ≡ length automaton.edges) }
@@ -122,42 +130,4 @@ fn merged(alloc: Global, automaton: LabelledAutomaton) -> Result<LabelledAutomat
     let (props, mut edges) = automaton.into_parts();
     retarget_all(&mut edges, &targets);
     Ok(LabelledAutomaton::new(props, edges))
-}
-
-// states with the same edges are one, and what isn't reached goes
-fn merged_part(alloc: Global, automaton: LabelledAutomaton) -> Result<LabelledAutomaton, NoMemory>
-    ensures labelled { IfOk result IsLabelled }
-    ensures same { IfOk result (λ b. AcceptSame automaton b) }
-    ensures props { IfOk result (λ b. b.props ≡ automaton.props) }
-    ensures reached { IfOk result AreReached }
-    ensures few { IfOk result (λ b. length b.edges ≤ length automaton.edges) }
-{
-    let merged = merged(alloc, automaton)?;
-    reached_part(alloc, merged)
-}
-
-/// An automaton that accepts the same words, each state reached, in which states with the same edges are one: states whose
-/// edges come to be the same become one too, again and again. Only edges that stand in the same order count as the same.
-///
-/// # Errors
-/// `NoMemory` alone.
-///
-/// Cost: for each time that some states become one, linear in the edges.
-pub fn without_copies(
-    alloc: Global,
-    automaton: LabelledAutomaton,
-) -> Result<LabelledAutomaton, NoMemory>
-    ensures labelled { IfOk result IsLabelled }
-    ensures same { IfOk result (λ b. AcceptSame automaton b) }
-    ensures props { IfOk result (λ b. b.props ≡ automaton.props) }
-    ensures reached { IfOk result AreReached }
-    ensures few { IfOk result (λ b. length b.edges ≤ length automaton.edges) }
-{
-    let mut small = reached_part(alloc, automaton)?;
-    let mut size = usize::MAX;
-    while small.edges().len() < size {
-        size = small.edges().len();
-        small = merged_part(alloc, small)?;
-    }
-    Ok(small)
 }

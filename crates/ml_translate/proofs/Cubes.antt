@@ -7,12 +7,14 @@
 --   not_joined       == one of the other sign doesn't
 --   fits_joined      == a cube with a literal more fits a letter where both do
 --   some_joined      == where both do, there is such a cube
+--   joined_or_not    == a literal joins a cube, or there is no such cube
 use Rattle.std.proofs.Common.{ℕ, zero, suc, ◌≡◌, ◌≢◌, ◌<◌, ◌≤◌, ◌⊎◌, ◌↔◌, inl, inr, arith, Bool, true, false, not, List, [], ◌∷◌, ◌++◌, length, take, drop, get_or, refl, sym, ap, ◌∙◌, subst}
 use Rattle.std.specs.Bool.{beq}
 use Rattle.std.proofs.lemmas.Bool.{cases_eq, cases_lt}
 use Rattle.std.proofs.lemmas.List.{get_or_default, take-append-drop}
 use Rattle.ml_lists.specs.Ascending.{IsAscending}
 use Rattle.ml_lists.specs.Member.{IsMember}
+use Rattle.ml_lists.proofs.Deciding.{decided_truth}
 use Rattle.ml_lists.proofs.Member.{member-append, member-append_left, member-append_right, member-map, member-map_from, place-member}
 use Rattle.ml_labelled.specs.declared.labelled.Literal.{Literal}
 use Rattle.ml_labelled.specs.Labelled.{Fits, IsTrueIn, Letter, has}
@@ -218,3 +220,26 @@ same_sign true true e = refl
 same_sign true false e = absurd (cc)
 same_sign false true e = absurd (cc)
 same_sign false false e = refl
+
+-- ---- whether a literal joins
+
+pub joined_or_not : (c : List Literal) (l : Literal)
+    → IsAscending (props_of c)
+    → ((d : List Literal) × IsJoined c l d) ⊎ ((d : List Literal) → ¬ (IsJoined c l d))
+joined_or_not c l ascend = let s = split_at c l.prop ascend in by s.0 s.1 (cases_lt s.0 (length c))
+  where
+    by : (at : ℕ) → IsSplit c l.prop at → (at < length c) ⊎ (length c ≤ at)
+        → ((d : List Literal) × IsJoined c l d) ⊎ ((d : List Literal) → ¬ (IsJoined c l d))
+    by at s (inr past) = inl (inserted c at l, joined_new c at l ascend s (λ d within. absurd (omega arith)))
+    by at s (inl low) = at_place (cases_eq (get_or c at l).prop l.prop) (decided_truth (get_or c at l).positive l.positive)
+      where
+        there : IsMember (get_or c at l) c
+        there = place-member c at l low
+
+        at_place : ((get_or c at l).prop ≡ l.prop) ⊎ ((get_or c at l).prop ≡ l.prop → ⊥)
+            → ((get_or c at l).positive ≡ l.positive) ⊎ ¬ ((get_or c at l).positive ≡ l.positive)
+            → ((d : List Literal) × IsJoined c l d) ⊎ ((d : List Literal) → ¬ (IsJoined c l d))
+        at_place (inr other) sign = inl (inserted c at l, joined_new c at l ascend s (new_at c at l l low other))
+        at_place (inl same) (inl sign) =
+            inl (c, joined_known c l ascend (subst (λ (n : Literal). IsMember n c) (one_of_both l (get_or c at l) same sign) there))
+        at_place (inl same) (inr other) = inr (λ d j. not_joined c d l (get_or c at l) there same other j)

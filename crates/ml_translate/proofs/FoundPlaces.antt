@@ -1,25 +1,29 @@
 -- Places that are found one after the other.
 --
 --   grown_one, full_more     == a place was added, or there was no room
---   grown_none, grown_both   == so were others
---   overflows_first, overflows_later == there is no room for some of them
+--   added_or_full            == a place is added, or there is no room
+--   grown_none, grown_on, grown_both == so were others
+--   overflows_first, overflows_on, overflows_later == there is no room for some of them
+--   grown_or_full            == some are added, or there is no room for them
 --   followed, passed_limit   == those behind a place were added, or there are too many
 --   begun_none, begun_more, begun_full == where walks begin
 --   found_first, found_more, found_full == places are followed, one after the other
 --   all_found                == all places are found
 --   place_read, begin_is     == what a program reads
-use Rattle.std.proofs.Common.{ℕ, ◌≡◌, ◌+◌, ◌<◌, ◌≤◌, ◌⊎◌, ◌↔◌, inl, inr, arith, List, [], ◌∷◌, ◌++◌, length, get_or, Some, slice_get, refl, sym, ap, ◌∙◌, subst, length-append}
-use Rattle.std.proofs.lemmas.Bool.{cases_eq}
+use Rattle.std.proofs.Common.{ℕ, ◌≡◌, ◌+◌, ◌<◌, ◌≤◌, ◌⊎◌, ◌↔◌, inl, inr, arith, true, false, true≢false, List, [], ◌∷◌, ◌++◌, length, get_or, Some, slice_get, refl, sym, ap, ◌∙◌, subst, length-append}
+use Rattle.std.specs.List.{list_any}
+use Rattle.std.proofs.lemmas.Bool.{cases_Bool, cases_eq, cases_lt}
 use Rattle.std.proofs.lemmas.List.{get_or_default}
 use Rattle.std.proofs.lemmas.Option.{slice_get-get_or}
 use Rattle.ml_lists.specs.Added.{HasOnePlace, IsAdded}
 use Rattle.ml_lists.specs.Member.{IsMember}
 use Rattle.ml_lists.proofs.Added.{added_keeps, added_long, added_once}
-use Rattle.ml_lists.proofs.Member.{member-append, member-place, member_of_get}
+use Rattle.ml_lists.proofs.Member.{list_any-member, member-append, member-list_any, member-place, member_of_get}
 use Rattle.ml_graph.specs.Graph.{Graph}
 use Rattle.ml_labelled.specs.declared.labelled.Literal.{Literal}
 use Rattle.ml_word_automaton.specs.Letters.{Automaton}
 use Rattle.ml_translate.specs.Places.{HasMorePlaces, IsPlace, Place, begin, begins, further, goes_on}
+use Rattle.ml_translate.proofs.PlaceEquality.{place_eq, place_eq-refl, place_eq-same}
 use Rattle.ml_translate.specs.private.Finding.{ArePlaces, Follows, IsBegun, IsFollowed, IsFound, IsFull, IsGrown, IsPassed, Overflows, place_at}
 
 -- ---- one place more
@@ -56,14 +60,15 @@ full_added limit xs ys s i added few many = by added.grown
         record { full = omega arith; is_new = new.1 }
 
 -- a list with a place that is new, behind it
+last_stands : (xs : List Place) (s : Place) → slice_get (xs ++ s ∷ []) (length xs) ≡ Some s
+last_stands [] s = refl
+last_stands (x ∷ xs) s = last_stands xs s
+
+added_last : (xs : List Place) (s : Place) → ¬ (IsMember s xs) → IsAdded xs s (xs ++ s ∷ []) (length xs)
+added_last xs s new = record { stands = last_stands xs s; grown = inr (refl, new) }
+
 more_once : (xs : List Place) (s : Place) → ¬ (IsMember s xs) → HasOnePlace xs → HasOnePlace (xs ++ s ∷ [])
-more_once xs s new once =
-    added_once xs (xs ++ s ∷ []) s (length xs)
-    (record { stands = last_stands xs; grown = inr (refl, new) }) once
-  where
-    last_stands : (xs : List Place) → slice_get (xs ++ s ∷ []) (length xs) ≡ Some s
-    last_stands [] = refl
-    last_stands (x ∷ xs) = last_stands xs
+more_once xs s new once = added_once xs (xs ++ s ∷ []) s (length xs) (added_last xs s new) once
 
 full_overflows : (limit : ℕ) (ts xs : List Place) (s : Place) → IsFull limit xs s → IsMember s ts → Overflows limit ts xs
 full_overflows limit ts xs s full m = record {
@@ -84,27 +89,32 @@ overflows_one limit xs s full = full_overflows limit (s ∷ []) xs s full (inl r
 pub overflows_first : (limit : ℕ) (xs : List Place) (s t : Place) → IsFull limit xs s → Overflows limit (s ∷ t ∷ []) xs
 overflows_first limit xs s t full = full_overflows limit (s ∷ t ∷ []) xs s full (inl refl)
 
-pub overflows_later : (limit : ℕ) (xs ys : List Place) (s t : Place)
+-- where one was added, and there is no room for those behind it
+overflows_on : (limit : ℕ) (xs ys ts : List Place) (s : Place)
     → IsGrown (s ∷ []) xs ys
-    → IsFull limit ys t
-    → Overflows limit (s ∷ t ∷ []) xs
-overflows_later limit xs ys s t grown full =
-    let o = full_overflows limit (t ∷ []) ys t full (inl refl) in record {
-      more = o.more;
-      once = λ once. o.once (grown.once once);
-      from = λ u m. later u (o.from u m);
-      is_longer = o.is_longer;
-    }
+    → Overflows limit ts ys
+    → Overflows limit (s ∷ ts) xs
+overflows_on limit xs ys ts s grown o = record {
+  more = o.more;
+  once = λ once. o.once (grown.once once);
+  from = λ u m. later u (o.from u m);
+  is_longer = o.is_longer;
+}
   where
-    first : (u : Place) → IsMember u xs ⊎ IsMember u (s ∷ []) → IsMember u xs ⊎ IsMember u (s ∷ t ∷ [])
+    first : (u : Place) → IsMember u xs ⊎ IsMember u (s ∷ []) → IsMember u xs ⊎ IsMember u (s ∷ ts)
     first u (inl k) = inl k
     first u (inr (inl same)) = inr (inl same)
     first u (inr (inr none)) = absurd none
 
-    later : (u : Place) → IsMember u ys ⊎ IsMember u (t ∷ []) → IsMember u xs ⊎ IsMember u (s ∷ t ∷ [])
+    later : (u : Place) → IsMember u ys ⊎ IsMember u ts → IsMember u xs ⊎ IsMember u (s ∷ ts)
     later u (inl k) = first u (grown.from u k)
-    later u (inr (inl same)) = inr (inr (inl same))
-    later u (inr (inr none)) = absurd none
+    later u (inr k) = inr (inr k)
+
+pub overflows_later : (limit : ℕ) (xs ys : List Place) (s t : Place)
+    → IsGrown (s ∷ []) xs ys
+    → IsFull limit ys t
+    → Overflows limit (s ∷ t ∷ []) xs
+overflows_later limit xs ys s t grown full = overflows_on limit xs ys (t ∷ []) s grown (overflows_one limit ys t full)
 
 pub grown_none : (xs : List Place) → IsGrown [] xs xs
 grown_none xs = record {
@@ -115,11 +125,11 @@ grown_none xs = record {
   longer = omega arith;
 }
 
-pub grown_both : (xs ys zs : List Place) (s t : Place)
+grown_on : (xs ys zs ts : List Place) (s : Place)
     → IsGrown (s ∷ []) xs ys
-    → IsGrown (t ∷ []) ys zs
-    → IsGrown (s ∷ t ∷ []) xs zs
-grown_both xs ys zs s t first second = record {
+    → IsGrown ts ys zs
+    → IsGrown (s ∷ ts) xs zs
+grown_on xs ys zs ts s first second = record {
   kept = λ k u at. second.kept k u (first.kept k u at);
   once = λ once. second.once (first.once once);
   from = λ u m. from u (second.from u m);
@@ -127,25 +137,89 @@ grown_both xs ys zs s t first second = record {
   longer = let one = first.longer in let two = second.longer in omega arith;
 }
   where
-    earlier : (u : Place) → IsMember u xs ⊎ IsMember u (s ∷ []) → IsMember u xs ⊎ IsMember u (s ∷ t ∷ [])
+    earlier : (u : Place) → IsMember u xs ⊎ IsMember u (s ∷ []) → IsMember u xs ⊎ IsMember u (s ∷ ts)
     earlier u (inl k) = inl k
     earlier u (inr (inl same)) = inr (inl same)
     earlier u (inr (inr none)) = absurd none
 
-    from : (u : Place) → IsMember u ys ⊎ IsMember u (t ∷ []) → IsMember u xs ⊎ IsMember u (s ∷ t ∷ [])
+    from : (u : Place) → IsMember u ys ⊎ IsMember u ts → IsMember u xs ⊎ IsMember u (s ∷ ts)
     from u (inl k) = earlier u (first.from u k)
-    from u (inr (inl same)) = inr (inr (inl same))
-    from u (inr (inr none)) = absurd none
+    from u (inr k) = inr (inr k)
 
     still : (u : Place) → IsMember u ys → IsMember u zs
     still u m =
         let at = member-place u ys m in
         member_of_get zs at.place u (second.kept at.place u (slice_get-get_or ys at.place u at.below ∙ ap Some (at.holds u)))
 
-    there : (u : Place) → IsMember u (s ∷ t ∷ []) → IsMember u zs
+    there : (u : Place) → IsMember u (s ∷ ts) → IsMember u zs
     there u (inl same) = still u (first.there u (inl same))
-    there u (inr (inl same)) = second.there u (inl same)
-    there u (inr (inr none)) = absurd none
+    there u (inr m) = second.there u m
+
+pub grown_both : (xs ys zs : List Place) (s t : Place)
+    → IsGrown (s ∷ []) xs ys
+    → IsGrown (t ∷ []) ys zs
+    → IsGrown (s ∷ t ∷ []) xs zs
+grown_both xs ys zs s t first second = grown_on xs ys zs (t ∷ []) s first second
+
+-- ---- added, or too many
+
+-- the places with some added to them, which are no more than the limit
+pub record Grown (limit : ℕ) (ts xs : List Place) : Type 0 where
+  pub places : List Place
+  pub is_grown : IsGrown ts xs places
+  pub few : length places ≤ limit
+
+pub added_or_full : (limit : ℕ) (xs : List Place) (s : Place)
+    → length xs ≤ limit
+    → Grown limit (s ∷ []) xs ⊎ IsFull limit xs s
+added_or_full limit xs s few = by_test (cases_Bool (list_any (place_eq s) xs)) (cases_lt (length xs) limit)
+  where
+    by_test : (list_any (place_eq s) xs ≡ true) ⊎ (list_any (place_eq s) xs ≡ false)
+        → (length xs < limit) ⊎ (limit ≤ length xs)
+        → Grown limit (s ∷ []) xs ⊎ IsFull limit xs s
+    by_test (inl there) room =
+        let p = list_any-member (place_eq s) xs there in
+        let m = subst (λ (x : Place). IsMember x xs) (sym (place_eq-same s p.item p.passes)) p.member in
+        let at = member-place s xs m in
+        let stands = slice_get-get_or xs at.place s at.below ∙ ap Some (at.holds s) in
+        inl (record {
+          places = xs;
+          is_grown = grown_one xs xs s at.place (record { stands = stands; grown = inl refl });
+          few = few;
+        })
+    by_test (inr new) (inl room) =
+        let is_new = λ m. true≢false (sym (member-list_any (place_eq s) s xs m (place_eq-refl s)) ∙ new) in
+        inl (record {
+          places = xs ++ s ∷ [];
+          is_grown = grown_one xs (xs ++ s ∷ []) s (length xs) (added_last xs s is_new);
+          few = omega (arith, room, length-append xs (s ∷ []));
+        })
+    by_test (inr new) (inr full) =
+        inr (record {
+          full = omega (arith, few, full);
+          is_new = λ m. true≢false (sym (member-list_any (place_eq s) s xs m (place_eq-refl s)) ∙ new);
+        })
+
+pub grown_or_full : (limit : ℕ) (ts xs : List Place)
+    → length xs ≤ limit
+    → Grown limit ts xs ⊎ Overflows limit ts xs
+grown_or_full limit [] xs few = inl (record { places = xs; is_grown = grown_none xs; few = few })
+grown_or_full limit (s ∷ ts) xs few = by_first (added_or_full limit xs s few) (grown_or_full limit ts)
+  where
+    by_first : Grown limit (s ∷ []) xs ⊎ IsFull limit xs s
+        → ((ys : List Place) → length ys ≤ limit → Grown limit ts ys ⊎ Overflows limit ts ys)
+        → Grown limit (s ∷ ts) xs ⊎ Overflows limit (s ∷ ts) xs
+    by_first (inr full) rest = inr (full_overflows limit (s ∷ ts) xs s full (inl refl))
+    by_first (inl first) rest = by_rest (rest first.places first.few)
+      where
+        by_rest : Grown limit ts first.places ⊎ Overflows limit ts first.places
+            → Grown limit (s ∷ ts) xs ⊎ Overflows limit (s ∷ ts) xs
+        by_rest (inl second) = inl (record {
+          places = second.places;
+          is_grown = grown_on xs first.places second.places ts s first.is_grown second.is_grown;
+          few = second.few;
+        })
+        by_rest (inr o) = inr (overflows_on limit xs first.places ts s first.is_grown o)
 
 -- ---- the places behind one
 

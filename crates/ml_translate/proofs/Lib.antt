@@ -22,3 +22,11 @@ pub mod PropositionNumbers
 pub mod FitPlaces
 -- what is written for a formula
 pub mod WrittenTexts
+-- places are found, or there are too many
+pub mod SomePlaces
+-- places make edges
+pub mod SomeEdges
+-- each formula has a word automaton
+pub mod SomeStates
+-- an automaton is written, or there is a reason why not
+pub mod SomeTranslations

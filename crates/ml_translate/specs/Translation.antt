@@ -7,16 +7,19 @@
 --   props_of f              == the propositions of f, each once, in the order of the text
 --   AcceptsWords a f        == the automaton a accepts exactly the word lassos that satisfy f
 --   IsTranslated f limit a  == a is an automaton of f, which has a word automaton within the limits
+--   IsLarge f               == the word automaton of f has too many nodes
 --   HasTooManyPlaces f limit == the word automaton of f isn't too large, and has more places than the limit
 use Rattle.std.specs.Prelude.{ℕ, ◌≡◌, ◌≤◌, ◌↔◌, false, List, [], length}
 use Rattle.ml_graph.specs.Graph.{size}
 use Rattle.ml_trace.specs.WordAutomata.{WordLasso, IsWordLasso}
+use Rattle.ml_blocks.specs.Closures.{HasMoreThan}
 use Rattle.ml_ctl.specs.Formula.{Formula}
 use Rattle.ml_nodes.specs.PathNames.{props_onto}
 use Rattle.ml_labelled.specs.Labelled as labelled
 use Rattle.ml_labelled.specs.Labelled.{Accepts, AreReached, IsLabelled, Letter}
 use Rattle.ml_word_automaton.specs.Letters as word
 use Rattle.ml_word_automaton.specs.Letters.{IsAutomatonOf}
+use Rattle.ml_word_automaton.specs.WordAutomaton.{start_block}
 use Rattle.ml_word_automaton.specs.Words.{SatisfiedBy}
 use Rattle.ml_translate.specs.Places.{HasMorePlaces}
 use Rattle.ml_translate.specs.declared.limits.TheConstants.{MOST_NODES}
@@ -26,6 +29,9 @@ most_nodes = MOST_NODES
 
 abbrev pub props_of : Formula → List (List ℕ)
 props_of f = props_onto f []
+
+abbrev pub IsLarge : Formula → Type 0
+IsLarge f = HasMoreThan (start_block f false) most_nodes
 
 abbrev pub AcceptsWords : labelled.Automaton → Formula → Type 0
 AcceptsWords a f = (w : WordLasso Letter) → IsWordLasso w → Accepts a w ↔ SatisfiedBy w f

@@ -1,5 +1,5 @@
 // Laws over the definitions alone: no caller runs these functions, their contracts are the theorems.
-ghost use Rattle.ml_translate.specs.Laws.{SamePlaces, WrittenAccepts};
+ghost use Rattle.ml_translate.specs.Laws.{OneOutcome, SamePlaces, SomeTranslation, WrittenAccepts};
 ghost use Rattle.ml_translate.specs.Translation.{most_nodes};
 ghost use Rattle.std.specs.Prelude.{◌≡◌};
 
@@ -17,6 +17,15 @@ pub fn same_places()
 /// Does nothing when called.
 pub fn written_accepts()
     ensures { WrittenAccepts }
+{}
+
+/// Of each formula that is well formed an automaton is written, or its word automaton is too large, or has too many places; and
+/// of any formula at most one of the three is so.
+///
+/// Does nothing when called.
+pub fn one_outcome()
+    ensures some { SomeTranslation }
+    ensures one { OneOutcome }
 {}
 
 /// A formula's word automaton has at most 65,536 nodes.

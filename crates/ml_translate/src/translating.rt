@@ -3,11 +3,9 @@ ghost use Rattle.std.specs.Prelude.{◌<◌, ◌≤◌, ◌^◌, false, IfOk, Is
 ghost use Rattle.std.specs.List.{All};
 ghost use Rattle.ml_base.specs.Name.{IsName};
 ghost use Rattle.ml_graph.specs.Graph.{size};
-ghost use Rattle.ml_blocks.specs.Closures.{HasMoreThan};
 ghost use Rattle.ml_word_automaton.specs.Letters.{IsAutomatonOf};
-ghost use Rattle.ml_word_automaton.specs.WordAutomaton.{start_block};
 ghost use Rattle.ml_translate.specs.Places.{HasMorePlaces};
-ghost use Rattle.ml_translate.specs.Translation.{HasTooManyPlaces, IsTranslated, most_nodes};
+ghost use Rattle.ml_translate.specs.Translation.{HasTooManyPlaces, IsLarge, IsTranslated, most_nodes};
 ghost use Rattle.ml_translate.specs.declared.refusal.TranslateRefusal.TheVariants as refusal;
 ghost use Rattle.ml_translate.specs.private.Finding.{AreNumbers, IsMadeOf};
 
@@ -17,7 +15,7 @@ use crate::limits::MOST_NODES;
 use crate::propositions::Propositions;
 use crate::refusal::TranslateRefusal;
 use ml_graph::ClosureRefusal;
-use ml_labelled::{LabelledAutomaton, without_copies};
+use ml_labelled::{LabelledAutomaton, reduced};
 use ml_word_automaton::{WordAutomaton, automaton_of};
 use std::alloc::Global;
 
@@ -28,7 +26,7 @@ fn word_automaton(
 ) -> Result<WordAutomaton, TranslateRefusal>
     ensures automaton { IfOk result (λ a. IsAutomatonOf a formula.now false) }
     ensures fits { IfOk result (λ a. size a.graph ≤ most_nodes) }
-    ensures too_large { IsErrOf result refusal.ClosureTooLarge → HasMoreThan (start_block formula.now false) most_nodes }
+    ensures too_large { IsErrOf result refusal.ClosureTooLarge → IsLarge formula.now }
     ensures not_passed { ¬ (IsErrOf result refusal.Passed) }
 {
     match automaton_of(alloc, formula, false, MOST_NODES) {
@@ -78,11 +76,11 @@ pub fn automaton_of_formula(
     limit: u32,
 ) -> Result<LabelledAutomaton, TranslateRefusal>
     ensures translated { IfOk result (IsTranslated formula.now limit) }
-    ensures too_large { IsErrOf result refusal.ClosureTooLarge → HasMoreThan (start_block formula.now false) most_nodes }
+    ensures too_large { IsErrOf result refusal.ClosureTooLarge → IsLarge formula.now }
     ensures passed { IsErrOf result refusal.Passed → HasTooManyPlaces formula.now limit }
 {
     let automaton = word_automaton(alloc, formula)?;
     let propositions = Propositions::of(alloc, formula, automaton.graph())?;
     let made = with_places(alloc, &automaton, propositions, limit)?;
-    Ok(without_copies(alloc, made)?)
+    Ok(reduced(alloc, made)?)
 }

@@ -3,7 +3,7 @@
 use std::io;
 
 // each command with its further words, and what it is for
-const CALLS: [&str; 14] = [
+const CALLS: [&str; 15] = [
     "find LOGIC [--limit N]    is the formula satisfiable?",
     "prove LOGIC [--limit N]   is the formula valid?",
     "decide LOGIC [--limit N]  as find, without a search",
@@ -15,6 +15,7 @@ const CALLS: [&str; 14] = [
     "solve-game ENGINE         who wins the parity game?",
     "check-game                is the solution behind the parity game right?",
     "determinise [--limit N]   the Büchi automaton, made deterministic",
+    "automaton [--limit N]     a Büchi automaton of the formula of LTL",
     "realize [--limit N]       a machine for the task, or an environment",
     "gen FAMILY N              the formula of a family",
     "bench FAMILY N            its size, and whether it is satisfiable",

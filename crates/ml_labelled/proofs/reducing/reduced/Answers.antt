@@ -1,9 +1,9 @@
 use Rattle.ml_labelled.proofs.ReachedParts.{parts_joined}
-use Rattle.ml_labelled.proofs.merging.without_copies.Goals as goal
+use Rattle.ml_labelled.proofs.reducing.reduced.Goals as goal
 
-pub loop-size-preserved : goal.loop-size-preserved
-loop-size-preserved c =
-    parts_joined c.args.automaton c.loop-size.small c.in_ok-small-2.small c.loop-size.invariant
+pub loop-next-preserved : goal.loop-next-preserved
+loop-next-preserved c =
+    parts_joined c.args.automaton c.loop-next.small c.in_ok-small-2.small c.loop-next.invariant
     (record {
       labelled = c.in_ok-small-2.ensures.labelled;
       same = c.in_ok-small-2.ensures.same;
