@@ -33,7 +33,7 @@ use std::fs;
 use std::io::Print;
 use std::rt::Files;
 
-const FILES: [&str; 37] = [
+const FILES: [&str; 38] = [
     "examples",
     "specifications",
     "patterns",
@@ -55,6 +55,7 @@ const FILES: [&str; 37] = [
     "refutations",
     "games",
     "automata",
+    "translations",
     "quotients",
     "realize",
     "meanings",

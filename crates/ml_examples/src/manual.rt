@@ -9,7 +9,7 @@ use std::fs;
 use std::io::Print;
 use std::rt::Files;
 
-const COMMANDS: [&str; 14] = [
+const COMMANDS: [&str; 15] = [
     "decide",
     "valid",
     "find",
@@ -20,6 +20,7 @@ const COMMANDS: [&str; 14] = [
     "quotient",
     "solve-game",
     "check-game",
+    "automaton",
     "determinise",
     "realize",
     "gen",
