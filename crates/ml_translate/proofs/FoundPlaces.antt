@@ -188,7 +188,8 @@ added_or_full limit xs s few = by_test (cases_Bool (list_any (place_eq s) xs)) (
           few = few;
         })
     by_test (inr new) (inl room) =
-        let is_new = λ m. true≢false (sym (member-list_any (place_eq s) s xs m (place_eq-refl s)) ∙ new) in
+        let is_new : ¬ (IsMember s xs) =
+        λ m. true≢false (sym (member-list_any (place_eq s) s xs m (place_eq-refl s)) ∙ new) in
         inl (record {
           places = xs ++ s ∷ [];
           is_grown = grown_one xs (xs ++ s ∷ []) s (length xs) (added_last xs s is_new);

@@ -83,9 +83,11 @@ module _ (a : Automaton) (props : List (List ℕ)) (limit : ℕ) where
     where
       by : Grown limit (begin a n ∷ []) xs ⊎ IsFull limit xs (begin a n) → Begun (suc n)
       by (inl g) =
-          inl (g.places,
-          subst (λ k. IsBegun a props k limit g.places) (add-one n)
-          (begun_more a props limit n xs g.places low b g.is_grown g.few))
+          inl (
+            g.places,
+            subst (λ k. IsBegun a props k limit g.places) (add-one n)
+                (begun_more a props limit n xs g.places low b g.is_grown g.few),
+          )
       by (inr full) = inr (begun_full a props limit n xs low b full)
 
   some_begun : (n : ℕ) → n ≤ length a.states → Begun n
