@@ -10,7 +10,7 @@ use Rattle.ml_lines.specs.Reading.{AreWords, value, word}
 use Rattle.ml_lists.specs.Documents.{rule}
 use Rattle.ml_lists.specs.Readings.{IsReadable}
 use Rattle.ml_synthesis.specs.Machines.{EnvironmentFits, EnvironmentTable, MachineFits, MachineTable}
-use Rattle.ml_realize_text.specs.RealizeRules.{AtEnd, AtStates, Place, Signals, at_state, realize}
+use Rattle.ml_realize_text.specs.RealizeRules.{AtEnd, AtStates, Signals, at_state, realize}
 use Rattle.ml_realize_text.specs.RealizeText.{end_line, environment_lines, environment_state_lines, machine_lines, machine_state_lines, states_line}
 use Rattle.ml_realize_text.specs.private.Reads.{PlayFits, PlayRow, RowFits, environment_of, machine_of}
 use Rattle.ml_realize_text.proofs.BodyLines.{numbered_back, states_good, value_back}

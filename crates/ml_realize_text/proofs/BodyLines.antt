@@ -1,7 +1,7 @@
 -- Which lines of a body are good, and which rule another one breaks first.
 --
 -- Of each kind of line: the rule that it breaks first, that a written line is good, and that a good line is a written one.
-use Rattle.std.proofs.Common.{true, ◌≡◌, ◌≢◌, ℕ, ◌+◌, ◌<◌, ◌≤◌, ◌^◌, List, [], ◌∷◌, ◌++◌, length, drop, codes, inl, inr, refl, sym, ap, subst, ◌∙◌, arith}
+use Rattle.std.proofs.Common.{true, ◌≡◌, ◌≢◌, ℕ, ◌<◌, ◌^◌, List, [], ◌∷◌, ◌++◌, length, drop, codes, inl, inr, refl, sym, ap, subst, ◌∙◌, arith}
 use Rattle.std.specs.List.{list_all}
 use Rattle.std.proofs.lemmas.Bool.{and_from}
 use Rattle.ml_lines.specs.Lines.{Line, Word, number}
@@ -10,8 +10,8 @@ use Rattle.ml_lines.proofs.Numbers.{value-number}
 use Rattle.ml_lists.specs.Documents.{IsFirstBroken, KeepsAll, Rule, rule}
 use Rattle.ml_synthesis.specs.declared.machines.MachineStep.{MachineStep}
 use Rattle.ml_realize_text.specs.RealizeRules.{AtPlay, AtReply, AtState, AtStates, AtStep, IsReplyLine, IsSet, IsStepLine, Signals, rules}
-use Rattle.ml_realize_text.specs.RealizeText.{answer_line, play_line, set_words, state_line, states_line, step_line}
-use Rattle.ml_realize_text.specs.private.Reads.{Breaks, IsPlayed, IsReply, IsStep, StepFits, numbered_rules}
+use Rattle.ml_realize_text.specs.RealizeText.{play_line, set_words, state_line, states_line}
+use Rattle.ml_realize_text.specs.private.Reads.{Breaks, IsPlayed, IsReply, IsStep, numbered_rules}
 use Rattle.ml_realize_text.specs.declared.line_rule.LineRule.TheVariants.{HasStates, InRange, NextState, Numbers, OfKind, Sets}
 use Rattle.ml_realize_text.proofs.LineWords.{number_is_word, one_reply, one_step, play_are_words, reply_are_words, step_are_words}
 use Rattle.ml_realize_text.proofs.SetWords.{set_some}

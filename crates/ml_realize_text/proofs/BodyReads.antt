@@ -8,7 +8,7 @@
 --   step_read, step_none      == the line of a step
 --   reply_read                == the line of a next state
 --   not_below                 == a number that isn't below another one
-use Rattle.std.proofs.Common.{◌≡◌, ◌≢◌, ℕ, ◌+◌, ◌<◌, ◌≤◌, ◌^◌, ◌/◌, ◌%◌, List, [], ◌∷◌, ◌++◌, length, drop, Option, None, Some, MatchOption, codes, inl, inr, refl, sym, ap, subst, ◌∙◌, append_assoc, length-append, arith}
+use Rattle.std.proofs.Common.{◌≡◌, ◌≢◌, ℕ, ◌<◌, ◌≤◌, ◌^◌, ◌/◌, ◌%◌, List, [], ◌∷◌, ◌++◌, length, drop, Option, None, Some, MatchOption, codes, inl, inr, sym, ap, ◌∙◌, append_assoc, length-append, arith}
 use Rattle.std.proofs.lemmas.List.{append_cancel_left}
 use Rattle.ml_lines.specs.Lines.{Line, Word, number}
 use Rattle.ml_lines.specs.Reading.{AreWords, IsTextBehind, value}

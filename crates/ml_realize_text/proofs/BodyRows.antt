@@ -8,16 +8,16 @@
 --   rows_lead, rows_read       == so with the rows of a machine
 --   PlayFits                   == a state plays a set of inputs, and has a next state for each set of outputs
 --   plays_lead, plays_read     == so with the states of an environment
-use Rattle.std.proofs.Common.{codes, ◌≡◌, ℕ, suc, ◌+◌, ◌-◌, ◌<◌, ◌≤◌, ◌^◌, List, [], ◌∷◌, ◌++◌, length, map, get_or, drop, refl, sym, ap, subst, ◌∙◌, append_assoc, arith}
+use Rattle.std.proofs.Common.{codes, ◌≡◌, ℕ, ◌+◌, ◌<◌, ◌^◌, List, [], ◌∷◌, ◌++◌, length, map, refl, sym, ap, subst, ◌∙◌, arith}
 use Rattle.std.specs.List.{AllByRecursion, enumerate_from, flat_map}
 use Rattle.ml_lines.specs.Lines.{Line, Word}
 use Rattle.ml_lines.specs.Reading.{AreWords, value, word}
 use Rattle.ml_lists.specs.Documents.{Format, rule}
 use Rattle.ml_lists.specs.Readings.{IsReadable}
 use Rattle.ml_synthesis.specs.declared.machines.MachineStep.{MachineStep}
-use Rattle.ml_realize_text.specs.RealizeRules.{AtPlay, AtReply, AtState, AtStep, Place, Signals, at_reply, at_state, at_step, realize}
-use Rattle.ml_realize_text.specs.RealizeText.{answer_line, environment_state_lines, machine_state_lines, play_line, state_line, step_line}
-use Rattle.ml_realize_text.specs.private.Reads.{IsReply, IsStep, PlayFits, PlayRow, RowFits, StepFits, environment_of, machine_of}
+use Rattle.ml_realize_text.specs.RealizeRules.{AtReply, AtState, AtStep, Place, Signals, at_reply, at_state, at_step, realize}
+use Rattle.ml_realize_text.specs.RealizeText.{answer_line, machine_state_lines, play_line, state_line, step_line}
+use Rattle.ml_realize_text.specs.private.Reads.{PlayFits, PlayRow, RowFits, StepFits, environment_of, machine_of}
 use Rattle.ml_realize_text.proofs.BodyLines.{numbered_back, play_back, play_good, reply_back, reply_good, state_good, step_back, step_good}
 use Rattle.ml_realize_text.proofs.InTurn.{AreRead, LeadOn, Read, Reads, in_turn, read_in_turn, runs_in_turn}
 use Rattle.ml_realize_text.proofs.Places.{replies_done, reply_next, state_next, step_next, steps_done}

@@ -3,10 +3,10 @@
 --   decided_set      == that words are a set of names
 --   decided_step, decided_reply == that a line is that of a step, or of a next state
 --   judges           == each line is judged at each place
-use Rattle.std.proofs.Common.{◌≡◌, ◌≢◌, ℕ, ◌+◌, ◌*◌, ◌<◌, ◌^◌, ◌⊎◌, List, [], ◌∷◌, ◌++◌, length, drop, get_or, codes, inl, inr, refl, sym, ap, subst, ◌∙◌, append_assoc, length-append, ⊎_elim, arith}
+use Rattle.std.proofs.Common.{◌≡◌, ◌≢◌, ℕ, ◌+◌, ◌*◌, ◌<◌, ◌^◌, ◌⊎◌, List, [], ◌∷◌, ◌++◌, length, drop, get_or, codes, inl, inr, refl, sym, ap, subst, ◌∙◌, append_assoc, length-append, arith}
 use Rattle.std.proofs.lemmas.List.{append_cancel_left}
 use Rattle.ml_lines.specs.Lines.{Line, Word}
-use Rattle.ml_lines.specs.Reading.{AreWords, IsNumber, IsTextBehind, IsWordBehind, value, word}
+use Rattle.ml_lines.specs.Reading.{AreWords, IsTextBehind, IsWordBehind, value, word}
 use Rattle.ml_lines.proofs.DecidedWords.{decided_line, decided_number, decided_words}
 use Rattle.ml_lists.specs.Readings.{Judges}
 use Rattle.ml_lists.proofs.Decided as is
@@ -15,7 +15,8 @@ use Rattle.ml_lists.proofs.Documents.{judged}
 use Rattle.ml_task.specs.TaskText as task
 use Rattle.ml_task.proofs.JudgedLines as tasks
 use Rattle.ml_task.specs.NameSets.{members}
-use Rattle.ml_realize_text.specs.RealizeRules.{AtAnswer, AtEnd, AtFormula, AtInputs, AtNothing, AtOutputs, AtPlay, AtReply, AtState, AtStates, AtStep, AtTitle, IsReplyLine, IsSet, IsStepLine, Signals, realize, reply_words, rules, step_words}
+use Rattle.ml_realize_text.specs.RealizeRules.{AtAnswer, AtEnd, AtFormula, AtInputs, AtNothing, AtOutputs, AtPlay, AtReply, AtState, AtStates}
+use Rattle.ml_realize_text.specs.RealizeRules.{AtStep, AtTitle, IsReplyLine, IsSet, IsStepLine, realize, rules}
 use Rattle.ml_realize_text.specs.RealizeText.{end_line, or_dash, set_words, title_line, told_line}
 use Rattle.ml_realize_text.specs.declared.answer.Answer.{Answer}
 use Rattle.ml_realize_text.specs.declared.answer.Answer.TheVariants.{Realizable, Undecided, Unrealizable}

@@ -2,11 +2,10 @@
 --
 --   document_readable   == the text of a task and an outcome has no bad line
 --   readable_document   == a text without a bad line is one of a task and an outcome
-use Rattle.std.proofs.Common.{◌≡◌, ◌≢◌, ℕ, ◌+◌, ◌<◌, ◌^◌, true, false, List, [], ◌∷◌, ◌++◌, length, drop, slice_index_or, codes, refl, sym, ap, subst, ◌∙◌, arith}
+use Rattle.std.proofs.Common.{◌≡◌, ℕ, true, List, [], ◌∷◌, ◌++◌, drop, slice_index_or, codes, refl, sym, ap, subst, ◌∙◌}
 use Rattle.std.specs.List.{AllByRecursion, list_all}
-use Rattle.std.specs.Str.{bytes_eq}
 use Rattle.std.proofs.lemmas.Bool.{and_parts}
-use Rattle.ml_lines.specs.Lines.{Line, Word}
+use Rattle.ml_lines.specs.Lines.{Line}
 use Rattle.ml_lines.specs.Reading.{AreWords, is_word, left_of, lines_of, word, words_of}
 use Rattle.ml_lists.specs.Readings.{IsReadable}
 use Rattle.ml_synthesis.specs.declared.outcome.Outcome.{Outcome}
@@ -16,8 +15,8 @@ use Rattle.ml_task.specs.TaskText as tasks
 use Rattle.ml_task.specs.TaskText.{IsTaskText, task, task_lines}
 use Rattle.ml_task.proofs.ReadableTasks.{readable_task, task_readable}
 use Rattle.ml_realize_text.specs.ReadText.{IsRealizeText}
-use Rattle.ml_realize_text.specs.RealizeRules.{AtFormula, AtInputs, AtOutputs, AtStates, AtTitle, realize, told}
-use Rattle.ml_realize_text.specs.RealizeText.{end_line, outcome_answer, outcome_lines, title_line, told_line}
+use Rattle.ml_realize_text.specs.RealizeRules.{AtInputs, AtStates, AtTitle, realize, told}
+use Rattle.ml_realize_text.specs.RealizeText.{outcome_answer, title_line, told_line}
 use Rattle.ml_realize_text.specs.declared.answer.Answer.{Answer}
 use Rattle.ml_realize_text.specs.declared.answer.Answer.TheVariants.{Realizable, Undecided, Unrealizable}
 use Rattle.ml_realize_text.specs.private.Reads.{environment_of, machine_of}

@@ -6,7 +6,7 @@
 --   step_are_words, reply_are_words, play_are_words == so have those of the lines of a state
 --   last_two           == two words at an end stand apart from those before them in one way
 --   one_step, one_reply == a line has one reading at its place
-use Rattle.std.proofs.Common.{◌≡◌, ℕ, suc, ◌+◌, ◌<◌, ◌^◌, ◌/◌, ◌%◌, ◌==◌, ◌&&◌, Bool, true, false, List, [], ◌∷◌, ◌++◌, length, drop, get_or, codes, refl, sym, ap, ◌∙◌, length-append, arith, if◌then◌else◌}
+use Rattle.std.proofs.Common.{◌≡◌, ℕ, ◌<◌, ◌^◌, ◌/◌, ◌%◌, ◌==◌, Bool, true, false, List, [], ◌∷◌, ◌++◌, length, drop, get_or, codes, refl, sym, ap, ◌∙◌, length-append, arith, if◌then◌else◌}
 use Rattle.std.specs.List.{list_all}
 use Rattle.std.proofs.lemmas.Bool.{and_from, and_parts}
 use Rattle.std.proofs.lemmas.List.{append_cancel_left}
@@ -16,7 +16,7 @@ use Rattle.ml_lines.specs.Reading.{AreWords, is_word}
 use Rattle.ml_lines.proofs.WordBytes.{number-is_word}
 use Rattle.ml_synthesis.specs.declared.machines.MachineStep.{MachineStep}
 use Rattle.ml_task.specs.NameSets.{members}
-use Rattle.ml_realize_text.specs.RealizeRules.{IsReplyLine, IsStepLine, reply_words, step_words}
+use Rattle.ml_realize_text.specs.RealizeRules.{IsReplyLine, IsStepLine}
 use Rattle.ml_realize_text.specs.RealizeText.{answer_line, or_dash, play_line, set_words, step_line}
 
 pub words_more : (ws vs : List Word) → AreWords ws → AreWords vs → AreWords (ws ++ vs)

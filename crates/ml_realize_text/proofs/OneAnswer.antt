@@ -2,7 +2,7 @@
 --
 --   text_or_fault, some_reading, one_fault   == so it is
 --   rules_rise                               == the numbers of the rules of a line rise
-use Rattle.std.proofs.Common.{ℕ, ◌<◌, List, [], ◌∷◌, inl, inr, ⊎_elim, arith}
+use Rattle.std.proofs.Common.{ℕ, ◌<◌, [], ◌∷◌, inl, inr, ⊎_elim, arith}
 use Rattle.ml_base.specs.declared.doc_fault.DocFault.{DocFault}
 use Rattle.ml_lines.specs.Reading.{left_of, lines_of}
 use Rattle.ml_lines.proofs.Faults as faults

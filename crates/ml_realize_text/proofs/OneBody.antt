@@ -2,14 +2,14 @@
 --
 --   Names ns            == each name comes once, and none is `-`
 --   one_machine, one_environment == so it is
-use Rattle.std.proofs.Common.{◌≡◌, ℕ, suc, ◌+◌, ◌<◌, ◌^◌, false, List, [], ◌∷◌, ◌++◌, length, map, drop, get_or, codes, refl, sym, ap, subst, ◌∙◌, append_assoc, arith}
+use Rattle.std.proofs.Common.{◌≡◌, ℕ, ◌+◌, ◌<◌, ◌^◌, false, List, [], ◌∷◌, ◌++◌, length, map, drop, get_or, codes, refl, sym, ap, subst, ◌∙◌, append_assoc, arith}
 use Rattle.std.specs.List.{AllByRecursion, enumerate_from, flat_map}
 use Rattle.std.proofs.lemmas.List.{append_cancel_left}
 use Rattle.ml_lines.specs.Lines.{Line, Word, number}
 use Rattle.ml_lines.specs.Reading.{value, word}
 use Rattle.ml_synthesis.specs.Machines.{EnvironmentFits, EnvironmentTable, MachineFits, MachineTable}
 use Rattle.ml_synthesis.specs.declared.machines.MachineStep.{MachineStep}
-use Rattle.ml_realize_text.specs.RealizeText.{answer_line, end_line, environment_lines, environment_state_lines, machine_lines, machine_state_lines, play_line, set_words, state_line, states_line, step_line}
+use Rattle.ml_realize_text.specs.RealizeText.{answer_line, end_line, environment_lines, environment_state_lines, machine_lines, machine_state_lines, play_line, set_words, state_line, step_line}
 use Rattle.ml_realize_text.specs.private.Reads.{PlayFits, PlayRow, RowFits, StepFits}
 use Rattle.ml_realize_text.proofs.BodyLines.{value_back}
 use Rattle.ml_realize_text.proofs.LineWords.{last_two}

@@ -7,7 +7,7 @@
 --   later_found, later_missing == where it isn't, all words are, or are of none
 --   dash_is_set     == `-` is the empty set
 --   members_are_set == words of a text that isn't `-` are a set exactly where they are the members of one
-use Rattle.std.proofs.Common.{◌≡◌, ◌≢◌, ℕ, ◌+◌, ◌*◌, ◌<◌, ◌≤◌, ◌^◌, ◌/◌, ◌%◌, ◌⊎◌, List, [], ◌∷◌, ◌++◌, length, drop, get_or, Option, None, Some, MatchOption, codes, inl, inr, refl, sym, ap, subst, ◌∙◌, arith}
+use Rattle.std.proofs.Common.{◌≡◌, ◌≢◌, ℕ, ◌+◌, ◌*◌, ◌<◌, ◌^◌, ◌/◌, ◌%◌, ◌⊎◌, List, [], ◌∷◌, ◌++◌, length, drop, get_or, Option, None, Some, MatchOption, codes, inl, inr, sym, ap, ◌∙◌, arith}
 use Rattle.std.specs.List.{join_with_byte}
 use Rattle.std.proofs.lemmas.List.Splits.{join_with_byte-slice_split}
 use Rattle.ml_lines.specs.Lines.{Line, Word}
@@ -16,7 +16,7 @@ use Rattle.ml_lines.proofs.Cuts.{some_part}
 use Rattle.ml_realize_text.specs.RealizeRules.{IsSet}
 use Rattle.ml_realize_text.specs.RealizeText.{or_dash, set_words}
 use Rattle.ml_task.specs.NameSets.{members}
-use Rattle.ml_realize_text.proofs.SetWords.{IsMembers, fewer_members, members_alone, no_words, none_members, odd_or_even, some_words, twice, with_first, with_name, without_first, without_name}
+use Rattle.ml_realize_text.proofs.SetWords.{fewer_members, members_alone, no_words, odd_or_even, some_words, twice, with_first, with_name, without_first, without_name}
 
 -- ---- behind a set
 

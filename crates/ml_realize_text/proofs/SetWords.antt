@@ -7,11 +7,11 @@
 --   set_some                == the words of a set are some
 --   fewer_members           == the members of a set but for the first one are those of a set
 --   IsMembers               == the words are the members of some set
-use Rattle.std.proofs.Common.{◌≡◌, ◌≢◌, ℕ, zero, suc, ◌+◌, ◌*◌, ◌<◌, ◌≤◌, ◌^◌, ◌/◌, ◌%◌, ◌==◌, ◌⊎◌, Bool, true, false, List, [], ◌∷◌, ◌++◌, length, drop, get_or, codes, if◌then◌else◌, inl, inr, refl, sym, ap, subst, ◌∙◌, arith}
+use Rattle.std.proofs.Common.{◌≡◌, ◌≢◌, ℕ, ◌+◌, ◌*◌, ◌<◌, ◌^◌, ◌/◌, ◌%◌, ◌==◌, ◌⊎◌, true, false, List, [], ◌∷◌, length, drop, codes, if◌then◌else◌, inl, inr, refl, sym, ap, ◌∙◌, arith}
 use Rattle.std.proofs.lemmas.Bool.{cases_eq}
 use Rattle.std.proofs.lemmas.Bool.Decides.{nat_tests}
 use Rattle.std.proofs.Math.Nat.{pow-succ'}
-use Rattle.ml_lines.specs.Lines.{Line, Word}
+use Rattle.ml_lines.specs.Lines.{Word}
 use Rattle.ml_realize_text.specs.RealizeText.{or_dash, set_words}
 use Rattle.ml_task.specs.NameSets.{members}
 

@@ -8,12 +8,12 @@
 --   rows_back         == the two lists of these rows are those of the environment
 --   environment_rows, rows_environment == so with environments
 --   environment_turn  == the lines of an environment are those of its rows
-use Rattle.std.proofs.Common.{◌≡◌, ℕ, zero, suc, ◌+◌, ◌<◌, ◌^◌, List, [], ◌∷◌, ◌++◌, length, map, get_or, drop, refl, sym, ap, subst, ◌∙◌, arith}
+use Rattle.std.proofs.Common.{◌≡◌, ℕ, zero, suc, ◌+◌, ◌<◌, ◌^◌, List, [], ◌∷◌, ◌++◌, length, map, get_or, refl, sym, ap, subst, ◌∙◌, arith}
 use Rattle.std.specs.List.{AllByRecursion, enumerate_from, flat_map}
 use Rattle.ml_lines.specs.Lines.{Line, Word}
-use Rattle.ml_synthesis.specs.Machines.{EnvironmentFits, EnvironmentTable, MachineFits, MachineTable, next_at, play_at, step_at}
+use Rattle.ml_synthesis.specs.Machines.{EnvironmentFits, EnvironmentTable, MachineFits, MachineTable, next_at, step_at}
 use Rattle.ml_synthesis.specs.declared.machines.MachineStep.{MachineStep}
-use Rattle.ml_realize_text.specs.RealizeText.{answer_line, environment_lines, environment_state_lines, play_line, state_line}
+use Rattle.ml_realize_text.specs.RealizeText.{answer_line, environment_state_lines, play_line, state_line}
 use Rattle.ml_realize_text.specs.private.Reads.{PlayFits, PlayRow, RowFits, StepFits}
 
 module _ {X : Type 0} (P : X → Type 0) where

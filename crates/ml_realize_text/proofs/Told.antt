@@ -2,10 +2,10 @@
 --
 --   line_refused, missing_refused   == the next line is refused, and a missing one
 --   missing_X                       == a missing line is not of the kind that stands at X
-use Rattle.std.proofs.Common.{◌≡◌, ℕ, ◌+◌, List, [], ◌∷◌, inl, refl, sym, subst}
+use Rattle.std.proofs.Common.{◌≡◌, ℕ, [], ◌∷◌, inl, refl, sym, subst}
 use Rattle.ml_base.specs.declared.doc_refusal.DocRefusal.{DocRefusal}
 use Rattle.ml_base.specs.declared.doc_refusal.DocRefusal.TheVariants as refused
-use Rattle.ml_lines.specs.Lines.{Line, Word}
+use Rattle.ml_lines.specs.Lines.{Line}
 use Rattle.ml_lines.specs.Reading.{lines_of}
 use Rattle.ml_realize_text.specs.RealizeRules.{AtEnd, AtPlay, AtReply, AtState, AtStates, AtStep, Place, Signals, rule_number}
 use Rattle.ml_realize_text.specs.private.Reads.{Breaks, Goes, TellsFault}

@@ -4,8 +4,9 @@
 --   are_plain            == the lines of an outcome that fits are made of such words
 --   lines_of_all         == the lines of written ones, whose bytes have no LF
 --   written_reads_back   == so it is
-use Rattle.std.proofs.Common.{◌≡◌, ℕ, ◌+◌, ◌<◌, ◌≤◌, ◌^◌, ◌/◌, ◌%◌, ◌==◌, ◌&&◌, ◌||◌, Bool, true, false, nat_le, List, [], ◌∷◌, ◌++◌, length, map, get_or, codes, refl, sym, ap, subst, ◌∙◌, append_assoc, if◌then◌else◌, arith}
-use Rattle.std.specs.List.{AllByRecursion, enumerate_from, flat_map, list_all, list_any}
+use Rattle.std.proofs.Common.{◌≡◌, ℕ, ◌+◌, ◌<◌, ◌≤◌, ◌^◌, ◌/◌, ◌%◌, ◌==◌, ◌||◌, Bool, true, false, nat_le}
+use Rattle.std.proofs.Common.{List, [], ◌∷◌, ◌++◌, length, map, get_or, codes, refl, sym, ap, subst, ◌∙◌, append_assoc, if◌then◌else◌, arith}
+use Rattle.std.specs.List.{AllByRecursion, enumerate_from, flat_map, list_all}
 use Rattle.std.proofs.lemmas.Bool.{and_parts}
 use Rattle.std.proofs.lemmas.Bool.Decides.{nat_tests}
 use Rattle.std.proofs.lemmas.Fmt.{decimal_by_steps}
@@ -14,7 +15,6 @@ use Rattle.std.proofs.lemmas.List.Folds.{list_all-append, list_any-append}
 use Rattle.ml_base.specs.Name.{longest_name}
 use Rattle.ml_ctl.specs.Canonical.{canonical_text}
 use Rattle.ml_ctl.specs.Spelling.{is_proposition}
-use Rattle.ml_ctl.specs.WellFormed.{IsWellFormed}
 use Rattle.ml_ctl.specs.declared.language.Language.TheVariants.{Ltl}
 use Rattle.ml_ctl.proofs.CanonicalParsed.{canonical_parsed}
 use Rattle.ml_lines.specs.Lines.{Line, Word, line_text, number, text_of}
@@ -28,8 +28,9 @@ use Rattle.ml_synthesis.specs.declared.outcome.Outcome.TheVariants as outcome
 use Rattle.ml_task.specs.NameSets.{members}
 use Rattle.ml_task.specs.Task.{IsTask, Task, is_named}
 use Rattle.ml_realize_text.specs.Laws.{WrittenReadsBack}
-use Rattle.ml_realize_text.specs.ReadText.{Fits, IsRealizeText, states_of}
-use Rattle.ml_realize_text.specs.RealizeText.{answer_line, answer_word, end_line, environment_lines, environment_state_lines, head_lines, machine_lines, machine_state_lines, or_dash, outcome_answer, outcome_lines, outcome_text, play_line, set_words, state_line, states_line, step_line, title_line, told_line}
+use Rattle.ml_realize_text.specs.ReadText.{Fits, states_of}
+use Rattle.ml_realize_text.specs.RealizeText.{answer_line, end_line, environment_lines, head_lines, machine_state_lines, or_dash}
+use Rattle.ml_realize_text.specs.RealizeText.{outcome_answer, outcome_lines, play_line, set_words, state_line, step_line, title_line, told_line}
 use Rattle.ml_realize_text.specs.declared.answer.Answer.{Answer}
 use Rattle.ml_realize_text.specs.declared.answer.Answer.TheVariants.{Realizable, Undecided, Unrealizable}
 use Rattle.ml_realize_text.specs.private.Reads.{PlayFits, PlayRow, RowFits, StepFits}

@@ -1,6 +1,6 @@
-use Rattle.std.proofs.Common.{◌≡◌, ◌≢◌, ◌*◌, ◌+◌, ◌<◌, ◌^◌, ◌∷◌, [], ℕ, length, sym, ap, subst, ◌∙◌}
+use Rattle.std.proofs.Common.{◌≡◌, ◌≢◌, ◌*◌, ◌+◌, ◌<◌, ◌^◌, ℕ, length, sym, ap, subst, ◌∙◌}
 use Rattle.std.specs.Option.{option_copied}
-use Rattle.ml_lines.specs.Reading.{words_behind, words_of}
+use Rattle.ml_lines.specs.Reading.{words_behind}
 use Rattle.ml_realize_text.proofs.FixedWords.{same_word}
 use Rattle.ml_realize_text.proofs.SetReads.{below_odd, first_found, first_missing, none_without_names}
 use Rattle.ml_realize_text.proofs.SetWords.{none_members, some_sets}

@@ -1,4 +1,4 @@
-use Rattle.std.proofs.Common.{codes, arith, ◌<◌, ◌^◌, length}
+use Rattle.std.proofs.Common.{codes}
 use Rattle.ml_realize_text.proofs.FixedWords.{other_word, same_word}
 use Rattle.ml_realize_text.proofs.SetReads.{dash_is_set, members_are_set}
 use Rattle.ml_realize_text.proofs.SetWords.{some_sets}

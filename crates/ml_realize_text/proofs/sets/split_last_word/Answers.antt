@@ -1,5 +1,4 @@
-use Rattle.std.proofs.Common.{◌+◌, ◌∷◌, ◌++◌, [], take, ap, sym, ◌∙◌}
-use Rattle.memchr.specs.Find.{IsLastByte, is_byte}
+use Rattle.std.proofs.Common.{◌+◌, ◌∷◌, ◌++◌, [], take, ap, ◌∙◌}
 use Rattle.ml_lines.specs.Reading.{words_of}
 use Rattle.ml_lines.proofs.Cuts.{slice_end}
 use Rattle.ml_realize_text.proofs.LastWords.{last_word_at, no_blank}
