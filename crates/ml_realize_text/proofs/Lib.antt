@@ -50,3 +50,7 @@ pub mod Told
 pub mod Ends
 -- the parts of the lines of a body, as they are read
 pub mod BodyReads
+-- lists that are read item by item
+pub mod ListedLines
+-- the steps and the rows of a machine, as they are read
+pub mod MachineRead

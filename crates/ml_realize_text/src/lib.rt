@@ -18,6 +18,7 @@ mod line_rule;
 mod lines;
 mod machines;
 mod read_lines;
+mod read_machine;
 mod rest;
 mod sets;
 mod writing;
