@@ -1,4 +1,4 @@
-use Rattle.std.proofs.Common.{◌≡◌, ◌+◌, ◌<◌, ◌≤◌, ◌^◌, [], ◌∷◌, ◌++◌, length, refl, sym, subst, length-append, arith}
+use Rattle.std.proofs.Common.{◌≡◌, ◌+◌, ◌<◌, ◌^◌, [], ◌∷◌, ◌++◌, length, refl, sym, subst, length-append, arith}
 use Rattle.ml_realize_text.specs.RealizeRules.{AtStep}
 use Rattle.ml_realize_text.specs.RealizeText.{step_line}
 use Rattle.ml_realize_text.specs.private.Reads.{Goes, TellsFault, machine_of}
