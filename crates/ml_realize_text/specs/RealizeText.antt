@@ -15,7 +15,9 @@
 -- k-th name. The body of what is undecided is one line, `cause positions N` or `cause closure N`.
 --
 --   Answer                  == realizable, unrealizable or undecided
---   head_lines a t          == the first five lines about the task t
+--   title_line, told_line a == the first line, and the second one, which tells the answer a
+--   lines_about a t ws      == the first five lines about the task t, with the words ws for its formula
+--   head_lines a t          == so with the formula's canonical text
 --   set_words ns s          == the set as words
 --   step_line ins outs x    == the line of the step x.1 on the set x.0 of inputs
 --   machine_lines ins outs m == the lines of a machine with these inputs and outputs
@@ -47,14 +49,23 @@ answer_word Realizable = codes "realizable"
 answer_word Unrealizable = codes "unrealizable"
 answer_word Undecided = codes "undecided"
 
-abbrev pub head_lines : Answer → Task → List Line
-head_lines a t =
-    (codes "mlsolver" ∷ codes "realize" ∷ codes "1" ∷ [])
-    ∷ (codes "answer" ∷ answer_word a ∷ [])
+abbrev pub title_line : Line
+title_line = codes "mlsolver" ∷ codes "realize" ∷ codes "1" ∷ []
+
+abbrev pub told_line : Answer → Line
+told_line a = codes "answer" ∷ answer_word a ∷ []
+
+abbrev pub lines_about : Answer → Task → Line → List Line
+lines_about a t words =
+    title_line
+    ∷ told_line a
     ∷ (codes "inputs" ∷ t.inputs)
     ∷ (codes "outputs" ∷ t.outputs)
-    ∷ (codes "formula" ∷ canonical_text t.formula ∷ [])
+    ∷ (codes "formula" ∷ words)
     ∷ []
+
+abbrev pub head_lines : Answer → Task → List Line
+head_lines a t = lines_about a t (canonical_text t.formula ∷ [])
 
 -- ---- sets
 

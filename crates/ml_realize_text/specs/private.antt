@@ -2,3 +2,5 @@
 
 -- rows of steps
 pub mod Rows
+-- what the reader of a document knows
+pub mod Reads
