@@ -25,10 +25,10 @@ module _ (g : Guide) (p to : ℕ) where
           → (flag_of g p to b ≡ true) ⊎ (order_of g p < order_of g to)
       by (inl less) full = inr (ltb-true (order_of g p) (order_of g to) less)
       by (inr level) (inl full) =
-          inl (cond-false (nat_lt (order_of g p) (order_of g to)) false (if is_full g p then true else b) level
+          inl (cond-false (nat_lt (order_of g p) (order_of g to)) (is_full g to) (if is_full g p then true else b) level
           ∙ cond-true (is_full g p) true b full)
       by (inr level) (inr free) =
-          inl (cond-false (nat_lt (order_of g p) (order_of g to)) false (if is_full g p then true else b) level
+          inl (cond-false (nat_lt (order_of g p) (order_of g to)) (is_full g to) (if is_full g p then true else b) level
           ∙ cond-false (is_full g p) true b free ∙ is)
 
   pub flag_from : (b : Bool) → flag_of g p to b ≡ true
@@ -41,7 +41,7 @@ module _ (g : Guide) (p to : ℕ) where
       by (inl less) full = inr (inl (ltb-true (order_of g p) (order_of g to) less))
       by (inr level) (inl full) = inr (inr full)
       by (inr level) (inr free) =
-          inl (sym (cond-false (nat_lt (order_of g p) (order_of g to)) false (if is_full g p then true else b) level
+          inl (sym (cond-false (nat_lt (order_of g p) (order_of g to)) (is_full g to) (if is_full g p then true else b) level
           ∙ cond-false (is_full g p) true b free) ∙ is)
 
 -- ---- automata

@@ -13,12 +13,13 @@ use crate::merging::mark_of_edge;
 use ml_base::NoMemory;
 use std::alloc::Global;
 
-// the flag of an edge from p: off loops none, and on full states one
+// the flag of an edge from p: on full states one, and off loops that of edges among the states to which it leads, if these
+// are full
 fn flag_of(guide: &Guide, p: usize, to: u32, accepting: bool) -> bool
     ensures { result ≡ trimming.flag_of guide.now p to accepting }
 {
     if guide.order_of(p) < guide.order_of(to as usize) {
-        return false;
+        return guide.is_full(to as usize);
     }
     if guide.is_full(p) {
         return true;

@@ -1,8 +1,8 @@
 -- How edges are left out, and flags changed.
 --
 -- A guide says of the states in which order they come, and which of them are dead or full. Edges into dead states are left
--- out, and edges that others cover. The flag of an edge that comes to a later state is cleared, and on full states the others
--- are set.
+-- out, and edges that others cover. On full states flags are set; that of an edge that comes to a later state is free, and is
+-- set where this one is full, so that a state has the edges of one to whose loop it leads, if it can.
 --
 --   order_of, depth_of g p, is_dead, is_full g p == what the guide g says of the state p
 --   IsGuided g p e        == it is right about the edge e of the state p, as to dead states (KeepsDead) and full ones (KeepsFull)
@@ -67,7 +67,7 @@ Guides g rows = (p : ℕ) (e : Edge) → IsMember e (get_or rows p []) → IsGui
 
 abbrev pub flag_of : Guide → ℕ → ℕ → Bool → Bool
 flag_of g p to accepting =
-    if nat_lt (order_of g p) (order_of g to) then false else (if is_full g p then true else accepting)
+    if nat_lt (order_of g p) (order_of g to) then is_full g to else (if is_full g p then true else accepting)
 
 abbrev pub flagged : Guide → ℕ → Edge → Edge
 flagged g p e = record { cube = e.cube; to = e.to; accepting = flag_of g p e.to e.accepting }
