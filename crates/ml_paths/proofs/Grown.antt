@@ -142,7 +142,7 @@ row_more a keys k row key letter so_far stands has_them = record {
         (so_far.are n label l before at is)
     by n label l low at is (inr past) =
         let here : n ≡ k = omega (arith, low, past) in
-        let same : label ≡ key = same_Some (sym at ∙ ap (slice_get keys) here ∙ stands) in
+        let same : label ≡ key = same_Some label key (sym at ∙ ap (slice_get keys) here ∙ stands) in
         subst (HasTransitions a l) (sym (get_or_push row letter [] n (so_far.one_each ∙ sym here)))
         (has_them l (subst (AreThoseIn a.graph l) same is))
 

@@ -13,6 +13,6 @@ pub mod Grown
 -- what is added to a system
 pub mod Moves
 -- words as structures
-pub mod Runs
+pub mod WordRuns
 -- labels and edges, as the program gathers them
 pub mod Gathered

@@ -4,12 +4,13 @@
 --   table_push   == a row in which a move is pushed
 --   goes_pushed  == what the system does then
 --   moved, unmoved == the move of an edge was added, or there is none
+--   back_more    == one state more, as a state of the structure
 --   system_none, system_more == the system of no edges, and that of one edge more
-use Rattle.std.proofs.Common.{ℕ, zero, suc, ◌≡◌, ◌↔◌, ◌<◌, ◌⊎◌, ◌==◌, ◌&&◌, ◌||◌, inl, inr, Bool, true, false, List, [], ◌∷◌, ◌++◌, length, map, get_or, set, refl, sym, ap, ◌∙◌, subst, codes, bytes_eq}
+use Rattle.std.proofs.Common.{ℕ, zero, suc, ◌≡◌, ◌↔◌, ◌<◌, ◌⊎◌, ◌==◌, ◌&&◌, ◌||◌, inl, inr, Bool, true, false, List, [], ◌∷◌, ◌++◌, length, map, get_or, set, take, ◌+◌, refl, sym, ap, ◌∙◌, subst, codes, bytes_eq}
 use Rattle.std.specs.Global.{Vec}
 use Rattle.std.specs.List.{list_any}
 use Rattle.std.proofs.lemmas.Bool.{and_from, and_parts, cases_eq, eq-eqb, eqb-true, false≢true, or_cases, or_left, or_right}
-use Rattle.std.proofs.lemmas.List.{get_or-map, get_or-set_other, get_or-set_same, length-set, map-set}
+use Rattle.std.proofs.lemmas.List.{get_or-map, get_or-set_other, get_or-set_same, length-set, map-append, map-set, take_more}
 use Rattle.std.proofs.lemmas.List.Folds.{list_any-append}
 use Rattle.ml_base.specs.Structure.{Structure}
 use Rattle.ml_base.specs.declared.structure.Edge.{Edge}
@@ -93,7 +94,7 @@ moved start numbers e t t' from letter to low from_is letter_is to_is is = recor
   );
 }
   where
-    abbrev New : ℕ → ℕ → ℕ → Type 0
+    New : ℕ → ℕ → ℕ → Type 0
     New a l b = (true ≡ true) × ((a ≡ swapped start e.source) × ((l ≡ number_of numbers e.source) × (b ≡ swapped start e.target)))
 
     there : (a l b : ℕ) → Goes t a l b ⊎ ((a ≡ from) × (move l b ≡ move letter to)) → Goes t a l b ⊎ New a l b
@@ -128,6 +129,12 @@ unmoved start numbers e t = record {
     back a l b (inl old) = old
     back a l b (inr new) = absurd (false≢true new.0)
 
+pub back_more : (start : ℕ) (xs : List ℕ) (i : ℕ)
+    → i < length xs
+    → map (swapped start) (take (i + 1) xs) ≡ map (swapped start) (take i xs) ++ swapped start (get_or xs i 0) ∷ []
+back_more start xs i low =
+    ap (map (swapped start)) (take_more xs i 0 low) ∙ map-append (swapped start) (take i xs) (get_or xs i 0 ∷ [])
+
 -- ---- the edges of a structure
 
 pub system_none : (m : Structure) (start : ℕ) (numbers : List ℕ) (t : SystemTable)
@@ -148,16 +155,16 @@ system_more m start numbers edges e t t' sys more = record {
   goes = λ a l b. (λ h. there a l b ((more.goes a l b).0 h), λ h. (more.goes a l b).1 (back a l b h));
 }
   where
-    abbrev blank : Bool
+    blank : Bool
     blank = bytes_eq e.action (codes "_")
 
-    abbrev leads : ℕ → ℕ → Edge → Bool
+    leads : ℕ → ℕ → Edge → Bool
     leads a b x = (x.source == swapped start a) && bytes_eq x.action (codes "_") && (x.target == swapped start b)
 
-    abbrev New : ℕ → ℕ → ℕ → Type 0
+    New : ℕ → ℕ → ℕ → Type 0
     New a l b = (blank ≡ true) × ((a ≡ swapped start e.source) × ((l ≡ number_of numbers e.source) × (b ≡ swapped start e.target)))
 
-    abbrev Has : ℕ → ℕ → ℕ → Type 0
+    Has : ℕ → ℕ → ℕ → Type 0
     Has a l b = (steps (edges ++ e ∷ []) (swapped start a) (swapped start b) ≡ true) × (l ≡ number_of numbers (swapped start a))
 
     all : (a b : ℕ) → steps (edges ++ e ∷ []) (swapped start a) (swapped start b)

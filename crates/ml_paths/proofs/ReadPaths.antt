@@ -3,7 +3,7 @@
 --   listed      == a list is made of what stands at its places
 --   read_path   == it accepts the numbers of the labels along a path exactly where the path satisfies the formula, or its
 --                  negation where the formula is negated
-use Rattle.std.proofs.Common.{ℕ, ◌≡◌, ◌<◌, ◌↔◌, arith, Bool, true, List, [], All, length, map, get_or, refl, sym, ap, ◌∙◌, subst, subst₂}
+use Rattle.std.proofs.Common.{ℕ, ◌≡◌, ◌+◌, ◌<◌, ◌↔◌, arith, Bool, true, List, [], All, length, map, get_or, refl, sym, ap, ◌∙◌, subst, subst₂}
 use Rattle.std.specs.List.{range_with_len}
 use Rattle.std.proofs.lemmas.List.{ext_get_or, get_or-map, length-map}
 use Rattle.std.proofs.lemmas.List.FromFn.{get_or-map-range_with_len, get_or-range_with_len, length-map-range_with_len, length-range_with_len}

@@ -74,17 +74,17 @@ module _ (m n : Structure) (l k : Lasso) (long : places l ≡ places k) (one : l
     untils : (c : ℕ)
         → Alike (iterate_of c (until_step (next_place l) F G) Nowhere) (iterate_of c (until_step (next_place k) P Q) Nowhere)
     untils zero i low = (λ none. none, λ none. none)
-    untils (suc c) =
+    untils (suc c) i low =
         until_more F G P Q (iterate_of c (until_step (next_place l) F G) Nowhere)
-        (iterate_of c (until_step (next_place k) P Q) Nowhere) f g (untils c)
+        (iterate_of c (until_step (next_place k) P Q) Nowhere) f g (untils c) i low
 
     releases : (c : ℕ)
         → Alike (iterate_of c (release_step (next_place l) F G) Everywhere)
         (iterate_of c (release_step (next_place k) P Q) Everywhere)
     releases zero i low = (λ all. all, λ all. all)
-    releases (suc c) =
+    releases (suc c) i low =
         release_more F G P Q (iterate_of c (release_step (next_place l) F G) Everywhere)
-        (iterate_of c (release_step (next_place k) P Q) Everywhere) f g (releases c)
+        (iterate_of c (release_step (next_place k) P Q) Everywhere) f g (releases c) i low
 
     until_alike : Alike (meaning.Until l F G) (meaning.Until k P Q)
     until_alike =
@@ -122,10 +122,10 @@ module _ (m n : Structure) (l k : Lasso) (long : places l ≡ places k) (one : l
       let a = truth_alike f parts.0 i low in
       let b = truth_alike g parts.1 i low in
       (λ t. (a.0 t.0, b.0 t.1), λ t. (a.1 t.0, b.1 t.1))
-  truth_alike (plain.Binary operator.Or f g) linear =
+  truth_alike (plain.Binary operator.Or f g) linear i low =
       let parts = and_parts (is_linear f) (is_linear g) linear in
       either_alike (TruthAt m l f) (TruthAt m l g) (TruthAt n k f) (TruthAt n k g) (truth_alike f parts.0)
-      (truth_alike g parts.1)
+      (truth_alike g parts.1) i low
   truth_alike (plain.Binary operator.Implies f g) linear i low =
       let parts = and_parts (is_linear f) (is_linear g) linear in
       let a = truth_alike f parts.0 i low in
@@ -143,27 +143,27 @@ module _ (m n : Structure) (l k : Lasso) (long : places l ≡ places k) (one : l
         λ t. subst (TruthAt n k g) (next_same i) (a.0 t),
         λ t. a.1 (subst (TruthAt n k g) (sym (next_same i)) t),
       )
-  truth_alike (plain.Temporal tense.Finally g) linear =
-      until_alike Everywhere (TruthAt m l g) Everywhere (TruthAt n k g) (λ i low. (λ u. u, λ u. u))
-      (truth_alike g linear)
-  truth_alike (plain.Temporal tense.Globally g) linear =
-      release_alike Nowhere (TruthAt m l g) Nowhere (TruthAt n k g) (λ i low. (λ none. none, λ none. none))
-      (truth_alike g linear)
-  truth_alike (plain.Paired pairing.Until f g) linear =
+  truth_alike (plain.Temporal tense.Finally g) linear i low =
+      until_alike Everywhere (TruthAt m l g) Everywhere (TruthAt n k g) (λ j inside. (λ u. u, λ u. u))
+      (truth_alike g linear) i low
+  truth_alike (plain.Temporal tense.Globally g) linear i low =
+      release_alike Nowhere (TruthAt m l g) Nowhere (TruthAt n k g) (λ j inside. (λ none. none, λ none. none))
+      (truth_alike g linear) i low
+  truth_alike (plain.Paired pairing.Until f g) linear i low =
       let parts = and_parts (is_linear f) (is_linear g) linear in
       until_alike (TruthAt m l f) (TruthAt m l g) (TruthAt n k f) (TruthAt n k g) (truth_alike f parts.0)
-      (truth_alike g parts.1)
-  truth_alike (plain.Paired pairing.Release f g) linear =
+      (truth_alike g parts.1) i low
+  truth_alike (plain.Paired pairing.Release f g) linear i low =
       let parts = and_parts (is_linear f) (is_linear g) linear in
       release_alike (TruthAt m l f) (TruthAt m l g) (TruthAt n k f) (TruthAt n k g) (truth_alike f parts.0)
-      (truth_alike g parts.1)
-  truth_alike (plain.Paired pairing.Weak f g) linear =
+      (truth_alike g parts.1) i low
+  truth_alike (plain.Paired pairing.Weak f g) linear i low =
       let parts = and_parts (is_linear f) (is_linear g) linear in
       let a = truth_alike f parts.0 in
       let b = truth_alike g parts.1 in
       release_alike (TruthAt m l g) (λ i. TruthAt m l f i ⊎ TruthAt m l g i) (TruthAt n k g)
       (λ i. TruthAt n k f i ⊎ TruthAt n k g i) b
-      (either_alike (TruthAt m l f) (TruthAt m l g) (TruthAt n k f) (TruthAt n k g) a b)
+      (either_alike (TruthAt m l f) (TruthAt m l g) (TruthAt n k f) (TruthAt n k g) a b) i low
   truth_alike (plain.Quantified q f) linear i low = absurd (cc)
 
 -- ---- the word along a lasso
@@ -195,6 +195,7 @@ satisfied_along m l f starts linear =
     same : (i : ℕ) → i < places l → (p : List ℕ)
         → lists m (entry l i) p ≡ lists (word_structure w) (entry (word_path w) i) p
     same i low p =
-        let here : entry (word_path w) i ≡ i = get_or-range_with_len 0 (length w.word) i 0 (omega (arith, low, size)) in
+        let here : entry (word_path w) i ≡ i =
+        get_or-range_with_len 0 (length w.word) i 0 (omega (arith, low, size)) ∙ omega arith in
         ap (λ ls. lists (record { states = m.states; labels = ls ∷ []; edges = [] }) 0 p) (sym (labels_along m l.entries i low))
         ∙ ap (λ s. lists (word_structure w) s p) (sym here)

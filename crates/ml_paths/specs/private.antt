@@ -4,3 +4,5 @@
 pub mod Letters
 -- structures as systems
 pub mod Systems
+-- the parts of which the structure of a word is built
+pub mod Built

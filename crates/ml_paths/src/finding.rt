@@ -6,7 +6,7 @@ ghost use Rattle.ml_word_automaton.specs.Letters.{IsAutomatonOf};
 
 use crate::found::{Found, Path};
 use crate::letters::letters_of;
-use crate::systems::{swap_back, system_from};
+use crate::systems::{swapped_back, system_from};
 use ml_base::NoMemory;
 use ml_emptiness::{SystemLasso, accepted_lasso};
 use ml_graph::ClosureRefusal;
@@ -19,16 +19,11 @@ use std::alloc::Global;
 pub const MOST_NODES: u32 = 65_536;
 
 // the lasso of the system, as a path of the structure
-fn path_of(start: u32, lasso: SystemLasso) -> Path
-    ensures { result ≡ path_from start lasso }
+fn path_of(alloc: Global, start: u32, lasso: &SystemLasso) -> Result<Path, NoMemory>
+    ensures { IfOk result (λ path. path ≡ path_from start lasso.now) }
 {
-    let SystemLasso {
-        mut states,
-        letters: _,
-        loop_start,
-    } = lasso;
-    swap_back(start, &mut states);
-    Path::new(states, loop_start)
+    let states = swapped_back(alloc, start, &lasso.states)?;
+    Ok(Path::new(states, lasso.loop_start))
 }
 
 // a path that the automaton accepts
@@ -47,7 +42,7 @@ fn path_in(
     let letters = letters_of(alloc, automaton, structure)?;
     let system = system_from(alloc, structure, start, &letters.numbers)?;
     match accepted_lasso(alloc, &system, &letters.row)? {
-        Some(lasso) => Ok(Some(path_of(start, lasso))),
+        Some(lasso) => Ok(Some(path_of(alloc, start, &lasso)?)),
         None => Ok(None),
     }
 }

@@ -108,7 +108,7 @@ fn present(
 /// `NoMemory` alone.
 ///
 /// Cost: a look among the labels of the state for each proposition of the graph.
-pub(crate) fn label(
+pub(crate) fn label_of(
     alloc: Global,
     graph: &ModalGraph,
     structure: &Structure,

@@ -2,7 +2,7 @@
 ghost use Rattle.std.specs.Prelude.{◌≡◌, ◌<◌, [], IfOk, length};
 ghost use Rattle.ml_paths.specs.private.Letters.{AreNumbered, AreLettersOf, IsRowOf};
 
-use crate::labels::{Label, label, number};
+use crate::labels::{Label, label_of, number};
 use indexmap::IndexSet;
 use ml_base::NoMemory;
 use ml_graph::ModalGraph;
@@ -31,7 +31,7 @@ fn numbered(
     let states = structure.states();
     let mut numbers = Vec::with_capacity(alloc, states as usize)?;
     for state in 0..states {
-        let at = number(labels, label(alloc, graph, structure, state)?)?;
+        let at = number(labels, label_of(alloc, graph, structure, state)?)?;
         // no memory holds more labels than a number counts
         let Ok(number) = u32::try_from(at) else {
             return Err(NoMemory);

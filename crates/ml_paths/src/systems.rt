@@ -92,11 +92,16 @@ pub(crate) fn system_from(
 
 /// States of the system, as states of the structure.
 ///
+/// # Errors
+/// `NoMemory` alone.
+///
 /// Cost: linear in them.
-pub(crate) fn swap_back(start: u32, states: &mut Vec<u32>)
-    ensures { states.new.items ≡ map (swapped start) states.old.items }
+pub(crate) fn swapped_back(alloc: Global, start: u32, states: &[u32]) -> Result<Vec<u32>, NoMemory>
+    ensures { IfOk result (λ back. back.items ≡ map (swapped start) states.now) }
 {
-    for state in states.iter_mut() {
-        *state = swapped(start, *state);
+    let mut back = Vec::with_capacity(alloc, states.len())?;
+    for state in states {
+        back.push(swapped(start, *state))?;
     }
+    Ok(back)
 }

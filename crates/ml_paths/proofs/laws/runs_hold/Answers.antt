@@ -1,4 +1,4 @@
-use Rattle.ml_paths.proofs.Runs as runs
+use Rattle.ml_paths.proofs.WordRuns as runs
 use Rattle.ml_paths.proofs.laws.runs_hold.Goals as goal
 
 pub returns-clause-hold : goal.returns-clause-hold

@@ -4,7 +4,7 @@
 --   runs_admitted  == so it is one of words
 --   runs_hold      == and the problem holds at its first state
 --   shown_are_runs == the word of the labels along a path that is shown satisfies the formula
-use Rattle.std.proofs.Common.{ℕ, ◌≡◌, ◌<◌, ◌==◌, ◌&&◌, Bool, true, false, List, [], Contains, length, get_or, slice_index_or, codes, bytes_eq, refl, sym, ap, ◌∙◌, subst, arith, zero, suc}
+use Rattle.std.proofs.Common.{ℕ, ◌≡◌, ◌+◌, ◌<◌, ◌==◌, ◌&&◌, Bool, true, false, List, [], ◌∷◌, Contains, length, get_or, slice_index_or, codes, bytes_eq, refl, sym, ap, ◌∙◌, subst, arith, zero, suc}
 use Rattle.std.specs.List.{range_with_len}
 use Rattle.std.proofs.lemmas.List.FromFn.{get_or-range_with_len, length-range_with_len}
 use Rattle.ml_base.specs.Structure.{IsStructure, Structure, lists}
