@@ -7,7 +7,8 @@
 --   is_system      == the moves have letters, and lead to states
 --   found_shown    == a word that the automaton accepts is along a path that is asked for
 --   none_shown     == and where there is none, there is no such path
-use Rattle.std.proofs.Common.{ℕ, ◌≡◌, ◌+◌, ◌<◌, ◌≤◌, ◌⊎◌, inl, inr, arith, Bool, true, List, [], ◌∷◌, ◌++◌, length, map, get_or, refl, sym, ap, ◌∙◌, subst, subst₂}
+--   shown_of, none_of == so what is found in the system tells of paths
+use Rattle.std.proofs.Common.{ℕ, ◌≡◌, ◌+◌, ◌<◌, ◌≤◌, ◌⊎◌, inl, inr, arith, Bool, true, List, [], ◌∷◌, ◌++◌, length, map, get_or, Option, Some, None, MatchOption, refl, sym, ap, ◌∙◌, subst, subst₂}
 use Rattle.std.proofs.lemmas.Bool.{cases_lt}
 use Rattle.std.proofs.lemmas.List.{ext_get_or, get_or-map, length-map}
 use Rattle.ml_base.specs.Structure.{IsStructure, Structure}
@@ -15,8 +16,9 @@ use Rattle.ml_blocks.proofs.SaidItems.{path_states, step_states}
 use Rattle.ml_ctl.specs.Formula.{Formula}
 use Rattle.ml_ctl.specs.Paths.{IsPath, IsPathFrom, has_step, places}
 use Rattle.ml_ctl.specs.Sorts.{is_linear}
-use Rattle.ml_emptiness.specs.Emptiness.{IsAccepted, IsEmpty, reads}
+use Rattle.ml_emptiness.specs.Emptiness.{IsAccepted, IsEmpty, IsFound, reads}
 use Rattle.ml_emptiness.specs.Systems.{Goes, IsSystem, IsWordOn, SystemTable, moves_of}
+use Rattle.ml_emptiness.specs.declared.lassos.SystemLasso.{SystemLasso}
 use Rattle.ml_emptiness.specs.declared.systems.Move.{Move}
 use Rattle.ml_lists.specs.Lasso.{Lasso, entry, round}
 use Rattle.ml_lists.specs.Member.{IsMember}
@@ -26,7 +28,7 @@ use Rattle.ml_trace.specs.declared.letters.Transition.{Transition}
 use Rattle.ml_word_automaton.specs.Letters.{Automaton, IsAutomatonOf}
 use Rattle.ml_paths.specs.Paths.{IsShown}
 use Rattle.ml_paths.specs.private.Letters.{AreLettersOf, number_of}
-use Rattle.ml_paths.specs.private.Systems.{IsSystemOf, steps, swapped}
+use Rattle.ml_paths.specs.private.Systems.{IsSystemOf, path_from, swapped}
 use Rattle.ml_paths.proofs.ReadPaths.{read_path}
 use Rattle.ml_paths.proofs.Swapped.{swap_low, swap_start, swap_twice, swap_zero}
 
@@ -188,3 +190,21 @@ module _ (m : Structure) (ok : IsStructure m) (start : ℕ) (start_low : start <
     none_shown empty l shown =
         empty (mapped start l) (record { word = map (number_of numbers) l.entries; loop_start = l.start })
         (shown_found l shown)
+
+    -- what is found in the system
+    abbrev Told : Option SystemLasso → Type 0
+    Told o = MatchOption o (IsEmpty row s) (λ l. IsFound row s l.states.items l.letters.items l.loop_start)
+
+    pub shown_of : (o : Option SystemLasso) (x : SystemLasso)
+        → o ≡ Some x
+        → MatchOption o (IsEmpty row s) (λ l. IsFound row s l.states.items l.letters.items l.loop_start)
+        → IsShown m start f negated (path_from start x)
+    shown_of o x is told =
+        found_shown (record { entries = x.states.items; start = x.loop_start })
+        (record { word = x.letters.items; loop_start = x.loop_start }) (subst Told is told)
+
+    pub none_of : (o : Option SystemLasso)
+        → o ≡ None
+        → MatchOption o (IsEmpty row s) (λ l. IsFound row s l.states.items l.letters.items l.loop_start)
+        → (l : Lasso) → ¬ (IsShown m start f negated l)
+    none_of o is told = none_shown (subst Told is told)

@@ -28,19 +28,14 @@ use Rattle.ml_trace.specs.declared.letters.Transition.{Transition}
 use Rattle.ml_word_automaton.specs.Letters.{Automaton, HasTransitions, IsAutomatonOf}
 use Rattle.ml_word_automaton.proofs.BlockGraphs.{one_size}
 use Rattle.ml_paths.specs.Laws.{AreAlike, OnePath, SomePath}
-use Rattle.ml_paths.specs.Paths.{IsFound, IsLarge, labels_at, most_nodes}
+use Rattle.ml_paths.specs.Paths.{IsFound, labels_at, most_nodes}
 use Rattle.ml_paths.specs.declared.found.Found.{Found}
 use Rattle.ml_paths.specs.declared.found.Found.TheVariants.{ClosureTooLarge, NoPath, Path}
 use Rattle.ml_paths.specs.private.Letters.{AreLettersOf, number_of}
 use Rattle.ml_paths.specs.private.Systems.{IsSystemOf, steps, swapped}
 use Rattle.ml_paths.proofs.AsSystem.{found_shown, is_system, mapped, none_shown}
+use Rattle.ml_paths.proofs.ReadPaths.{not_large}
 use Rattle.ml_paths.proofs.Swapped.{swap_low, swap_twice}
-
--- an automaton with few nodes isn't large
-pub not_large : (f : Formula) (negated : Bool) (a : Automaton) → IsAutomatonOf a f negated → size a.graph ≤ most_nodes
-    → ¬ (IsLarge f negated)
-not_large f negated a is few more =
-    let low = (one_size f negated a.graph most_nodes is.is_graph).0 more in absurd (omega (arith, low, few))
 
 module _ (m : Structure) (ok : IsStructure m) where
   -- ---- letters: each state has one of its own

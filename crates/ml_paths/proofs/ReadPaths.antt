@@ -1,9 +1,10 @@
 -- Paths, as the word automaton of the formula reads them.
 --
+--   not_large   == an automaton with few nodes isn't large
 --   listed      == a list is made of what stands at its places
 --   read_path   == it accepts the numbers of the labels along a path exactly where the path satisfies the formula, or its
 --                  negation where the formula is negated
-use Rattle.std.proofs.Common.{ℕ, ◌≡◌, ◌+◌, ◌<◌, ◌↔◌, arith, Bool, true, List, [], All, length, map, get_or, refl, sym, ap, ◌∙◌, subst, subst₂}
+use Rattle.std.proofs.Common.{ℕ, ◌≡◌, ◌+◌, ◌<◌, ◌≤◌, ◌↔◌, arith, Bool, true, List, [], All, length, map, get_or, refl, sym, ap, ◌∙◌, subst, subst₂}
 use Rattle.std.specs.List.{range_with_len}
 use Rattle.std.proofs.lemmas.List.{ext_get_or, get_or-map, length-map}
 use Rattle.std.proofs.lemmas.List.FromFn.{get_or-map-range_with_len, get_or-range_with_len, length-map-range_with_len, length-range_with_len}
@@ -13,6 +14,7 @@ use Rattle.ml_ctl.specs.Meaning.{Satisfies}
 use Rattle.ml_ctl.specs.Paths.{places}
 use Rattle.ml_ctl.specs.Sorts.{is_linear}
 use Rattle.ml_emptiness.specs.Emptiness.{reads}
+use Rattle.ml_graph.specs.Graph.{size}
 use Rattle.ml_lists.specs.Lasso.{Lasso, entry}
 use Rattle.ml_lists.specs.Member.{IsMember}
 use Rattle.ml_lists.proofs.Ranges.{range-member}
@@ -23,12 +25,19 @@ use Rattle.ml_trace.specs.declared.letters.Transition.{Transition}
 use Rattle.ml_word_automaton.specs.Letters as by_letters
 use Rattle.ml_word_automaton.specs.Letters.{Automaton, HasTransitions, HasTransitionsOf, IsAutomatonOf, leads_by, letter_in}
 use Rattle.ml_word_automaton.specs.Words.{Letter, SatisfiedBy}
+use Rattle.ml_word_automaton.proofs.BlockGraphs.{one_size}
 use Rattle.ml_word_automaton.proofs.CarriedRuns.{accepted_back, accepted_there, read_as}
 use Rattle.ml_word_automaton.proofs.RowsAccept.{rows_accept}
-use Rattle.ml_paths.specs.Paths.{labels_at}
+use Rattle.ml_paths.specs.Paths.{IsLarge, labels_at, most_nodes}
 use Rattle.ml_paths.specs.Runs.{word_along}
 use Rattle.ml_paths.specs.private.Letters.{AreLettersOf, number_of}
 use Rattle.ml_paths.proofs.SameLabels.{satisfied_along, sense_linear}
+
+-- an automaton with few nodes isn't large
+pub not_large : (f : Formula) (negated : Bool) (a : Automaton) → IsAutomatonOf a f negated → size a.graph ≤ most_nodes
+    → ¬ (IsLarge f negated)
+not_large f negated a is few more =
+    let low = (one_size f negated a.graph most_nodes is.is_graph).0 more in absurd (omega (arith, low, few))
 
 pub listed : {X : Type 0} (xs : List X) (d : X) → map (λ i. get_or xs i d) (range_with_len 0 (length xs)) ≡ xs
 listed xs d =

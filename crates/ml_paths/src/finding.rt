@@ -31,14 +31,17 @@ fn path_in(
     alloc: Global,
     structure: &Structure,
     start: u32,
-    _formula: &Formula,
+    formula: &Formula,
     _negated: bool,
     automaton: &WordAutomaton,
 ) -> Result<Option<Path>, NoMemory>
     requires start { start < structure.now.states }
-    requires automaton { IsAutomatonOf automaton.now _formula.now _negated }
-    ensures { IfOk result (IsPathFound structure.now start _formula.now _negated) }
+    requires automaton { IsAutomatonOf automaton.now formula.now _negated }
+    ensures { IfOk result (IsPathFound structure.now start formula.now _negated) }
 {
+    // whoever asks a structure and a formula learns what their types keep
+    structure.keeps();
+    let _root = formula.root();
     let letters = letters_of(alloc, automaton, structure)?;
     let system = system_from(alloc, structure, start, &letters.numbers)?;
     match accepted_lasso(alloc, &system, &letters.row)? {
