@@ -17,7 +17,7 @@ accepted_lasso-requires c =
     (subst (λ xs. IsSystem (length row) (table_of xs)) (sym c.deref-2.ensures.value)
     (is_system m c.keeps.ensures.is_structure start c.requires.start numbers s
     (subst (λ ns. IsSystemOf m start ns m.edges s) c.deref.ensures.value c.in_ok-system.ensures) c.args.formula.now
-    c.args._negated c.root-_root.ensures.well_formed.is_of_logic c.args.automaton.now c.requires.automaton row
+    c.args._negated c.root-root.ensures.well_formed.is_of_logic c.args.automaton.now c.requires.automaton row
     c.in_ok-letters.ensures))
 
 pub returns-in-Some : goal.returns-in-Some
@@ -31,7 +31,7 @@ returns-in-Some c =
     subst (IsShown m start c.args.formula.now c.args._negated) (sym c.in_ok-path_of-in-Some.ensures)
     (shown_of m c.keeps.ensures.is_structure start c.requires.start numbers s
     (subst (λ ns. IsSystemOf m start ns m.edges s) c.deref.ensures.value c.in_ok-system.ensures) c.args.formula.now
-    c.args._negated c.root-_root.ensures.well_formed.is_of_logic c.args.automaton.now c.requires.automaton row
+    c.args._negated c.root-root.ensures.well_formed.is_of_logic c.args.automaton.now c.requires.automaton row
     c.in_ok-letters.ensures o c.in-Some.lasso c.in-Some.is
     (subst (λ r. MatchOption o (IsEmpty r s) (λ l. IsFound r s l.states.items l.letters.items l.loop_start))
     c.deref-3.ensures.value
@@ -50,7 +50,7 @@ returns c =
     let o = c.in_ok-lasso.field-0 in
     none_of m c.keeps.ensures.is_structure start c.requires.start numbers s
     (subst (λ ns. IsSystemOf m start ns m.edges s) c.deref.ensures.value c.in_ok-system.ensures) c.args.formula.now
-    c.args._negated c.root-_root.ensures.well_formed.is_of_logic c.args.automaton.now c.requires.automaton row
+    c.args._negated c.root-root.ensures.well_formed.is_of_logic c.args.automaton.now c.requires.automaton row
     c.in_ok-letters.ensures o c.in-None.is
     (subst (λ r. MatchOption o (IsEmpty r s) (λ l. IsFound r s l.states.items l.letters.items l.loop_start))
     c.deref-3.ensures.value
