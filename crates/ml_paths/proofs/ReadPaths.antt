@@ -114,7 +114,7 @@ module _ (f : Formula) (negated : Bool) (linear : is_linear f ≡ true) (a : Aut
             y,
             refl,
             subst (λ s. leads_by each_row k s y b) (sym same)
-            (subst (λ ts. in_letter ts x y b) (sym (same_row k inside)) leads),
+                (subst (λ ts. in_letter ts x y b) (sym (same_row k inside)) leads),
           ))
           by_place 0 0 (λ p q y e d. e ∙ sym d) inside_of refl
           (subst (λ w. IsAcceptedFrom (reads row) 0 w) (sym words) h),
@@ -125,7 +125,7 @@ module _ (f : Formula) (negated : Bool) (linear : is_linear f ≡ true) (a : Aut
             q,
             refl,
             subst (λ s. reads row (number_at k) s q b) same
-            (subst (λ ts. in_letter ts p q b) (same_row k inside) leads),
+                (subst (λ ts. in_letter ts p q b) (same_row k inside) leads),
           ))
           by_place 0 0 (λ p y z e d. sym e ∙ d) inside_of refl h),
     )

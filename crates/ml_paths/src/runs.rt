@@ -15,7 +15,11 @@ fn next(places: u32, loop_start: u32, place: u32) -> u32
     requires { place < places }
     ensures { result ≡ cond (ltb (suc place) places) (suc place) loop_start }
 {
-    if place + 1 < places { place + 1 } else { loop_start }
+    if place + 1 < places {
+        place + 1
+    } else {
+        loop_start
+    }
 }
 
 // the edges from place to place
@@ -79,11 +83,7 @@ pub fn run_of(
 }
 
 // the labels of a place, behind those of the places before it
-fn add_labels(
-    labels: &mut Vec<(u32, Name)>,
-    place: u32,
-    names: &[Name],
-) -> Result<(), NoMemory>
+fn add_labels(labels: &mut Vec<(u32, Name)>, place: u32, names: &[Name]) -> Result<(), NoMemory>
     ensures { OnOk result (labels.new.items ≡ labels.old.items ++ pairs_at place names.now) }
 {
     for name in names {
