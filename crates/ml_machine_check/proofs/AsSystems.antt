@@ -32,7 +32,7 @@ use Rattle.ml_task.specs.Task.{IsTask, Task, names_of}
 use Rattle.ml_trace.specs.WordAutomata.{WordLasso}
 use Rattle.ml_word_automaton.specs.WordAutomaton.{start_block}
 use Rattle.ml_word_automaton.specs.Words.{SatisfiedBy}
-use Rattle.ml_machine_check.specs.Checked.{IsChecked, most_nodes, word_of_run}
+use Rattle.ml_machine_check.specs.Checked.{IsChecked, most_nodes}
 use Rattle.ml_machine_check.specs.declared.found.Checked.{Checked}
 use Rattle.ml_machine_check.specs.declared.found.Checked.TheVariants.{ClosureTooLarge, Fails, Holds}
 use Rattle.ml_machine_check.specs.private.AsSystems.{AreMoves, AreMovesOf, IsFoundIn, IsReply, IsSought, IsStep, step_in}
@@ -288,7 +288,7 @@ module _ (t : Task) (ok : IsTask t) (s : SystemTable) where
   checked_machine m fits of (Fails x) found = (
     found.0,
     record {
-      is_word = word_of_system (MachineGoes (inputs_of t) m) (length m) s of found.1.0 (word_of_run x) found.1.1;
+      is_word = word_of_system (MachineGoes (inputs_of t) m) (length m) s of found.1.0 x found.1.1;
       satisfies = found.1.2;
     },
   )
@@ -310,7 +310,7 @@ module _ (t : Task) (ok : IsTask t) (s : SystemTable) where
     found.0,
     record {
       is_word =
-          word_of_system (EnvironmentGoes (inputs_of t) (outputs_of t) e) (length e.plays) s of found.1.0 (word_of_run x)
+          word_of_system (EnvironmentGoes (inputs_of t) (outputs_of t) e) (length e.plays) s of found.1.0 x
           found.1.1;
       satisfies = found.1.2;
     },

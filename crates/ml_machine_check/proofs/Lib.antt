@@ -4,5 +4,7 @@ pub mod WordsRead
 pub mod AsSystems
 -- what is found says one thing
 pub mod OneCheck
+-- something is found
+pub mod SomeCheck
 -- what the program reads of machines and environments
 pub mod ReadRows

@@ -3,7 +3,7 @@
 --   not_right == what a word breaks isn't right
 --   one_check == so nothing is found to hold and to fail
 use Rattle.std.proofs.Common.{ℕ}
-use Rattle.ml_machine_check.specs.Checked.{Breaks, IsChecked, word_of_run}
+use Rattle.ml_machine_check.specs.Checked.{Breaks, IsChecked}
 use Rattle.ml_machine_check.specs.Laws.{AreAlike, BrokenIsNotRight, OneCheck}
 use Rattle.ml_machine_check.specs.declared.found.Checked.{Checked}
 use Rattle.ml_machine_check.specs.declared.found.Checked.TheVariants.{ClosureTooLarge, Fails, Holds}
@@ -19,9 +19,9 @@ not_right t (outcome.Defeated e) w breaks right = right.excludes w breaks.is_wor
 
 pub one_check : OneCheck
 one_check t r Holds Holds a b = tt
-one_check t r Holds (Fails x) a b = absurd (not_right t r (word_of_run x) b.1 a.1)
+one_check t r Holds (Fails x) a b = absurd (not_right t r x b.1 a.1)
 one_check t r Holds ClosureTooLarge a b = absurd (a.0 b)
-one_check t r (Fails x) Holds a b = absurd (not_right t r (word_of_run x) a.1 b.1)
+one_check t r (Fails x) Holds a b = absurd (not_right t r x a.1 b.1)
 one_check t r (Fails x) (Fails y) a b = tt
 one_check t r (Fails x) ClosureTooLarge a b = absurd (a.0 b)
 one_check t r ClosureTooLarge Holds a b = absurd (b.0 a)

@@ -1,12 +1,14 @@
 -- Words of valuations, as the word automaton of a task's formula reads them.
 --
 --   read_word   == it accepts exactly the words that satisfy the formula, or its negation where the problem is negated
+--   found_sought, none_sought == so a word of a system that it accepts is one that is looked for, and where it accepts none
+--                  there is none
 --   not_large   == an automaton with few nodes isn't large
 --   sought_of   == what is found of a system tells whether it has such a word
 use Rattle.std.proofs.Common.{ℕ, ◌≡◌, ◌↔◌, ◌+◌, ◌^◌, ◌<◌, ◌≤◌, Bool, List, All, length, get_or, Option, None, Some, MatchOption, sym, ap, ◌∙◌, subst, arith}
 use Rattle.std.proofs.lemmas.List.{get_or_default, length-append}
 use Rattle.ml_blocks.specs.Closures.{HasMoreThan}
-use Rattle.ml_emptiness.specs.Emptiness.{IsEmpty, IsFound, reads}
+use Rattle.ml_emptiness.specs.Emptiness.{IsAccepted, IsEmpty, IsFound, reads}
 use Rattle.ml_emptiness.specs.Systems.{IsSystem, IsWordOn, SystemTable}
 use Rattle.ml_emptiness.specs.declared.lassos.SystemLasso.{SystemLasso}
 use Rattle.ml_graph.specs.Graph.{size}
@@ -60,17 +62,24 @@ module _ (t : Task) (ok : IsTask t) (negated : Bool) (a : Automaton) (row : List
         sys.read (get_or (round lasso) k 0) (record { letter = get_or w.word k 0; to = get_or (round lasso) (k + 1) 0 })
         (on.goes_on k low)
 
-    pub sought_of : (o : Option SystemLasso)
-        → MatchOption o (IsEmpty row s) (λ l. IsFound row s l.states.items l.letters.items l.loop_start)
-        → IsSoughtIn t negated s o
-    sought_of None empty = λ lasso w on sought. empty lasso w (record {
+    pub found_sought : (lasso : Lasso) (w : WordLasso ℕ) → IsAccepted row s lasso w → IsSought t negated w
+    found_sought lasso w found =
+        (read_word w found.is_word.loops (low_letters lasso w found.is_word)).0 found.is_accepted
+
+    pub none_sought : IsEmpty row s → (lasso : Lasso) (w : WordLasso ℕ) → IsWordOn s lasso w → ¬ (IsSought t negated w)
+    none_sought empty lasso w on sought = empty lasso w (record {
       is_word = on;
       is_accepted = (read_word w on.loops (low_letters lasso w on)).1 sought;
     })
+
+    pub sought_of : (o : Option SystemLasso)
+        → MatchOption o (IsEmpty row s) (λ l. IsFound row s l.states.items l.letters.items l.loop_start)
+        → IsSoughtIn t negated s o
+    sought_of None empty = none_sought empty
     sought_of (Some l) found =
         let lasso : Lasso = record { entries = l.states.items; start = l.loop_start } in
         let w : WordLasso ℕ = record { word = l.letters.items; loop_start = l.loop_start } in
-        (lasso, found.is_word, (read_word w found.is_word.loops (low_letters lasso w found.is_word)).0 found.is_accepted)
+        (lasso, found.is_word, found_sought lasso w found)
 
 -- an automaton with few nodes is one of which no more are reached
 pub not_large : (t : Task) (negated : Bool) (a : Automaton) → IsAutomatonOf a t.formula negated

@@ -9,7 +9,6 @@
 --   sense_of r        == the sense of the problem: true where it is negated
 --   Breaks t r w      == the word w is one of r, and shows that r isn't right
 --   IsLarge t r       == the graph of the word automaton has more than the most nodes
---   word_of_run x     == the word of a run, as a word of valuations
 --   IsChecked t r c   == c is what is found of r
 use Rattle.std.specs.Prelude.{ℕ, Bool, true, false}
 use Rattle.ml_blocks.specs.Closures.{HasMoreThan}
@@ -25,7 +24,6 @@ use Rattle.ml_word_automaton.specs.Words.{SatisfiedBy}
 use Rattle.ml_machine_check.specs.declared.checking.TheConstants.{MOST_NODES}
 use Rattle.ml_machine_check.specs.declared.found.Checked.{Checked}
 use Rattle.ml_machine_check.specs.declared.found.Checked.TheVariants as found
-use Rattle.ml_machine_check.specs.declared.found.Run.{Run}
 
 abbrev pub most_nodes : ℕ
 most_nodes = MOST_NODES
@@ -49,10 +47,7 @@ pub record Breaks (t : Task) (r : Outcome) (w : WordLasso ℕ) : Type 0 where
 abbrev pub IsLarge : Task → Outcome → Type 0
 IsLarge t r = HasMoreThan (start_block t.formula (sense_of r)) most_nodes
 
-abbrev pub word_of_run : Run → WordLasso ℕ
-word_of_run x = record { word = x.letters.items; loop_start = x.loop_start }
-
 abbrev pub IsChecked : Task → Outcome → Checked → Type 0
 IsChecked t r found.Holds = (¬ (IsLarge t r)) × IsRight t r
-IsChecked t r (found.Fails x) = (¬ (IsLarge t r)) × Breaks t r (word_of_run x)
+IsChecked t r (found.Fails w) = (¬ (IsLarge t r)) × Breaks t r w
 IsChecked t r found.ClosureTooLarge = IsLarge t r

@@ -2,7 +2,7 @@
 --
 --   AreAlike c d   == both say the same, whichever word is shown
 --   OneCheck       == of what is found of a machine or an environment, both say the same
---   SomeCheck      == something is found
+--   SomeCheck      == of each with the inputs and outputs of a task something is found
 --   BrokenIsNotRight == what a word breaks isn't right
 use Rattle.ml_machine_check.specs.Checked.{Breaks, Fits, IsChecked}
 use Rattle.ml_machine_check.specs.declared.found.Checked.{Checked}
@@ -21,6 +21,9 @@ AreAlike _ _ = ⊥
 
 abbrev pub OneCheck : Type 0
 OneCheck = (t : Task) (r : Outcome) (c d : Checked) → IsChecked t r c → IsChecked t r d → AreAlike c d
+
+abbrev pub SomeCheck : Type 0
+SomeCheck = (t : Task) (r : Outcome) → IsTask t → Fits t r → (c : Checked) × IsChecked t r c
 
 abbrev pub BrokenIsNotRight : Type 0
 BrokenIsNotRight = (t : Task) (r : Outcome) (w : WordLasso ℕ) → Breaks t r w → ¬ (IsRight t r)

@@ -53,10 +53,7 @@ fn check_system(
         Err(ClosureRefusal::NoMemory) => return Err(NoMemory),
     };
     match sought(alloc, task, negated, &automaton, system)? {
-        Some(lasso) => Ok(Checked::Fails(Run {
-            letters: lasso.letters,
-            loop_start: lasso.loop_start,
-        })),
+        Some(lasso) => Ok(Checked::Fails(Run::new(lasso.letters, lasso.loop_start))),
         None => Ok(Checked::Holds),
     }
 }
@@ -65,9 +62,10 @@ fn check_system(
 ///
 /// The outcome has the inputs and outputs of the task (`Fits`), as `ml_realize_text::read` gives it.
 ///
-/// Back comes `Holds` exactly where each word of the machine satisfies the task's formula, or none of the environment does;
-/// `Fails` exactly where that isn't so, with a word that shows it; and `ClosureTooLarge` exactly where the graph of the word
-/// automaton has more than `MOST_NODES` nodes: that of the negated formula for a machine, of the formula for an environment.
+/// Back comes `ClosureTooLarge` exactly where the graph of the word automaton has more than `MOST_NODES` nodes: that of the
+/// negated formula for a machine, of the formula for an environment. Else it is `Holds` exactly where each word of the machine
+/// satisfies the task's formula, or none of the environment does, and `Fails` exactly where that isn't so, with a word that
+/// shows it.
 ///
 /// # Errors
 /// `NoMemory` alone.

@@ -12,10 +12,6 @@ pub mod Found
 pub mod AlikeGraphs
 -- the games of the readings of a task
 pub mod OneGame
--- the forms of nodes are decided
-pub mod NodeForms
--- where letters lead is decided
-pub mod DecidedLetters
 -- each task has a reading
 pub mod SomeReadings
 -- some answer is due for each task

@@ -22,7 +22,7 @@ use Rattle.ml_task.specs.Task.{Task, names_of}
 use Rattle.ml_trace.specs.WordAutomata.{WordLasso}
 use Rattle.ml_word_automaton.specs.WordAutomaton.{start_block}
 use Rattle.ml_word_automaton.specs.Words.{SatisfiedBy}
-use Rattle.ml_machine_check.specs.Checked.{most_nodes, word_of_run}
+use Rattle.ml_machine_check.specs.Checked.{most_nodes}
 use Rattle.ml_machine_check.specs.declared.found.Checked.{Checked}
 use Rattle.ml_machine_check.specs.declared.found.Checked.TheVariants as found
 
@@ -64,7 +64,7 @@ abbrev pub IsFoundIn : Task → Bool → SystemTable → Checked → Type 0
 IsFoundIn t negated s found.Holds =
     (¬ (HasMoreThan (start_block t.formula negated) most_nodes))
     × ((lasso : Lasso) (w : WordLasso ℕ) → IsWordOn s lasso w → ¬ (IsSought t negated w))
-IsFoundIn t negated s (found.Fails x) =
+IsFoundIn t negated s (found.Fails w) =
     (¬ (HasMoreThan (start_block t.formula negated) most_nodes))
-    × ((lasso : Lasso) × IsWordOn s lasso (word_of_run x) × IsSought t negated (word_of_run x))
+    × ((lasso : Lasso) × IsWordOn s lasso w × IsSought t negated w)
 IsFoundIn t negated s found.ClosureTooLarge = HasMoreThan (start_block t.formula negated) most_nodes

@@ -17,7 +17,7 @@ use Rattle.ml_word_automaton.specs.WordAutomaton.{IsTrueIn, Leads, LeadsOn, Lead
 use Rattle.ml_word_automaton.specs.Words.{Letter}
 use Rattle.ml_word_automaton.proofs.LettersByNumbers.{goes_low}
 use Rattle.ml_word_automaton.proofs.MarkedStates.{goes_inside, inside}
-use Rattle.ml_realize.proofs.NodeForms.{IsDiamond, decided_diamond, decided_holds, decided_true}
+use Rattle.ml_listed_automata.proofs.NodeForms.{IsDiamond, decided_diamond, decided_holds, decided_true}
 
 -- ---- walks
 

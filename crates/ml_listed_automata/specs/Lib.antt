@@ -1,0 +1,2 @@
+-- laws over the definitions alone
+pub mod Laws

@@ -1,0 +1,16 @@
+use Rattle.std.proofs.Common.{subst}
+use Rattle.ml_paths.specs.private.Systems.{IsPathFound}
+use Rattle.ml_paths.proofs.ReadPaths.{not_large}
+use Rattle.ml_paths.proofs.finding.find.Goals as goal
+
+pub returns-in-Some : goal.returns-in-Some
+returns-in-Some c = (
+  not_large c.args.formula.now c.args.negated c.in-Ok.automaton c.in-Ok.ensures.automaton c.in-Ok.ensures.fits,
+  subst (IsPathFound c.args.structure.now c.args.start c.args.formula.now c.args.negated) c.in-Some.is c.in_ok-path.ensures,
+)
+
+pub returns : goal.returns
+returns c = (
+  not_large c.args.formula.now c.args.negated c.in-Ok.automaton c.in-Ok.ensures.automaton c.in-Ok.ensures.fits,
+  subst (IsPathFound c.args.structure.now c.args.start c.args.formula.now c.args.negated) c.in-None.is c.in_ok-path.ensures,
+)

@@ -1,0 +1,8 @@
+-- what is found of the paths from a state
+pub mod Paths
+-- words as structures
+pub mod Runs
+-- laws over the definitions alone
+pub mod Laws
+-- what only private contracts cite
+pub mod private
