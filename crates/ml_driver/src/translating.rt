@@ -28,12 +28,7 @@ pub(crate) fn translate_text(alloc: Global, limit: u32, text: &[u8]) -> Result<O
 }
 
 // the answer about the formula of the text
-fn answer(
-    alloc: Global,
-    limit: u32,
-    _text: &[u8],
-    formula: &Formula,
-) -> Result<Output, NoMemory>
+fn answer(alloc: Global, limit: u32, _text: &[u8], formula: &Formula) -> Result<Output, NoMemory>
     requires { IsParsedAs Ltl _text.now formula.now }
     ensures { IfOk result (λ output. IsAnswer (Command.Automaton limit) _text.now output.status output.bytes.items) }
 {
