@@ -33,7 +33,7 @@ use std::fs;
 use std::io::Print;
 use std::rt::Files;
 
-const FILES: [&str; 38] = [
+const FILES: [&str; 39] = [
     "examples",
     "specifications",
     "patterns",
@@ -66,6 +66,7 @@ const FILES: [&str; 38] = [
     "automata_refused",
     "automata_texts",
     "random_automata",
+    "random_translations",
     "random_games",
     "games_refused",
     "checked_games",
