@@ -1,0 +1,4 @@
+-- What only private contracts and proofs cite: a reader of the public calls needs none of it.
+
+-- items as the reader comes to them
+pub mod Scan

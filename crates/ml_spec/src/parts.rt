@@ -1,0 +1,68 @@
+// The parts of an item.
+ghost use Rattle.std.specs.Prelude.{◌≡◌, ◌<◌, ◌≤◌, length, IfSome};
+ghost use Rattle.std.specs.List.{position_or_len, prefix_len};
+ghost use Rattle.ml_text.specs.Bytes.{is_blank};
+ghost use Rattle.ml_spec.specs.Items as items;
+
+use ml_base::LONGEST_NAME;
+use ml_text::{is_blank, is_digit, is_letter};
+
+fn without_blanks(bytes: &[u8]) -> &[u8]
+    ensures { result.now ≡ items.without_blanks bytes.now }
+{
+    &bytes[blank_length(bytes)..]
+}
+
+// how many blanks stand at the front
+pub(crate) fn blank_length(bytes: &[u8]) -> usize
+    ensures { result ≡ prefix_len is_blank bytes.now }
+{
+    bytes.iter().take_while(|byte| is_blank(**byte)).count()
+}
+
+fn word_length(bytes: &[u8]) -> usize
+    ensures { result ≡ position_or_len is_blank bytes.now }
+{
+    bytes.iter().take_while(|byte| !is_blank(**byte)).count()
+}
+
+fn name_length(bytes: &[u8]) -> usize
+    ensures { result ≡ prefix_len items.is_name_byte bytes.now }
+{
+    bytes.iter().take_while(|byte| is_name_byte(**byte)).count()
+}
+
+fn is_name_byte(byte: u8) -> bool
+    ensures { result ≡ items.is_name_byte byte }
+{
+    is_letter(byte) || is_digit(byte) || byte == b'_' || byte == b'-' || byte == b'.'
+}
+
+// Is a run of bytes of names a name: does it begin with a letter, and has it at most 64 bytes?
+pub(crate) fn is_name(run: &[u8]) -> bool
+    ensures { result ≡ items.is_name run.now }
+{
+    match run.split_first() {
+        Some((first, _)) => is_letter(*first) && run.len() <= LONGEST_NAME,
+        None => false,
+    }
+}
+
+// The first word of an item, and what stands behind it and its blanks.
+pub(crate) fn split_word(item: &[u8]) -> (&[u8], &[u8])
+    ensures word { result.0.now ≡ items.first_word item.now }
+    ensures behind { result.1.now ≡ items.behind_word item.now }
+{
+    let end = word_length(item);
+    (&item[..end], without_blanks(&item[end..]))
+}
+
+// The name of an item behind its first word, and what stands behind the name and its blanks.
+pub(crate) fn split_name<'a>(item: &[u8], behind_word: &'a [u8]) -> (&'a [u8], &'a [u8])
+    requires { behind_word.now ≡ items.behind_word item.now }
+    ensures name { result.0.now ≡ items.name_in item.now }
+    ensures behind { result.1.now ≡ items.behind_name item.now }
+{
+    let end = name_length(behind_word);
+    (&behind_word[..end], without_blanks(&behind_word[end..]))
+}
