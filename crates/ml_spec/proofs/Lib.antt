@@ -4,3 +4,15 @@ pub mod Splits
 pub mod ItemPlaces
 -- where a formula's text is refused
 pub mod TokenPlaces
+-- what the parsers answer
+pub mod Parsers
+-- the faults of an item
+pub mod ItemFaults
+-- the faults of items one after the other
+pub mod ListFaults
+-- the first fault of a text
+pub mod TextFaults
+-- a text is read in one way
+pub mod OneReading
+-- how large joined formulas are
+pub mod Sizes

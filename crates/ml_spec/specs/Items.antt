@@ -18,14 +18,14 @@
 --   first_word bs        == what stands before the first blank of bs
 --   behind_word bs       == what stands behind the first word and its blanks
 --   is_name_byte b       == may b stand in a name? A letter, a digit, `_`, `-` or `.`
---   is_name w            == is w a name: does it begin with a letter, and has it at most 64 bytes? Its bytes are asked apart
+--   is_name w            == is w a name: a letter and then such bytes, 1 to 64 in all?
 --   name_in bs           == the longest run of bytes of names behind the first word
 --   behind_name bs       == what stands behind that run and its blanks
 --   has_colon bs         == does that begin with a colon?
 --   formula_text bs      == what stands behind the colon
 --   place i rest         == where the rest of the item i begins, which may be empty
-use Rattle.std.specs.Prelude.{ℕ, ◌+◌, ◌-◌, Bool, true, false, not, ◌==◌, ◌&&◌, ◌||◌, nat_le, nat_eq, List, [], ◌∷◌, length, take, drop, if◌then◌else◌}
-use Rattle.std.specs.List.{before_first, position_or_len, prefix_len, starts_with, suffix_len, take_while}
+use Rattle.std.specs.Prelude.{ℕ, ◌+◌, ◌-◌, Bool, true, false, not, ◌==◌, ◌&&◌, ◌||◌, nat_le, List, [], ◌∷◌, length, take, drop, if◌then◌else◌}
+use Rattle.std.specs.List.{before_first, position_or_len, list_all, prefix_len, suffix_len, take_while}
 use Rattle.ml_base.specs.Name.{longest_name}
 use Rattle.ml_text.specs.Bytes.{is_blank, is_digit, is_letter}
 
@@ -71,7 +71,7 @@ is_name_byte b = is_letter b || is_digit b || (b == 95) || (b == 45) || (b == 46
 
 abbrev pub is_name : List ℕ → Bool
 is_name [] = false
-is_name (b ∷ bs) = is_letter b && nat_le (length (b ∷ bs)) longest_name
+is_name (b ∷ bs) = is_letter b && list_all is_name_byte bs && nat_le (length (b ∷ bs)) longest_name
 
 abbrev pub name_in : List ℕ → List ℕ
 name_in bs = take_while is_name_byte (behind_word bs)
@@ -80,8 +80,12 @@ abbrev pub behind_name : List ℕ → List ℕ
 behind_name bs = without_blanks (drop (prefix_len is_name_byte (behind_word bs)) (behind_word bs))
 
 -- 58 is the colon
+abbrev pub begins_with_colon : List ℕ → Bool
+begins_with_colon [] = false
+begins_with_colon (b ∷ bs) = b == 58
+
 abbrev pub has_colon : List ℕ → Bool
-has_colon bs = starts_with nat_eq (behind_name bs) (58 ∷ [])
+has_colon bs = begins_with_colon (behind_name bs)
 
 abbrev pub formula_text : List ℕ → List ℕ
 formula_text bs = drop 1 (behind_name bs)

@@ -2,3 +2,7 @@
 
 -- items as the reader comes to them
 pub mod Scan
+-- what the reader knows
+pub mod Reading
+-- how much an item adds to a joined formula
+pub mod Sizes

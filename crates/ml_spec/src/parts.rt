@@ -1,6 +1,6 @@
 // The parts of an item.
 ghost use Rattle.std.specs.Prelude.{◌≡◌, ◌<◌, ◌≤◌, length, IfSome};
-ghost use Rattle.std.specs.List.{position_or_len, prefix_len};
+ghost use Rattle.std.specs.List.{list_all, position_or_len, prefix_len};
 ghost use Rattle.ml_text.specs.Bytes.{is_blank};
 ghost use Rattle.ml_spec.specs.Items as items;
 
@@ -38,14 +38,22 @@ fn is_name_byte(byte: u8) -> bool
     is_letter(byte) || is_digit(byte) || byte == b'_' || byte == b'-' || byte == b'.'
 }
 
-// Is a run of bytes of names a name: does it begin with a letter, and has it at most 64 bytes?
+// Is it a letter, and then letters, digits, `_`, `-` and `.`, 1 to 64 bytes in all?
 pub(crate) fn is_name(run: &[u8]) -> bool
     ensures { result ≡ items.is_name run.now }
 {
     match run.split_first() {
-        Some((first, _)) => is_letter(*first) && run.len() <= LONGEST_NAME,
+        Some((first, rest)) => {
+            is_letter(*first) && are_name_bytes(rest) && run.len() <= LONGEST_NAME
+        }
         None => false,
     }
+}
+
+fn are_name_bytes(bytes: &[u8]) -> bool
+    ensures { result ≡ list_all items.is_name_byte bytes.now }
+{
+    bytes.iter().all(|byte| is_name_byte(*byte))
 }
 
 // The first word of an item, and what stands behind it and its blanks.
