@@ -41,7 +41,7 @@ one_item l text i j a b =
     let name : i.name ≡ j.name = sym a.named ∙ b.named in
     let formula : i.formula ≡ j.formula =
     formula_once (formula_text text.bytes) i.formula j.formula (a.of_logic ∙ sym b.of_logic) a.is_parsed b.is_parsed in
-    cc
+    λ e. record { at = at e; kind = of_kind e; name = name e; formula = formula e }
 
 one_list : (l : Logic) (texts : List ItemText) (is js : List Item)
     → AllZip (IsItemOf l) texts is
@@ -125,7 +125,7 @@ one_fault text e f a b =
     let line : e.line ≡ f.line = a.line ∙ ap (line_at text) same.0 ∙ sym b.line in
     let column : e.column ≡ f.column = a.column ∙ ap (column_at text) same.0 ∙ sym b.column in
     let rule : e.rule ≡ f.rule = a.rule ∙ same.1 ∙ sym b.rule in
-    cc
+    λ x. record { line = line x; column = column x; rule = rule x }
 
 no_cause : (text : List ℕ) (l : Logic) (is : List Item) (c : SpecCause) (at : ℕ)
     → IsSpecification text l is

@@ -3,7 +3,7 @@
 --   refused_once    == a text is refused for one cause at one byte
 --   refused_within  == which is a byte of the text, or its end
 --   formula_halts   == what is told of a parser's refusal is so
-use Rattle.std.proofs.Common.{◌≡◌, ◌≢◌, ℕ, ◌≤◌, Bool, false, List, [], ◌∷◌, length, Option, Some, unwrap_or, refl, sym, ap, subst, ◌∙◌, arith}
+use Rattle.std.proofs.Common.{◌≡◌, ◌≢◌, ℕ, ◌≤◌, false, List, [], ◌∷◌, length, Option, Some, unwrap_or, refl, sym, ap, subst, ◌∙◌, arith}
 use Rattle.ml_base.specs.declared.parse_refusal.ParseRefusal.{ParseRefusal}
 use Rattle.ml_base.specs.declared.parse_refusal.ParseRefusal.TheVariants as refusal
 use Rattle.ml_text.specs.Items.{SignTable, items}
@@ -12,7 +12,7 @@ use Rattle.ml_ctl.specs.declared.language.Language.TheVariants as language
 use Rattle.ml_ctl.specs.Text.{ctl_signs}
 use Rattle.ml_ctl.proofs.OneAnswer as ctl_answer
 use Rattle.ml_mu.specs.Text.{mu_signs}
-use Rattle.ml_mu.specs.VariableFaults.{Standing, Fine, Unbound, NotPositive, fault_at}
+use Rattle.ml_mu.specs.VariableFaults.{Standing, Fine, Unbound, NotPositive, fault_at, standings}
 use Rattle.ml_mu.specs.Text as mu_text
 use Rattle.ml_mu.proofs.OneAnswer as mu_answer
 use Rattle.ml_pdl.specs.Text.{pdl_signs}
@@ -34,8 +34,8 @@ one_refusal : (l : Logic) (text : List ℕ) (e d : ParseRefusal)
     → IsRefusedBy l text e
     → IsRefusedBy l text d
     → e ≡ d
-one_refusal logic.Mu = mu_answer.one_answer.refused
-one_refusal logic.Pdl = pdl_answer.one_answer.refused
+one_refusal logic.Mu = (mu_answer.one_answer).refused
+one_refusal logic.Pdl = (pdl_answer.one_answer).refused
 one_refusal logic.Ctl = (ctl_answer.one_answer language.Ctl).refused
 one_refusal logic.Ltl = (ctl_answer.one_answer language.Ltl).refused
 one_refusal logic.Word = (ctl_answer.one_answer language.Ltl).refused
@@ -120,10 +120,10 @@ mu_within text cause.TooMany n (k, r, is) = first_within mu_signs text k n is
 mu_within text cause.TooNested n (k, r, is) = first_within mu_signs text k n is
 mu_within text cause.NameTooLong n (k, r, is) = first_within mu_signs text k n is
 mu_within text cause.Unbound n (f, accepted, is) =
-    fault_within _ (mu_text.variable_places (mu_text.items text)) Unbound n (length text)
+    fault_within (standings f) (mu_text.variable_places (mu_text.items text)) Unbound n (length text)
     (noted_within mu_signs false (mu_text.items text) (length text) (items_within mu_signs text)) is
 mu_within text cause.NotPositive n (f, accepted, is) =
-    fault_within _ (mu_text.variable_places (mu_text.items text)) NotPositive n (length text)
+    fault_within (standings f) (mu_text.variable_places (mu_text.items text)) NotPositive n (length text)
     (noted_within mu_signs false (mu_text.items text) (length text) (items_within mu_signs text)) is
 mu_within text _ n r = absurd r
 
