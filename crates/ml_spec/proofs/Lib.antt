@@ -15,4 +15,12 @@ pub mod TextFaults
 -- a text is read in one way
 pub mod OneReading
 -- how large joined formulas are
-pub mod Sizes
+pub mod JoinedSizes
+-- where the reader of an item ends
+pub mod Halts
+-- reading items
+pub mod ItemsRead
+-- reading a text
+pub mod TextRead
+-- the first item with formulas that are too large together
+pub mod SizesWalk

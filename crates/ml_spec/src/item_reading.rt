@@ -38,10 +38,11 @@ pub(crate) fn read_item(
     seen: &IndexSet<ItemName>,
 ) -> Result<Item, Halt>
     requires fits { item.at + length item.bytes.now ≤ 2 ^ 63 }
-    ensures read { IfOk result (IsItemOf logic (item_text item)) }
+    requires so_far { length seen.now.keys ≤ most_items }
+    ensures read { IfOk result (IsItemOf logic (item_text item.entry)) }
     ensures new { IfOk result (λ i. list_any (bytes_eq i.name) seen.now.keys ≡ false) }
     ensures few { IfOk result (λ i. length seen.now.keys < most_items) }
-    ensures refused { IfErr result (IsItemHalt logic seen.now.keys (item_text item)) }
+    ensures refused { IfErr result (IsItemHalt logic seen.now.keys (item_text item.entry)) }
 {
     let Head { kind, name, text } = read_head(alloc, item, seen)?;
     match read_formula(alloc, logic, item, text) {
@@ -62,8 +63,9 @@ fn read_head<'a>(
     seen: &IndexSet<ItemName>,
 ) -> Result<Head<'a>, Halt>
     requires fits { item.at + length item.bytes.now ≤ 2 ^ 63 }
-    ensures read { IfOk result (λ h. IsHead seen.now.keys (item_text item) h.kind h.name h.text.now) }
-    ensures refused { IfErr result (IsHeadHalt seen.now.keys (item_text item)) }
+    requires so_far { length seen.now.keys ≤ most_items }
+    ensures read { IfOk result (λ h. IsHead seen.now.keys (item_text item.entry) h.kind h.name h.text.now) }
+    ensures refused { IfErr result (IsHeadHalt seen.now.keys (item_text item.entry)) }
 {
     let (word, behind_word) = split_word(item.bytes);
     let Some(kind) = kind_named(word) else {
@@ -101,7 +103,7 @@ fn behind_colon(rest: &[u8]) -> Option<&[u8]>
 fn place(item: ItemText, rest: &[u8]) -> usize
     requires shorter { length rest.now ≤ length item.bytes.now }
     requires fits { item.at + length item.bytes.now ≤ 2 ^ 63 }
-    ensures { result ≡ items.place (item_text item) rest.now }
+    ensures { result ≡ items.place (item_text item.entry) rest.now }
 {
     item.at + (item.bytes.len() - rest.len())
 }
@@ -117,7 +119,7 @@ fn read_formula(
     requires fits { item.at + length item.bytes.now ≤ 2 ^ 63 }
     ensures of_logic { IfOk result (λ f. logic_of f ≡ logic) }
     ensures parsed { IfOk result (λ f. IsParsedAs text.now f) }
-    ensures refused { IfErr result (IsFormulaHalt logic (item_text item) text.now) }
+    ensures refused { IfErr result (IsFormulaHalt logic (item_text item.entry) text.now) }
 {
     match read(alloc, logic, text) {
         Ok(problem) => Ok(problem.formula),

@@ -1,5 +1,5 @@
 // The items of a text without comments, one after the other.
-ghost use Rattle.std.specs.Prelude.{◌≡◌, ◌<◌, ◌≤◌, ◌∷◌, [], length, IfSome, MatchOption};
+ghost use Rattle.std.specs.Prelude.{◌≡◌, ◌+◌, ◌<◌, ◌≤◌, ◌∷◌, [], length, IfSome, MatchOption};
 ghost use Rattle.ml_spec.specs.Items as items;
 ghost use Rattle.ml_spec.specs.private.Scan.{items_at, item_text};
 
@@ -53,6 +53,7 @@ pub(crate) fn next_item(text: &[u8], from: usize) -> Option<(ItemText, usize)>
     ensures items { MatchOption result (items_at text.now from ≡ [])
         (λ p. items_at text.now from ≡ item_text p.0 ∷ items_at text.now p.1) }
     ensures place { IfSome result (λ p. (from < p.1) × (p.1 ≤ length text.now)) }
+    ensures fits { IfSome result (λ p. p.0.at + length p.0.bytes.now ≤ length text.now) }
 {
     let at = from + distance(true, &text[from..]);
     if at == text.len() {

@@ -1,5 +1,5 @@
 // Reading a specification.
-ghost use Rattle.std.specs.Prelude.{◌≡◌, ◌≤◌, None, Some, [], length, IfOk, IfErr, IsErrOf, OnOk, MatchResult};
+ghost use Rattle.std.specs.Prelude.{◌≡◌, ◌≤◌, List, None, Some, [], length, IfOk, IfErr, IsErrOf, OnOk, MatchResult};
 ghost use Rattle.ml_front.specs.declared.logic.Logic.{Logic};
 ghost use Rattle.ml_spec.specs.Comments.{uncommented};
 ghost use Rattle.ml_spec.specs.Items.{items_of};

@@ -1,6 +1,6 @@
 use Rattle.std.proofs.Common.{arith}
 use Rattle.std.proofs.lemmas.List.{take_rest}
-use Rattle.ml_spec.proofs.Splits.{end_within, item_within, next_item, no_item}
+use Rattle.ml_spec.proofs.Splits.{end_within, item_fits, item_within, next_item, no_item}
 use Rattle.ml_spec.proofs.items.next_item.Goals as goal
 
 pub overflow_add-at : goal.overflow_add-at
@@ -55,3 +55,9 @@ returns-clause-place c =
     let fits = end_within c.args.text.now c.args.from c.distance.result c.requires (rw take_rest at c.distance.ensures)
     c.if-at-text.false c.distance-2.result (rw take_rest at c.distance-2.ensures) in
     (omega arith, omega arith)
+
+pub returns-clause-fits : goal.returns-clause-fits
+returns-clause-fits c =
+    item_fits c.args.text.now c.args.from c.distance.result c.requires (rw take_rest at c.distance.ensures)
+    c.if-at-text.false c.distance-2.result (rw take_rest at c.distance-2.ensures) c.trimmed-bytes.result.now
+    c.trimmed-bytes.ensures

@@ -2,7 +2,7 @@ use Rattle.std.proofs.Common.{◌≡◌, ◌≤◌, ◌+◌, drop, take}
 use Rattle.std.specs.List.{sum_by}
 use Rattle.ml_text.specs.Limits.{most_occurrences}
 use Rattle.ml_spec.specs.private.Sizes.{requirement_weight}
-use Rattle.ml_spec.proofs.Sizes.{Passed}
+use Rattle.ml_spec.proofs.JoinedSizes.{Passed}
 use Rattle.ml_spec.proofs.sizes.first_large.Given as goal
 
 abbrev pub invariant-loop-item : goal.invariant-loop-item
