@@ -1,8 +1,8 @@
 -- Where the items of a text are: each ends before the next one begins.
 --
---   AreApart k is   == no item of `is` begins before k, and each ends before the next one begins
 --   ends_line       == what stands before an item ends with an LF, unless the item begins a text
 --   apart           == the items of a text are apart
+--   items_apart     == so are those of a whole text
 use Rattle.std.proofs.Common.{◌≡◌, ℕ, zero, suc, ◌+◌, ◌-◌, ◌<◌, ◌≤◌, ◌⊎◌, inl, inr, Bool, true, false, ◌==◌, List, [], ◌∷◌, ◌++◌, length, take, drop, reverse, refl, sym, ◌∙◌, ap, subst, arith, length-take}
 use Rattle.std.specs.Bool.{⊤}
 use Rattle.std.proofs.lemmas.List.{reverse-append}
@@ -10,11 +10,8 @@ use Rattle.std.proofs.lemmas.Bool.{eqb-true}
 use Rattle.std.specs.List.{prefix_len, suffix_len}
 use Rattle.ml_text.specs.Bytes.{is_blank}
 use Rattle.ml_spec.specs.Items.{ItemText, begins_item, items_from, trimmed, up_to_item}
+use Rattle.ml_spec.specs.Laws.{AreApart, ItemsApart}
 use Rattle.ml_spec.proofs.Splits.{begins_filled, filled_begins, from_item, item_here, item_more, stops_at, up_more, up_none}
-
-abbrev pub AreApart : ℕ → List ItemText → Type 0
-AreApart k [] = ⊤
-AreApart k (i ∷ is) = (k ≤ i.at) × AreApart (i.at + length i.bytes + 1) is
 
 abbrev BeginBehind : ℕ → List ItemText → Type 0
 BeginBehind k [] = ⊤
@@ -103,7 +100,7 @@ behind_one i b bs others =
     short c cs is (inl (none, e)) = absurd cc
     short c cs is (inr ends) = omega (arith, trimmed_lt b (up_to_item false bs) ends)
 
-pub apart : (s : Bool) (i : ℕ) (xs : List ℕ) → AreApart i (items_from s i xs)
+apart : (s : Bool) (i : ℕ) (xs : List ℕ) → AreApart i (items_from s i xs)
 apart s i [] = tt
 apart s i (b ∷ bs) = by (begins_item s b) refl (apart false (i + 1) bs) (apart (b == 10) (i + 1) bs)
   where
@@ -118,3 +115,6 @@ apart s i (b ∷ bs) = by (begins_item s b) refl (apart false (i + 1) bs) (apart
     by false e others over =
         let le : i ≤ i + 1 = omega arith in
         subst (AreApart i) (sym (item_more s i b bs e)) (lower (i + 1) i (items_from (b == 10) (i + 1) bs) le over)
+
+pub items_apart : ItemsApart
+items_apart text = apart true 0 text

@@ -12,7 +12,7 @@ use Rattle.std.proofs.lemmas.List.{drop_more, drop_all}
 use Rattle.std.specs.List.{suffix_len}
 use Rattle.ml_text.specs.Bytes.{is_blank}
 use Rattle.ml_spec.specs.Items.{ItemText, begins_item, items_from, trimmed, up_to_item}
-use Rattle.ml_spec.specs.private.Scan.{items_at}
+use Rattle.ml_spec.specs.Scan.{items_at}
 
 -- ---- one byte
 

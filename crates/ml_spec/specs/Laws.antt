@@ -1,26 +1,19 @@
 -- What holds of specification texts by their definitions alone.
 --
---   OneSpecification     == a text is one specification at most
---   OneSpecFault         == a text has one first refusal at most
---   SpecificationOrFault == never both
---   SomeReading          == each text is a specification, or has a first refusal
-use Rattle.std.specs.Prelude.{ℕ, ◌≡◌, ◌⊎◌, List}
-use Rattle.ml_front.specs.declared.logic.Logic.{Logic}
-use Rattle.ml_spec.specs.Specifications.{IsSpecification, IsSpecFault}
-use Rattle.ml_spec.specs.declared.item.Item.{Item}
-use Rattle.ml_spec.specs.declared.refusal.SpecFault.{SpecFault}
+--   KeepsLines   == a text has as many bytes without its comments, and its lines end at the same places
+--   AreApart k is == no item of `is` begins before k, and each ends before the next one begins
+--   ItemsApart   == the items of a text are apart, so what is found in one stands before all that is found in the next ones
+use Rattle.std.specs.Prelude.{ℕ, ◌+◌, ◌≤◌, ◌≡◌, ⊤, List, [], ◌∷◌, length, map}
+use Rattle.ml_lines.specs.Reading.{is_line_end}
+use Rattle.ml_spec.specs.Comments.{uncommented}
+use Rattle.ml_spec.specs.Items.{ItemText, items_of}
 
-abbrev pub OneSpecification : Type 0
-OneSpecification = (text : List ℕ) (l m : Logic) (is js : List Item)
-    → IsSpecification text l is → IsSpecification text m js → (l ≡ m) × (is ≡ js)
+abbrev pub KeepsLines : Type 0
+KeepsLines = (text : List ℕ) → map is_line_end (uncommented text) ≡ map is_line_end text
 
-abbrev pub OneSpecFault : Type 0
-OneSpecFault = (text : List ℕ) (e f : SpecFault) → IsSpecFault text e → IsSpecFault text f → e ≡ f
+abbrev pub AreApart : ℕ → List ItemText → Type 0
+AreApart k [] = ⊤
+AreApart k (i ∷ is) = (k ≤ i.at) × AreApart (i.at + length i.bytes + 1) is
 
-abbrev pub SpecificationOrFault : Type 0
-SpecificationOrFault = (text : List ℕ) (l : Logic) (is : List Item) (f : SpecFault)
-    → IsSpecification text l is → ¬ (IsSpecFault text f)
-
-abbrev pub SomeReading : Type 0
-SomeReading = (text : List ℕ)
-    → ((l : Logic) × (is : List Item) × IsSpecification text l is) ⊎ ((f : SpecFault) × IsSpecFault text f)
+abbrev pub ItemsApart : Type 0
+ItemsApart = (text : List ℕ) → AreApart 0 (items_of text)

@@ -4,15 +4,9 @@ pub mod Comments
 pub mod Items
 -- kinds of items
 pub mod Kinds
--- causes of refusals
-pub mod Causes
 -- lines and columns
 pub mod Places
--- requirements and a question, joined into one formula
-pub mod Joined
--- specification texts
-pub mod Specifications
--- laws on them
+-- items as a reader comes to them
+pub mod Scan
+-- laws on texts
 pub mod Laws
--- what only private contracts cite
-pub mod private

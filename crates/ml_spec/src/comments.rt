@@ -5,8 +5,13 @@ ghost use Rattle.ml_spec.specs.Comments.{uncommented};
 use ml_base::NoMemory;
 use std::alloc::Global;
 
-// The text with a blank for each byte of a comment.
-pub(crate) fn uncommented(alloc: Global, text: &[u8]) -> Result<Vec<u8>, NoMemory>
+/// The text with a blank for each byte of a comment, which begins at a `#` and goes on to the end of its line.
+///
+/// # Errors
+/// `NoMemory` alone.
+///
+/// Cost: linear in the text.
+pub fn uncommented(alloc: Global, text: &[u8]) -> Result<Vec<u8>, NoMemory>
     ensures { IfOk result (λ plain. plain.items ≡ uncommented text.now) }
 {
     let mut plain = Vec::with_capacity(alloc, text.len())?;

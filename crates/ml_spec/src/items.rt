@@ -1,14 +1,16 @@
-// The items of a text without comments, one after the other.
+// The items of a text whose comments are blanks, one after the other.
 ghost use Rattle.std.specs.Prelude.{◌≡◌, ◌+◌, ◌<◌, ◌≤◌, ◌∷◌, [], length, IfSome, MatchOption};
 ghost use Rattle.ml_spec.specs.Items as items;
-ghost use Rattle.ml_spec.specs.private.Scan.{items_at, item_text};
+ghost use Rattle.ml_spec.specs.Scan.{items_at, item_text};
 
 use ml_text::is_blank;
 
-// an item: where it begins, and its bytes up to the last one that is no blank
+/// An item of a text.
 #[derive(Clone, Copy)]
-pub(crate) struct ItemText<'a> {
+pub struct ItemText<'a> {
+    /// Where it begins in the text, a byte counted from 0.
     pub at: usize,
+    /// Its bytes, up to the last one that is no blank.
     pub bytes: &'a [u8],
 }
 
@@ -46,9 +48,11 @@ fn trimmed(text: &[u8]) -> &[u8]
     &text[..end]
 }
 
-// The first item at or behind the byte `from`, and where what stands behind it begins; `None` where there is none. An item may
-// begin at `from`.
-pub(crate) fn next_item(text: &[u8], from: usize) -> Option<(ItemText, usize)>
+/// The first item at or behind the byte `from` of a text without comments, and where what stands behind it begins; `None` where
+/// there is none. An item may begin at `from`, so begin with 0 and go on with the place that comes back.
+///
+/// Cost: linear in the bytes up to that place.
+pub fn next_item(text: &[u8], from: usize) -> Option<(ItemText, usize)>
     requires { from ≤ length text.now }
     ensures items { MatchOption result (items_at text.now from ≡ [])
         (λ p. items_at text.now from ≡ item_text p.0 ∷ items_at text.now p.1) }

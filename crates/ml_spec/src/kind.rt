@@ -33,8 +33,8 @@ impl Kind {
     }
 }
 
-// The kind that a word names; `None` where it names none.
-pub(crate) fn kind_named(word: &[u8]) -> Option<Kind>
+/// The kind that a word names; `None` where it names none.
+pub fn kind_named(word: &[u8]) -> Option<Kind>
     ensures { MatchOption result ((k : Kind) → word.now ≢ kind_word k) (λ k. word.now ≡ kind_word k) }
 {
     if word == Kind::Require.word() {

@@ -1,21 +1,16 @@
 // Laws over specification texts: no caller runs these functions, their contracts are the theorems.
-ghost use Rattle.std.specs.Prelude.{◌≡◌};
-ghost use Rattle.ml_spec.specs.Laws.{OneSpecFault, OneSpecification, SpecificationOrFault};
-ghost use Rattle.ml_spec.specs.declared.limits.TheConstants.{LONGEST_SPEC_TEXT, MOST_ITEMS};
+ghost use Rattle.ml_spec.specs.Laws.{ItemsApart, KeepsLines};
 
-/// A text is one specification at most, or it has one first refusal at most, and never both.
+/// A text has as many bytes without its comments, and its lines end at the same places.
 ///
 /// Does nothing when called.
-pub fn one_reading()
-    ensures one { OneSpecification }
-    ensures one_fault { OneSpecFault }
-    ensures never_both { SpecificationOrFault }
+pub fn lines_kept()
+    ensures kept { KeepsLines }
 {}
 
-/// A specification has at most 256 items behind the first one; programs take up to 1,048,576 bytes.
+/// Each item of a text ends before the next one begins, with a byte at least between them.
 ///
 /// Does nothing when called.
-pub fn limits()
-    ensures items { MOST_ITEMS ≡ 256 }
-    ensures bytes { LONGEST_SPEC_TEXT ≡ 1048576 }
+pub fn items_apart()
+    ensures apart { ItemsApart }
 {}

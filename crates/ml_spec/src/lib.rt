@@ -1,4 +1,4 @@
-// Files of requirements and questions.
+// Files of requirements and questions: their comments, items, kinds and names.
 //
 // A specification names a logic, and has requirements and questions, each with a name and a formula of that logic:
 //
@@ -7,31 +7,24 @@
 //     possible rescue: F(call & G fire)
 //     follows shut: G(fire -> !open)
 //
-// `read` gives the specification that a text is, or tells where it is refused, by line and column. What a text is stands in
-// `specs/Comments.antt`, `specs/Items.antt` and `specs/Specifications.antt`; `laws` says that a text is read in one way.
-//
-// Below stand `ml_front`, with the formulas of all logics, and `ml_text`.
+// `uncommented` takes the comments out, with a blank for each byte, and `next_item` gives one item of such a text after the other.
+// `split_word`, `kind_named`, `split_name` and `is_name` read an item up to its colon, `ItemName` holds a name, and
+// `line_and_column` tells where a byte stands. The logic of the first item and the formulas are read by no call of this crate.
+// What comments, items, kinds, names, lines and columns are stands in `specs/`; `laws` says that lines stay as they are without
+// comments, and that items are apart.
 #![tactic(auto)]
 
 mod comments;
-mod item;
-mod item_reading;
 mod items;
 mod kind;
 pub mod laws;
-mod limits;
 mod name;
 mod parts;
 mod place;
-mod reading;
-mod refusal;
-mod sizes;
-mod spec_cause;
 
-pub use item::{Item, Specification};
-pub use kind::Kind;
-pub use limits::{LONGEST_SPEC_TEXT, MOST_ITEMS};
+pub use comments::uncommented;
+pub use items::{ItemText, next_item};
+pub use kind::{Kind, kind_named};
 pub use name::ItemName;
-pub use reading::read;
-pub use refusal::{SpecFault, SpecRefusal};
-pub use spec_cause::SpecCause;
+pub use parts::{is_name, split_name, split_word};
+pub use place::line_and_column;

@@ -31,8 +31,11 @@ impl Model for ItemName {
 impl ItemName {
     ghost use Rattle.std.specs.Prelude.{true};
 
-    // The name with these bytes.
-    pub(crate) fn new(alloc: Global, bytes: &[u8]) -> Result<ItemName, NoMemory>
+    /// The name with these bytes, which are one (`is_name`).
+    ///
+    /// # Errors
+    /// `NoMemory` alone.
+    pub fn new(alloc: Global, bytes: &[u8]) -> Result<ItemName, NoMemory>
         requires { is_name bytes.now ≡ true }
         ensures { IfOk result (λ n. n ≡ bytes.now) }
     {

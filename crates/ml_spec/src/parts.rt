@@ -14,7 +14,7 @@ fn without_blanks(bytes: &[u8]) -> &[u8]
 }
 
 // how many blanks stand at the front
-pub(crate) fn blank_length(bytes: &[u8]) -> usize
+fn blank_length(bytes: &[u8]) -> usize
     ensures { result ≡ prefix_len is_blank bytes.now }
 {
     bytes.iter().take_while(|byte| is_blank(**byte)).count()
@@ -38,8 +38,8 @@ fn is_name_byte(byte: u8) -> bool
     is_letter(byte) || is_digit(byte) || byte == b'_' || byte == b'-' || byte == b'.'
 }
 
-// Is it a letter, and then letters, digits, `_`, `-` and `.`, 1 to 64 bytes in all?
-pub(crate) fn is_name(run: &[u8]) -> bool
+/// Is it a name: a letter, and then letters, digits, `_`, `-` and `.`, 1 to 64 bytes in all?
+pub fn is_name(run: &[u8]) -> bool
     ensures { result ≡ items.is_name run.now }
 {
     match run.split_first() {
@@ -56,8 +56,8 @@ fn are_name_bytes(bytes: &[u8]) -> bool
     bytes.iter().all(|byte| is_name_byte(*byte))
 }
 
-// The first word of an item, and what stands behind it and its blanks.
-pub(crate) fn split_word(item: &[u8]) -> (&[u8], &[u8])
+/// The first word of an item, and what stands behind it and its blanks.
+pub fn split_word(item: &[u8]) -> (&[u8], &[u8])
     ensures word { result.0.now ≡ items.first_word item.now }
     ensures behind { result.1.now ≡ items.behind_word item.now }
 {
@@ -65,8 +65,11 @@ pub(crate) fn split_word(item: &[u8]) -> (&[u8], &[u8])
     (&item[..end], without_blanks(&item[end..]))
 }
 
-// The name of an item behind its first word, and what stands behind the name and its blanks.
-pub(crate) fn split_name<'a>(item: &[u8], behind_word: &'a [u8]) -> (&'a [u8], &'a [u8])
+/// The run of bytes of names that stands behind an item's first word, where its name is wanted, and what stands behind the run
+/// and its blanks.
+///
+/// `behind_word` is what stands behind the item's first word, as `split_word` gives it.
+pub fn split_name<'a>(item: &[u8], behind_word: &'a [u8]) -> (&'a [u8], &'a [u8])
     requires { behind_word.now ≡ items.behind_word item.now }
     ensures name { result.0.now ≡ items.name_in item.now }
     ensures behind { result.1.now ≡ items.behind_name item.now }

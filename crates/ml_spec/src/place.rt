@@ -3,8 +3,11 @@ ghost use Rattle.std.specs.Prelude.{◌≡◌};
 ghost use Rattle.ml_lines.specs.Reading as reading;
 ghost use Rattle.ml_spec.specs.Places.{column_at, line_at};
 
-// The line and the column of the byte with this place, each from 1 on.
-pub(crate) fn line_and_column(text: &[u8], at: usize) -> (u64, u64)
+/// The line and the column of the byte with this place, counted from 0, each from 1 on. A column counts bytes. A place behind
+/// the text's last byte is that of its end.
+///
+/// Cost: linear in the place.
+pub fn line_and_column(text: &[u8], at: usize) -> (u64, u64)
     ensures line { result.0 ≡ line_at text.now at }
     ensures column { result.1 ≡ column_at text.now at }
 {

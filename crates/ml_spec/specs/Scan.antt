@@ -1,4 +1,4 @@
--- Items as the reader comes to them. Private contracts and proofs cite this.
+-- Items as a reader comes to them.
 --
 --   items_at text from == the items of the text from this place on, where one may begin
 --   item_text i        == the item that the program holds
