@@ -3,7 +3,7 @@
 --   ends_line       == what stands before an item ends with an LF, unless the item begins a text
 --   apart           == the items of a text are apart
 --   items_apart     == so are those of a whole text
-use Rattle.std.proofs.Common.{◌≡◌, ℕ, zero, suc, ◌+◌, ◌-◌, ◌<◌, ◌≤◌, ◌⊎◌, inl, inr, Bool, true, false, ◌==◌, List, [], ◌∷◌, ◌++◌, length, take, drop, reverse, refl, sym, ◌∙◌, ap, subst, arith, length-take}
+use Rattle.std.proofs.Common.{◌≡◌, ℕ, ◌+◌, ◌-◌, ◌≤◌, ◌⊎◌, inl, inr, Bool, true, false, ◌==◌, List, [], ◌∷◌, ◌++◌, length, drop, refl, sym, ◌∙◌, ap, subst, arith, length-take}
 use Rattle.std.specs.Bool.{⊤}
 use Rattle.std.proofs.lemmas.List.{reverse-append}
 use Rattle.std.proofs.lemmas.Bool.{eqb-true}
@@ -11,7 +11,7 @@ use Rattle.std.specs.List.{prefix_len, suffix_len}
 use Rattle.ml_text.specs.Bytes.{is_blank}
 use Rattle.ml_spec.specs.Items.{ItemText, begins_item, items_from, trimmed, up_to_item}
 use Rattle.ml_spec.specs.Laws.{AreApart, ItemsApart}
-use Rattle.ml_spec.proofs.Splits.{begins_filled, filled_begins, from_item, item_here, item_more, stops_at, up_more, up_none}
+use Rattle.ml_spec.proofs.Splits.{filled_begins, from_item, item_here, item_more, stops_at, up_more, up_none}
 
 abbrev BeginBehind : ℕ → List ItemText → Type 0
 BeginBehind k [] = ⊤
@@ -34,12 +34,14 @@ ends_line s (b ∷ bs) c cs is = by (begins_item s b) refl (ends_line (b == 10) 
     begun : (t : Bool) → begins_item t b ≡ true → t ≡ true
     begun true e = refl
     begun false e = e
+
     more : begins_item s b ≡ false
         → ((up_to_item (b == 10) bs ≡ []) × ((b == 10) ≡ true)) ⊎ EndsLine (up_to_item (b == 10) bs)
         → EndsLine (up_to_item s (b ∷ bs))
     more e (inl (none, ends)) =
         ([], up_more s b bs e ∙ ap (λ us. b ∷ us) none ∙ ap (λ x. x ∷ []) (is_end b ends))
     more e (inr (vs, are)) = (b ∷ vs, up_more s b bs e ∙ ap (λ us. b ∷ us) are)
+
     by : (t : Bool)
         → begins_item s b ≡ t
         → (drop (length (up_to_item (b == 10) bs)) bs ≡ c ∷ cs

@@ -6,12 +6,12 @@
 --   stops_at        == where an item begins stands no blank
 --   NextItem        == the next item of a text, and the others
 --   next_item       == it is the next one
-use Rattle.std.proofs.Common.{◌≡◌, ℕ, zero, suc, ◌+◌, ◌-◌, ◌<◌, ◌≤◌, Bool, true, false, not, ◌&&◌, ◌==◌, List, [], ◌∷◌, length, take, drop, get_or, refl, sym, ◌∙◌, ap, subst, arith, length-drop, length-take, drop-drop}
+use Rattle.std.proofs.Common.{◌≡◌, ℕ, suc, ◌+◌, ◌-◌, ◌<◌, ◌≤◌, Bool, true, false, not, ◌==◌, List, [], ◌∷◌, length, take, drop, get_or, refl, sym, ◌∙◌, ap, subst, arith, length-drop, length-take, drop-drop}
 use Rattle.std.proofs.lemmas.Bool.{cond-true, cond-false}
 use Rattle.std.proofs.lemmas.List.{drop_more, drop_all}
 use Rattle.std.specs.List.{suffix_len}
 use Rattle.ml_text.specs.Bytes.{is_blank}
-use Rattle.ml_spec.specs.Items.{ItemText, begins_item, items_from, trimmed, up_to_item}
+use Rattle.ml_spec.specs.Items.{begins_item, items_from, trimmed, up_to_item}
 use Rattle.ml_spec.specs.Scan.{items_at}
 
 -- ---- one byte
@@ -178,5 +178,10 @@ module _ (text : List ℕ) (from n : ℕ) (within : from ≤ length text)
         → at + length bytes ≤ length text
     item_fits bytes are =
         let front = take (at + 1 + m - at) (drop at text) in
-        omega (arith, end_within, ap length are, length-take (length front - suffix_len is_blank front) front,
-        length-take (at + 1 + m - at) (drop at text))
+        omega (
+          arith,
+          end_within,
+          ap length are,
+          length-take (length front - suffix_len is_blank front) front,
+          length-take (at + 1 + m - at) (drop at text),
+        )

@@ -1,4 +1,4 @@
-use Rattle.std.proofs.Common.{◌≡◌, ◌≤◌, ◌+◌, take}
+use Rattle.std.proofs.Common.{◌≡◌, ◌≤◌, ◌+◌}
 use Rattle.ml_spec.specs.Places.{column_at, line_at}
 use Rattle.ml_spec.proofs.place.line_and_column.Given as goal
 
