@@ -21,9 +21,6 @@
 --   is_name w            == is w a name: a letter and then such bytes, 1 to 64 in all?
 --   name_in bs           == the longest run of bytes of names behind the first word
 --   behind_name bs       == what stands behind that run and its blanks
---   has_colon bs         == does that begin with a colon?
---   formula_text bs      == what stands behind the colon
---   place i rest         == where the rest of the item i begins, which may be empty
 use Rattle.std.specs.Prelude.{ℕ, ◌+◌, ◌-◌, Bool, true, false, not, ◌==◌, ◌&&◌, ◌||◌, nat_le, List, [], ◌∷◌, length, take, drop, if◌then◌else◌}
 use Rattle.std.specs.List.{before_first, position_or_len, list_all, prefix_len, suffix_len, take_while}
 use Rattle.ml_base.specs.Name.{longest_name}
@@ -78,17 +75,3 @@ name_in bs = take_while is_name_byte (behind_word bs)
 
 abbrev pub behind_name : List ℕ → List ℕ
 behind_name bs = without_blanks (drop (prefix_len is_name_byte (behind_word bs)) (behind_word bs))
-
--- 58 is the colon
-abbrev pub begins_with_colon : List ℕ → Bool
-begins_with_colon [] = false
-begins_with_colon (b ∷ bs) = b == 58
-
-abbrev pub has_colon : List ℕ → Bool
-has_colon bs = begins_with_colon (behind_name bs)
-
-abbrev pub formula_text : List ℕ → List ℕ
-formula_text bs = drop 1 (behind_name bs)
-
-abbrev pub place : ItemText → List ℕ → ℕ
-place item rest = item.at + (length item.bytes - length rest)
