@@ -19,8 +19,8 @@
 --   behind_word bs       == what stands behind the first word and its blanks
 --   is_name_byte b       == may b stand in a name? A letter, a digit, `_`, `-` or `.`
 --   is_name w            == is w a name: a letter and then such bytes, 1 to 64 in all?
---   name_in bs           == the longest run of bytes of names behind the first word
---   behind_name bs       == what stands behind that run and its blanks
+--   name_run rest        == the longest run of bytes of names at the front of `rest`: behind the first word the item's name
+--   behind_run rest      == what stands behind that run and its blanks
 use Rattle.std.specs.Prelude.{ℕ, ◌+◌, ◌-◌, Bool, true, false, not, ◌==◌, ◌&&◌, ◌||◌, nat_le, List, [], ◌∷◌, length, take, drop, if◌then◌else◌}
 use Rattle.std.specs.List.{before_first, position_or_len, list_all, prefix_len, suffix_len, take_while}
 use Rattle.ml_base.specs.Name.{longest_name}
@@ -70,8 +70,8 @@ abbrev pub is_name : List ℕ → Bool
 is_name [] = false
 is_name (b ∷ bs) = is_letter b && list_all is_name_byte bs && nat_le (length (b ∷ bs)) longest_name
 
-abbrev pub name_in : List ℕ → List ℕ
-name_in bs = take_while is_name_byte (behind_word bs)
+abbrev pub name_run : List ℕ → List ℕ
+name_run rest = take_while is_name_byte rest
 
-abbrev pub behind_name : List ℕ → List ℕ
-behind_name bs = without_blanks (drop (prefix_len is_name_byte (behind_word bs)) (behind_word bs))
+abbrev pub behind_run : List ℕ → List ℕ
+behind_run rest = without_blanks (drop (prefix_len is_name_byte rest) rest)

@@ -65,14 +65,11 @@ pub fn split_word(item: &[u8]) -> (&[u8], &[u8])
     (&item[..end], without_blanks(&item[end..]))
 }
 
-/// The run of bytes of names that stands behind an item's first word, where its name is wanted, and what stands behind the run
-/// and its blanks.
-///
-/// `behind_word` is what stands behind the item's first word, as `split_word` gives it.
-pub fn split_name<'a>(item: &[u8], behind_word: &'a [u8]) -> (&'a [u8], &'a [u8])
-    requires { behind_word.now ≡ items.behind_word item.now }
-    ensures name { result.0.now ≡ items.name_in item.now }
-    ensures behind { result.1.now ≡ items.behind_name item.now }
+/// The run of bytes of names with which the text behind an item's first word begins, and what stands behind the run and its
+/// blanks.
+pub fn split_name(behind_word: &[u8]) -> (&[u8], &[u8])
+    ensures name { result.0.now ≡ items.name_run behind_word.now }
+    ensures behind { result.1.now ≡ items.behind_run behind_word.now }
 {
     let end = name_length(behind_word);
     (&behind_word[..end], without_blanks(&behind_word[end..]))
