@@ -21,6 +21,7 @@
 --   is_name w            == is w a name: a letter and then such bytes, 1 to 64 in all?
 --   name_run rest        == the longest run of bytes of names at the front of `rest`: behind the first word the item's name
 --   behind_run rest      == what stands behind that run and its blanks
+--   begins_with_colon rest == is the first byte of `rest` a colon?
 use Rattle.std.specs.Prelude.{ℕ, ◌+◌, ◌-◌, Bool, true, false, not, ◌==◌, ◌&&◌, ◌||◌, nat_le, List, [], ◌∷◌, length, take, drop, if◌then◌else◌}
 use Rattle.std.specs.List.{before_first, position_or_len, list_all, prefix_len, suffix_len, take_while}
 use Rattle.ml_base.specs.Name.{longest_name}
@@ -75,3 +76,8 @@ name_run rest = take_while is_name_byte rest
 
 abbrev pub behind_run : List ℕ → List ℕ
 behind_run rest = without_blanks (drop (prefix_len is_name_byte rest) rest)
+
+-- 58 is the colon
+abbrev pub begins_with_colon : List ℕ → Bool
+begins_with_colon [] = false
+begins_with_colon (b ∷ bs) = b == 58

@@ -8,7 +8,7 @@
 //     follows shut: G(fire -> !open)
 //
 // `uncommented` takes the comments out, with a blank for each byte, and `next_item` gives one item of such a text after the other.
-// `split_word`, `kind_named`, `split_name` and `is_name` read an item up to its colon, `ItemName` holds a name, and
+// `split_word`, `kind_named`, `split_name`, `is_name` and `behind_colon` take an item apart, `ItemName` holds a name, and
 // `line_and_column` tells where a byte stands. The logic of the first item and the formulas are read by no call of this crate.
 // What comments, items, kinds, names, lines and columns are stands in `specs/`; `laws` says that lines stay as they are without
 // comments, and that items are apart.
@@ -26,5 +26,5 @@ pub use comments::uncommented;
 pub use items::{ItemText, next_item};
 pub use kind::{Kind, kind_named};
 pub use name::ItemName;
-pub use parts::{is_name, split_name, split_word};
+pub use parts::{behind_colon, is_name, split_name, split_word};
 pub use place::line_and_column;

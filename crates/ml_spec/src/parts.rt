@@ -1,5 +1,5 @@
 // The parts of an item.
-ghost use Rattle.std.specs.Prelude.{◌≡◌, ◌<◌, ◌≤◌, length, IfSome};
+ghost use Rattle.std.specs.Prelude.{◌≡◌, true, false, drop, MatchOption};
 ghost use Rattle.std.specs.List.{list_all, position_or_len, prefix_len};
 ghost use Rattle.ml_text.specs.Bytes.{is_blank};
 ghost use Rattle.ml_spec.specs.Items as items;
@@ -73,4 +73,15 @@ pub fn split_name(behind_word: &[u8]) -> (&[u8], &[u8])
 {
     let end = name_length(behind_word);
     (&behind_word[..end], without_blanks(&behind_word[end..]))
+}
+
+/// What stands behind the colon with which the text behind an item's name begins; `None` where it begins with none.
+pub fn behind_colon(behind_name: &[u8]) -> Option<&[u8]>
+    ensures { MatchOption result (items.begins_with_colon behind_name.now ≡ false)
+        (λ text. (items.begins_with_colon behind_name.now ≡ true) × (text.now ≡ drop 1 behind_name.now)) }
+{
+    match behind_name.split_first() {
+        Some((b':', text)) => Some(text),
+        _ => None,
+    }
 }
