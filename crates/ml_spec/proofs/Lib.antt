@@ -1,0 +1,6 @@
+-- items one after the other
+pub mod Splits
+-- where they are
+pub mod ItemPlaces
+-- lines without comments
+pub mod KeptLines

@@ -1,0 +1,12 @@
+use Rattle.std.proofs.Common.{◌≡◌, ◌≤◌, ◌+◌, ◌-◌, length, take}
+use Rattle.std.specs.List.{suffix_len}
+use Rattle.ml_text.specs.Bytes.{is_blank}
+use Rattle.ml_spec.proofs.items.trimmed.Given as goal
+
+abbrev pub invariant-loop-end : goal.invariant-loop-end
+invariant-loop-end l =
+    (l.end ≤ length l.text)
+    × (suffix_len is_blank (take l.end l.text) + (length l.text - l.end) ≡ suffix_len is_blank l.text)
+
+abbrev pub decreases-loop-end : goal.decreases-loop-end
+decreases-loop-end l = l.end
