@@ -33,12 +33,12 @@ const TEXTS: [Row; 4] = [
     // p is true now, or is waited for
     (
         "G F p",
-        "HOA: v1\nStates: 1\nStart: 0\nAP: 1 \"p\"\nacc-name: Buchi\nAcceptance: 1 Inf(0)\nproperties: trans-labels explicit-labels trans-acc\n--BODY--\nState: 0\n[0] 0 {0}\n[t] 0\n--END--\n",
+        "HOA: v1\nStates: 1\nStart: 0\nAP: 1 \"p\"\nacc-name: Buchi\nAcceptance: 1 Inf(0)\nproperties: trans-labels explicit-labels trans-acc\n--BODY--\nState: 0\n[t] 0\n[0] 0 {0}\n--END--\n",
     ),
     // q is true now, or p is and q is waited for
     (
         "p U q",
-        "HOA: v1\nStates: 2\nStart: 0\nAP: 2 \"p\" \"q\"\nacc-name: Buchi\nAcceptance: 1 Inf(0)\nproperties: trans-labels explicit-labels trans-acc\n--BODY--\nState: 0\n[0] 0\n[1] 1 {0}\nState: 1\n[t] 1 {0}\n--END--\n",
+        "HOA: v1\nStates: 2\nStart: 0\nAP: 2 \"p\" \"q\"\nacc-name: Buchi\nAcceptance: 1 Inf(0)\nproperties: trans-labels explicit-labels trans-acc\n--BODY--\nState: 0\n[1] 1 {0}\n[0] 0\nState: 1\n[t] 1 {0}\n--END--\n",
     ),
 ];
 
