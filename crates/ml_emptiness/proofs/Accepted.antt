@@ -5,7 +5,7 @@
 --   stem_moves, turn_moves == so are those along the stem of a word, and along its turn
 --   walked, walked_accepting == joint runs are walks
 --   cycle_of        == an accepted word makes an even cycle
-use Rattle.std.proofs.Common.{ℕ, zero, suc, ◌≡◌, ◌+◌, ◌<◌, ◌≤◌, inl, inr, arith, Bool, true, false, List, [], ◌∷◌, ◌++◌}
+use Rattle.std.proofs.Common.{ℕ, zero, suc, ◌≡◌, ◌+◌, ◌<◌, inl, inr, arith, Bool, true, false, List, [], ◌∷◌, ◌++◌}
 use Rattle.std.proofs.Common.{length, get_or, take, drop, refl, sym, ap, ◌∙◌, subst, Some, slice_get}
 use Rattle.std.proofs.lemmas.List.{get_or-take, get_or-drop, length-take-le, length-drop}
 use Rattle.std.proofs.lemmas.Option.{slice_get_within}
@@ -21,7 +21,7 @@ use Rattle.ml_trace.specs.WordAutomata.{WordLasso, stem, turn}
 use Rattle.ml_trace.proofs.Runs.{run-append}
 use Rattle.ml_emptiness.specs.Emptiness.{IsAccepted, reads}
 use Rattle.ml_emptiness.specs.Systems.{Goes, IsWordOn, SystemTable}
-use Rattle.ml_emptiness.specs.private.Pairs.{IsPartly, Joins, arc, pair}
+use Rattle.ml_emptiness.specs.private.Pairs.{IsPartly, arc, pair}
 use Rattle.ml_emptiness.specs.declared.pairs.Origin.{Origin}
 use Rattle.ml_emptiness.specs.declared.pairs.Pair.{Pair}
 use Rattle.ml_lists.specs.Member.{IsMember}

@@ -9,7 +9,7 @@ use Rattle.std.specs.List.{slice_get}
 use Rattle.std.proofs.lemmas.Option.{get_or_from_slice_get, same_Some}
 use Rattle.ml_trace.specs.declared.letters.Transition.{Transition}
 use Rattle.ml_emptiness.specs.Systems.{SystemTable}
-use Rattle.ml_emptiness.specs.private.Pairs.{IsMet, IsWayBetween, Joins, Way}
+use Rattle.ml_emptiness.specs.private.Pairs.{IsMet, IsWayBetween, Joins}
 use Rattle.ml_emptiness.specs.declared.pairs.Origin.{Origin}
 use Rattle.ml_emptiness.specs.declared.pairs.Pair.{Pair}
 

@@ -10,8 +10,8 @@
 --   lowest_zero   == the lowest priority of an even cycle of arcs that join pairs is 0
 --   first_low     == its first arc begins at a pair
 --   found_round   == the way to it, and the way round it, make an accepted word
-use Rattle.std.proofs.Common.{ℕ, zero, suc, ◌≡◌, ◌↔◌, ◌+◌, ◌%◌, ◌<◌, ◌≤◌, ◌⊎◌, inl, inr, arith, Bool, true, false, ◌==◌, List, [], ◌∷◌, ◌++◌}
-use Rattle.std.proofs.Common.{length, get_or, Some, refl, sym, ap, ◌∙◌, subst, slice_get, IsTrue, Contains, cond, eqb, true≢false}
+use Rattle.std.proofs.Common.{ℕ, ◌≡◌, ◌↔◌, ◌+◌, ◌%◌, ◌<◌, ◌⊎◌, inl, inr, arith, Bool, true, false, ◌==◌, List, [], ◌∷◌, ◌++◌}
+use Rattle.std.proofs.Common.{length, get_or, refl, sym, ap, ◌∙◌, subst, slice_get, IsTrue, Contains, cond, eqb, true≢false}
 use Rattle.std.proofs.lemmas.Bool.{cases_Bool, eqb-true}
 use Rattle.std.proofs.lemmas.Option.{get_or_from_slice_get, slice_get_within}
 use Rattle.ml_lists.specs.Member.{IsMember}
@@ -23,7 +23,7 @@ use Rattle.ml_trace.specs.declared.letters.Transition.{Transition}
 use Rattle.ml_trace.specs.Run.{in_letter}
 use Rattle.ml_emptiness.specs.Emptiness.{IsFound}
 use Rattle.ml_emptiness.specs.Systems.{SystemTable, moves_of}
-use Rattle.ml_emptiness.specs.private.Pairs.{AcceptingWay, AreMet, AreStepped, IsJoint, IsStepped, IsWayBetween, Joins, Way, pair, weight}
+use Rattle.ml_emptiness.specs.private.Pairs.{AreMet, AreStepped, IsJoint, IsStepped, IsWayBetween, Joins, pair, weight}
 use Rattle.ml_emptiness.specs.declared.pairs.Origin.{Origin}
 use Rattle.ml_emptiness.specs.declared.pairs.Pair.{Pair}
 use Rattle.ml_emptiness.specs.declared.systems.Move.{Move}

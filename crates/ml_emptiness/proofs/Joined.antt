@@ -8,23 +8,22 @@
 --   along_none, along_more == the transitions that are joined along a move
 --   left_none, left_more == the moves by which a pair is left
 --   left_whole          == a pair that is left by all its moves is left
-use Rattle.std.proofs.Common.{ℕ, zero, suc, ◌≡◌, ◌↔◌, ◌+◌, ◌<◌, ◌≤◌, ◌⊎◌, inl, inr, arith, Bool, true, false, if◌then◌else◌, List, [], ◌∷◌, ◌++◌}
+use Rattle.std.proofs.Common.{ℕ, ◌≡◌, ◌+◌, ◌<◌, ◌≤◌, ◌⊎◌, inl, inr, arith, Bool, true, false, if◌then◌else◌, List, [], ◌∷◌, ◌++◌}
 use Rattle.std.proofs.Common.{length, get_or, length-append, Some, refl, sym, ap, ◌∙◌, subst, slice_get}
 use Rattle.std.proofs.Math.Seq.{get_or-append_seam}
-use Rattle.std.proofs.lemmas.Bool.{cases_Bool, cases_lt}
+use Rattle.std.proofs.lemmas.Bool.{cases_lt}
 use Rattle.std.proofs.lemmas.List.{get_or_append_left}
-use Rattle.std.proofs.lemmas.Option.{same_Some, slice_get_within, slice_get-get_or}
-use Rattle.ml_lists.specs.Added.{HasOnePlace, IsAdded}
+use Rattle.std.proofs.lemmas.Option.{same_Some, slice_get_within}
+use Rattle.ml_lists.specs.Added.{HasOnePlace}
 use Rattle.ml_lists.specs.Member.{IsMember}
 use Rattle.ml_lists.proofs.Added.{added_keeps, added_once}
 use Rattle.ml_lists.proofs.Entries.{some_entry}
 use Rattle.ml_lists.proofs.Member.{member-append, member-append_left, member-append_right}
 use Rattle.ml_parity.specs.declared.one_sided.graph.Arc.{Arc}
 use Rattle.ml_trace.specs.declared.letters.Transition.{Transition}
-use Rattle.ml_emptiness.specs.Emptiness.{reads}
 use Rattle.ml_emptiness.specs.Systems.{SystemTable, moves_of}
 use Rattle.ml_emptiness.specs.private.Found.{AreJoined, IsBegun, IsJoined, IsPartlyFound}
-use Rattle.ml_emptiness.specs.private.Pairs.{AreJoint, AreKept, AreMet, IsJoint, IsLeft, IsLeftAlong, IsLeftBy, IsMet, IsPartly, Joins, arc, origin_at, pair, weight}
+use Rattle.ml_emptiness.specs.private.Pairs.{AreJoint, AreKept, IsJoint, IsLeft, IsLeftAlong, IsLeftBy, IsMet, Joins, arc, origin_at, pair}
 use Rattle.ml_emptiness.specs.declared.pairs.Origin.{Origin}
 use Rattle.ml_emptiness.specs.declared.pairs.Pair.{Pair}
 use Rattle.ml_emptiness.specs.declared.pairs.Pairs.{Pairs}

@@ -1,13 +1,11 @@
 -- Rows whose letters have the same transitions accept the same words.
 --
 --   told_of == what is found over one row is found over the other
-use Rattle.std.proofs.Common.{ℕ, ◌↔◌, Bool, inl, inr, List, [], ◌∷◌, get_or, Option, None, Some, MatchOption}
-use Rattle.ml_lists.specs.Lasso.{Lasso}
-use Rattle.ml_lists.specs.Member.{IsMember}
+use Rattle.std.proofs.Common.{ℕ, Bool, inl, inr, List, [], ◌∷◌, Option, None, Some, MatchOption}
 use Rattle.ml_trace.specs.declared.letters.Transition.{Transition}
 use Rattle.ml_trace.specs.Run.{Run, AcceptingRun}
 use Rattle.ml_trace.specs.WordAutomata.{IsAcceptedFrom, WordLasso}
-use Rattle.ml_emptiness.specs.Emptiness.{IsAccepted, IsEmpty, IsFound, reads}
+use Rattle.ml_emptiness.specs.Emptiness.{IsEmpty, IsFound, reads}
 use Rattle.ml_emptiness.specs.Systems.{SystemTable}
 use Rattle.ml_emptiness.specs.private.Leaving.{AreSameLetters}
 use Rattle.ml_emptiness.specs.declared.lassos.SystemLasso.{SystemLasso}

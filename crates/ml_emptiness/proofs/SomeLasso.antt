@@ -13,8 +13,6 @@
 use Rattle.std.proofs.Common.{ℕ, zero, suc, ◌≡◌, ◌+◌, ◌*◌, ◌/◌, ◌%◌, ◌<◌, ◌≤◌, ◌⊎◌, inl, inr, arith, max, Bool, true, false, List, [], ◌∷◌, ◌++◌}
 use Rattle.std.proofs.Common.{length, get_or, refl, sym, ap, ◌∙◌, subst}
 use Rattle.std.proofs.Math.Nat.{add-mul-div_left, add-mul-mod_self_left, div-eq_of_lt, mod-eq_of_lt, mul-le-mul_left, mul-suc}
-use Rattle.std.proofs.lemmas.Bool.{cases_lt}
-use Rattle.std.proofs.lemmas.List.{get_or_past}
 use Rattle.ml_lists.specs.Found.{Found}
 use Rattle.ml_lists.specs.Lasso.{Lasso}
 use Rattle.ml_lists.specs.Member.{IsMember}
@@ -28,9 +26,9 @@ use Rattle.ml_trace.specs.declared.letters.Transition.{Transition}
 use Rattle.ml_trace.specs.Run.{Run, AcceptingRun}
 use Rattle.ml_trace.specs.WordAutomata.{WordLasso, stem, turn}
 use Rattle.ml_trace.proofs.Runs.{run-append}
-use Rattle.ml_emptiness.specs.Emptiness.{IsAccepted, IsEmpty, IsFound, reads}
+use Rattle.ml_emptiness.specs.Emptiness.{IsAccepted, IsEmpty, reads}
 use Rattle.ml_emptiness.specs.Laws.{SomeLasso}
-use Rattle.ml_emptiness.specs.Systems.{Goes, IsSystem, IsWordOn, SystemTable, moves_of}
+use Rattle.ml_emptiness.specs.Systems.{Goes, IsSystem, SystemTable, moves_of}
 use Rattle.ml_emptiness.specs.private.Pairs.{AcceptingWay, Joins, Way, pair}
 use Rattle.ml_emptiness.specs.declared.pairs.Pair.{Pair}
 use Rattle.ml_emptiness.specs.declared.systems.Move.{Move}

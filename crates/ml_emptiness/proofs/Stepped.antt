@@ -3,10 +3,9 @@
 --   stepped_more      == one step more
 --   stepped_way       == a way between the ends of the walk
 --   stepped_accepting == an accepting one, where an arc has the priority 0
-use Rattle.std.proofs.Common.{ℕ, ◌≡◌, ◌+◌, ◌<◌, ◌⊎◌, inl, inr, arith, Bool, true, false, List, [], ◌∷◌, ◌++◌, length, Some}
+use Rattle.std.proofs.Common.{ℕ, ◌≡◌, ◌+◌, ◌<◌, ◌⊎◌, inl, inr, arith, Bool, true, false, List, [], ◌∷◌, ◌++◌, Some}
 use Rattle.std.proofs.Common.{refl, sym, ap, ◌∙◌, subst, cond, eqb}
 use Rattle.std.specs.List.{slice_get}
-use Rattle.std.proofs.lemmas.Bool.{cases_Bool, eqb-true}
 use Rattle.std.proofs.lemmas.Option.{same_Some}
 use Rattle.ml_parity.specs.declared.one_sided.graph.Arc.{Arc}
 use Rattle.ml_parity.specs.OneSided.{IsWalk, OneSidedGraph, count_at}

@@ -9,7 +9,7 @@
 --   pair_low     == each pair has a state of the system
 --   stem_end     == no pair behind the last one
 use Rattle.std.proofs.Common.{ℕ, zero, suc, ◌≡◌, ◌↔◌, ◌+◌, ◌<◌, ◌≤◌, ◌⊎◌, inl, inr, arith, Bool, true, false, List, [], ◌∷◌, ◌++◌}
-use Rattle.std.proofs.Common.{length, get_or, take, map, Some, None, refl, sym, ap, ◌∙◌, subst, slice_get, ⊎_elim, IsTrue, not, ◌==◌, ◌&&◌}
+use Rattle.std.proofs.Common.{length, get_or, take, map, Some, None, refl, sym, ap, ◌∙◌, subst, slice_get, IsTrue, not, ◌==◌}
 use Rattle.std.specs.Global.{Vec}
 use Rattle.std.specs.List.{list_any}
 use Rattle.std.proofs.lemmas.Bool.{cases_lt, and_parts, and_from, eqb-true, eq-eqb, not-true}
@@ -21,7 +21,7 @@ use Rattle.ml_lists.proofs.Member.{Passing, list_any-member, member-list_any, pl
 use Rattle.ml_trace.specs.declared.letters.Transition.{Transition}
 use Rattle.ml_trace.specs.Run.{in_letter}
 use Rattle.ml_emptiness.specs.Systems.{Goes, IsSystem, SystemTable, moves_of, table_of}
-use Rattle.ml_emptiness.specs.private.Leaving.{AreSameLetters, IsLeaving, is_to}
+use Rattle.ml_emptiness.specs.private.Leaving.{IsLeaving, is_to}
 use Rattle.ml_emptiness.specs.private.Pairs.{AreJoint, AreMet, IsPartly, Joins, pair}
 use Rattle.ml_emptiness.specs.declared.pairs.Origin.{Origin}
 use Rattle.ml_emptiness.specs.declared.pairs.Pair.{Pair}

@@ -6,19 +6,19 @@
 --   way_runs, accepting_runs == the automaton's run along a way
 --   way_goes            == the system's moves along a way
 --   found_on            == a way from the start to a pair, and an accepting one from there back to it, make an accepted word
-use Rattle.std.proofs.Common.{ℕ, zero, suc, ◌≡◌, ◌+◌, ◌-◌, ◌<◌, ◌≤◌, inl, inr, arith, Bool, true, List, [], ◌∷◌, ◌++◌}
-use Rattle.std.proofs.Common.{length, get_or, take, drop, refl, sym, ap, ◌∙◌, subst, append_assoc, length-append}
+use Rattle.std.proofs.Common.{ℕ, zero, suc, ◌≡◌, ◌+◌, ◌-◌, ◌<◌, inl, inr, arith, true, List, [], ◌∷◌, ◌++◌}
+use Rattle.std.proofs.Common.{length, get_or, take, drop, refl, sym, ap, ◌∙◌, subst, length-append}
 use Rattle.std.proofs.Math.Seq.{get_or-append_seam, take-append_seam, drop-append_seam}
 use Rattle.std.proofs.lemmas.List.{append-nil}
-use Rattle.ml_lists.specs.Lasso.{Lasso, round, entry}
+use Rattle.ml_lists.specs.Lasso.{Lasso, round}
 use Rattle.ml_lists.specs.Repeated.{repeated}
 use Rattle.ml_lists.proofs.Repeated.{repeated-one}
 use Rattle.ml_trace.specs.declared.letters.Transition.{Transition}
 use Rattle.ml_trace.specs.Run.{Run, AcceptingRun}
 use Rattle.ml_trace.specs.WordAutomata.{IsAcceptedFrom, WordLasso, stem, turn}
-use Rattle.ml_emptiness.specs.Emptiness.{IsFound, IsAccepted, reads}
+use Rattle.ml_emptiness.specs.Emptiness.{IsFound, reads}
 use Rattle.ml_emptiness.specs.Systems.{Goes, IsWordOn, SystemTable}
-use Rattle.ml_emptiness.specs.private.Pairs.{AcceptingWay, Joins, Way, pair}
+use Rattle.ml_emptiness.specs.private.Pairs.{AcceptingWay, Way, pair}
 use Rattle.ml_emptiness.specs.declared.pairs.Pair.{Pair}
 
 module _ (row : List (List Transition)) (s : SystemTable) where

@@ -15,7 +15,7 @@ use Rattle.ml_lists.specs.Member.{IsMember}
 use Rattle.ml_lists.proofs.BreadthFirstSearch.{Ended, TooMany, search}
 use Rattle.ml_lists.proofs.Different.{different_within}
 use Rattle.ml_lists.proofs.FirstEntries.{member-firsts}
-use Rattle.ml_lists.proofs.Member.{Passing, list_any-member, member-flat_map, member-list_any, member-map, member-map_from}
+use Rattle.ml_lists.proofs.Member.{list_any-member, member-flat_map, member-list_any, member-map, member-map_from}
 use Rattle.ml_lists.proofs.Ranges.{member-range}
 use Rattle.ml_lists.proofs.Ranks.{count_hit, count_passes, count_same}
 use Rattle.ml_labelled.specs.Labelled.{Automaton, Edge, IsLabelled, IsReached, along, begins, edges_of}

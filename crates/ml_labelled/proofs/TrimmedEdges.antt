@@ -4,11 +4,10 @@
 --   same_accepted        == with a guide that is right the same is accepted
 --   trimmed_labelled     == and it is an automaton
 --   all_trimmed          == so it is of what a program holds
-use Rattle.std.proofs.Common.{ℕ, ◌≡◌, ◌<◌, ◌≤◌, ◌⊎◌, ◌^◌, inl, inr, ⊎_elim, arith, Bool, true, false, nat_lt, if◌then◌else◌, List, [], length, get_or, refl, sym, ap, ◌∙◌, subst}
+use Rattle.std.proofs.Common.{ℕ, ◌≡◌, ◌<◌, ◌≤◌, ◌⊎◌, ◌^◌, inl, inr, ⊎_elim, arith, Bool, true, false, nat_lt, if◌then◌else◌, List, length, refl, sym, ap, ◌∙◌, subst}
 use Rattle.std.specs.List.{All}
 use Rattle.std.proofs.lemmas.Bool.{cases_Bool, cond-true, cond-false, ltb-true}
 use Rattle.ml_base.specs.Name.{IsName}
-use Rattle.ml_lists.specs.Member.{IsMember}
 use Rattle.ml_labelled.specs.Labelled.{AcceptSame, Automaton, Edge, Fits, IsCube, IsEdge, IsLabelled, Leads, Letter, edges_of}
 use Rattle.ml_labelled.specs.declared.guide.Guide.{Guide}
 use Rattle.ml_labelled.specs.private.Trimming.{AreTrimmed, Guides, IsCovered, IsTrimming, by_guide, unchanged, depth_of, flag_of, flagged, is_dead, is_full, order_of}

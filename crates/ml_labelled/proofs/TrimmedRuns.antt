@@ -9,7 +9,7 @@
 --   trimmed_accepts == what is accepted, is accepted with transitions left out and flags cleared off loops
 --   filled          == a run among full states accepts, or leads deeper
 --   filled_accepts  == with flags set on full states nothing more is accepted
-use Rattle.std.proofs.Common.{◌≡◌, ℕ, ◌+◌, ◌<◌, ◌≤◌, ◌⊎◌, inl, inr, arith, Bool, true, List, [], ◌∷◌, ◌++◌, length, refl, sym, ap, subst}
+use Rattle.std.proofs.Common.{◌≡◌, ℕ, ◌+◌, ◌<◌, ◌≤◌, ◌⊎◌, inl, inr, arith, Bool, true, List, [], ◌∷◌, ◌++◌, length, refl, ap, subst}
 use Rattle.ml_lists.specs.Repeated.{repeated}
 use Rattle.ml_trace.specs.Run.{AcceptingRun, Run}
 use Rattle.ml_trace.specs.WordAutomata.{IsAcceptedFrom, WordLasso, stem, turn}

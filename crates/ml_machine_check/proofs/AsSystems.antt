@@ -7,14 +7,13 @@
 --   machine_is, environment_is == what is made of them is a system
 --   word_of_system, system_word == their words are those of the system
 --   checked_machine, checked_environment == what is found of the system is found of them
-use Rattle.std.proofs.Common.{ℕ, zero, suc, ◌≡◌, ◌↔◌, ◌+◌, ◌*◌, ◌^◌, ◌<◌, ◌≤◌, ◌⊎◌, inl, inr, arith, Bool, true, false, List, [], ◌∷◌, ◌++◌}
+use Rattle.std.proofs.Common.{ℕ, ◌≡◌, ◌↔◌, ◌+◌, ◌^◌, ◌<◌, ◌≤◌, ◌⊎◌, inl, inr, arith, true, false, List, [], ◌∷◌, ◌++◌}
 use Rattle.std.proofs.Common.{length, get_or, map, refl, sym, ap, ◌∙◌, subst, length-append}
 use Rattle.std.proofs.Math.Pow.{pow_mono}
 use Rattle.std.proofs.lemmas.Bool.{cases_lt}
 use Rattle.std.proofs.lemmas.List.{get_or_append_left, get_or_push, length-map}
-use Rattle.ml_blocks.specs.Closures.{HasMoreThan}
 use Rattle.ml_ctl.specs.Laws.{IsDecided}
-use Rattle.ml_emptiness.specs.Systems.{Goes, IsSystem, IsWordOn, SystemTable, moves_of}
+use Rattle.ml_emptiness.specs.Systems.{Goes, IsSystem, IsWordOn, SystemTable}
 use Rattle.ml_emptiness.specs.declared.systems.Move.{Move}
 use Rattle.ml_emptiness.proofs.Tables.{goes_low}
 use Rattle.ml_lists.specs.Lasso.{Lasso, round}
@@ -23,19 +22,18 @@ use Rattle.ml_lists.proofs.Member.{member-append, member-append_left, member-app
 use Rattle.ml_realize.specs.Realizing.{inputs_of, outputs_of, word_of}
 use Rattle.ml_realize.proofs.GameImages.{valuation_low}
 use Rattle.ml_realize.proofs.RightOutcomes.{linear_decided}
-use Rattle.ml_synthesis.specs.Machines.{EnvironmentFits, EnvironmentGoes, EnvironmentTable, IsWordAlong, MachineFits, MachineGoes, MachineTable, play_at, next_at, step_at, valuation}
+use Rattle.ml_synthesis.specs.Machines.{EnvironmentFits, EnvironmentGoes, EnvironmentTable, IsWordAlong, MachineFits, MachineGoes, MachineTable, play_at, step_at, valuation}
 use Rattle.ml_synthesis.specs.declared.machines.MachineStep.{MachineStep}
 use Rattle.ml_synthesis.specs.declared.outcome.Outcome.TheVariants as outcome
 use Rattle.ml_synthesis.proofs.AlongWords.{states_low}
 use Rattle.ml_task.specs.NameSets.{members}
 use Rattle.ml_task.specs.Task.{IsTask, Task, names_of}
 use Rattle.ml_trace.specs.WordAutomata.{WordLasso}
-use Rattle.ml_word_automaton.specs.WordAutomaton.{start_block}
 use Rattle.ml_word_automaton.specs.Words.{SatisfiedBy}
-use Rattle.ml_machine_check.specs.Checked.{IsChecked, most_nodes}
+use Rattle.ml_machine_check.specs.Checked.{IsChecked}
 use Rattle.ml_machine_check.specs.declared.found.Checked.{Checked}
 use Rattle.ml_machine_check.specs.declared.found.Checked.TheVariants.{ClosureTooLarge, Fails, Holds}
-use Rattle.ml_machine_check.specs.private.AsSystems.{AreMoves, AreMovesOf, IsFoundIn, IsReply, IsSought, IsStep, step_in}
+use Rattle.ml_machine_check.specs.private.AsSystems.{AreMoves, AreMovesOf, IsFoundIn, IsReply, IsStep, step_in}
 
 -- ---- moves from a state
 

@@ -2,16 +2,9 @@
 --
 --   not_right == what a word breaks isn't right
 --   one_check == so nothing is found to hold and to fail
-use Rattle.std.proofs.Common.{ℕ}
-use Rattle.ml_machine_check.specs.Checked.{Breaks, IsChecked}
-use Rattle.ml_machine_check.specs.Laws.{AreAlike, BrokenIsNotRight, OneCheck}
-use Rattle.ml_machine_check.specs.declared.found.Checked.{Checked}
+use Rattle.ml_machine_check.specs.Laws.{BrokenIsNotRight, OneCheck}
 use Rattle.ml_machine_check.specs.declared.found.Checked.TheVariants.{ClosureTooLarge, Fails, Holds}
-use Rattle.ml_realize.specs.Realizing.{IsRight}
-use Rattle.ml_synthesis.specs.declared.outcome.Outcome.{Outcome}
 use Rattle.ml_synthesis.specs.declared.outcome.Outcome.TheVariants as outcome
-use Rattle.ml_task.specs.Task.{Task}
-use Rattle.ml_trace.specs.WordAutomata.{WordLasso}
 
 pub not_right : BrokenIsNotRight
 not_right t (outcome.Made m) w breaks right = breaks.satisfies (right.satisfies w breaks.is_word)

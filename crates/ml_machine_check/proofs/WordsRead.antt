@@ -5,7 +5,7 @@
 --                  there is none
 --   not_large   == an automaton with few nodes isn't large
 --   sought_of   == what is found of a system tells whether it has such a word
-use Rattle.std.proofs.Common.{ℕ, ◌≡◌, ◌↔◌, ◌+◌, ◌^◌, ◌<◌, ◌≤◌, Bool, List, All, length, get_or, Option, None, Some, MatchOption, sym, ap, ◌∙◌, subst, arith}
+use Rattle.std.proofs.Common.{ℕ, ◌≡◌, ◌↔◌, ◌+◌, ◌^◌, ◌<◌, ◌≤◌, Bool, List, All, length, get_or, Option, None, Some, MatchOption, sym, subst, arith}
 use Rattle.std.proofs.lemmas.List.{get_or_default, length-append}
 use Rattle.ml_blocks.specs.Closures.{HasMoreThan}
 use Rattle.ml_emptiness.specs.Emptiness.{IsAccepted, IsEmpty, IsFound, reads}

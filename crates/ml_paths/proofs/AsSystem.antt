@@ -8,7 +8,7 @@
 --   found_shown    == a word that the automaton accepts is along a path that is asked for
 --   none_shown     == and where there is none, there is no such path
 --   shown_of, none_of == so what is found in the system tells of paths
-use Rattle.std.proofs.Common.{ℕ, ◌≡◌, ◌+◌, ◌<◌, ◌≤◌, ◌⊎◌, inl, inr, arith, Bool, true, List, [], ◌∷◌, ◌++◌, length, map, get_or, Option, Some, None, MatchOption, refl, sym, ap, ◌∙◌, subst, subst₂}
+use Rattle.std.proofs.Common.{ℕ, ◌≡◌, ◌+◌, ◌<◌, ◌≤◌, ◌⊎◌, inl, inr, arith, Bool, true, List, length, map, get_or, Option, Some, None, MatchOption, refl, sym, ap, ◌∙◌, subst, subst₂}
 use Rattle.std.proofs.lemmas.Bool.{cases_lt}
 use Rattle.std.proofs.lemmas.List.{ext_get_or, get_or-map, length-map}
 use Rattle.ml_base.specs.Structure.{IsStructure, Structure}
@@ -17,11 +17,9 @@ use Rattle.ml_ctl.specs.Formula.{Formula}
 use Rattle.ml_ctl.specs.Paths.{IsPath, IsPathFrom, has_step, places}
 use Rattle.ml_ctl.specs.Sorts.{is_linear}
 use Rattle.ml_emptiness.specs.Emptiness.{IsAccepted, IsEmpty, IsFound, reads}
-use Rattle.ml_emptiness.specs.Systems.{Goes, IsSystem, IsWordOn, SystemTable, moves_of}
+use Rattle.ml_emptiness.specs.Systems.{Goes, IsSystem, IsWordOn, SystemTable}
 use Rattle.ml_emptiness.specs.declared.lassos.SystemLasso.{SystemLasso}
-use Rattle.ml_emptiness.specs.declared.systems.Move.{Move}
 use Rattle.ml_lists.specs.Lasso.{Lasso, entry, round}
-use Rattle.ml_lists.specs.Member.{IsMember}
 use Rattle.ml_lists.proofs.Lasso.{round-end, round-entry}
 use Rattle.ml_trace.specs.WordAutomata.{IsAcceptedFrom, WordLasso}
 use Rattle.ml_trace.specs.declared.letters.Transition.{Transition}
@@ -30,7 +28,7 @@ use Rattle.ml_paths.specs.Paths.{IsShown}
 use Rattle.ml_paths.specs.private.Letters.{AreLettersOf, number_of}
 use Rattle.ml_paths.specs.private.Systems.{IsSystemOf, path_from, swapped}
 use Rattle.ml_paths.proofs.ReadPaths.{read_path}
-use Rattle.ml_paths.proofs.Swapped.{swap_low, swap_start, swap_twice, swap_zero}
+use Rattle.ml_paths.proofs.Swapped.{swap_low, swap_start, swap_twice}
 
 abbrev pub mapped : ℕ → Lasso → Lasso
 mapped start l = record { entries = map (swapped start) l.entries; start = l.start }

@@ -4,7 +4,7 @@
 --   some_system   == the structure as a system
 --   some_path     == so something is found
 --   one_path      == and not two things
-use Rattle.std.proofs.Common.{ℕ, ◌≡◌, ◌<◌, ◌≤◌, ◌⊎◌, inl, inr, ⊎_elim, arith, Bool, true, List, [], length, map, filter, get_or, refl, sym, ap, ◌∙◌, subst, subst₂}
+use Rattle.std.proofs.Common.{ℕ, ◌≡◌, ◌<◌, ◌≤◌, ◌⊎◌, inl, inr, ⊎_elim, arith, Bool, true, List, [], length, map, filter, get_or, sym, ap, ◌∙◌, subst, subst₂}
 use Rattle.std.specs.List.{range_with_len}
 use Rattle.std.proofs.lemmas.Bool.{cases_lt}
 use Rattle.std.proofs.lemmas.List.{get_or_past}
@@ -22,12 +22,12 @@ use Rattle.ml_listed_automata.proofs.Listed.{some_automaton, some_transitions}
 use Rattle.ml_lists.specs.Lasso.{Lasso}
 use Rattle.ml_lists.specs.Member.{IsMember}
 use Rattle.ml_lists.proofs.Member.{member-filter, member-filter_from, member-map, member-map_from}
-use Rattle.ml_lists.proofs.Ranges.{member-range, range-member}
+use Rattle.ml_lists.proofs.Ranges.{member-range}
 use Rattle.ml_trace.specs.WordAutomata.{WordLasso}
 use Rattle.ml_trace.specs.declared.letters.Transition.{Transition}
 use Rattle.ml_word_automaton.specs.Letters.{Automaton, HasTransitions, IsAutomatonOf}
 use Rattle.ml_word_automaton.proofs.BlockGraphs.{one_size}
-use Rattle.ml_paths.specs.Laws.{AreAlike, OnePath, SomePath}
+use Rattle.ml_paths.specs.Laws.{OnePath, SomePath}
 use Rattle.ml_paths.specs.Paths.{IsFound, labels_at, most_nodes}
 use Rattle.ml_paths.specs.declared.found.Found.{Found}
 use Rattle.ml_paths.specs.declared.found.Found.TheVariants.{ClosureTooLarge, NoPath, Path}

@@ -4,7 +4,7 @@
 --   runs_admitted  == so it is one of words
 --   runs_hold      == and the problem holds at its first state
 --   shown_are_runs == the word of the labels along a path that is shown satisfies the formula
-use Rattle.std.proofs.Common.{ℕ, ◌≡◌, ◌+◌, ◌<◌, ◌==◌, ◌&&◌, Bool, true, false, List, [], ◌∷◌, Contains, length, get_or, slice_index_or, codes, bytes_eq, refl, sym, ap, ◌∙◌, subst, arith, zero, suc}
+use Rattle.std.proofs.Common.{ℕ, ◌≡◌, ◌+◌, ◌<◌, ◌==◌, ◌&&◌, Bool, true, false, List, [], ◌∷◌, length, get_or, slice_index_or, codes, bytes_eq, refl, sym, ap, ◌∙◌, arith, zero, suc}
 use Rattle.std.specs.List.{range_with_len}
 use Rattle.std.proofs.lemmas.List.FromFn.{get_or-range_with_len, length-range_with_len}
 use Rattle.ml_base.specs.Structure.{IsStructure, Structure, lists}
@@ -23,8 +23,7 @@ use Rattle.ml_word_automaton.specs.Words.{Letter, SatisfiedBy, has, next_letter,
 use Rattle.ml_word_automaton.proofs.WordPlaces.{has_next, path_is, step_is}
 use Rattle.ml_word_graph.specs.Problem as words
 use Rattle.ml_paths.specs.Laws.{RunsHold, ShownAreRuns}
-use Rattle.ml_paths.specs.Paths.{IsShown}
-use Rattle.ml_paths.specs.Runs.{IsRunOf, word_along}
+use Rattle.ml_paths.specs.Runs.{IsRunOf}
 use Rattle.ml_paths.proofs.SameLabels.{satisfied_along, sense_linear, truth_alike}
 
 read_letter : (xs : List Letter) (k : ℕ) → k < length xs → slice_index_or xs k [] ≡ get_or xs k []

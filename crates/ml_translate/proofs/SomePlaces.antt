@@ -3,7 +3,7 @@
 --   some_behind == the places behind a place
 --   some_begun  == where walks begin
 --   some_places == all places, or more than the limit
-use Rattle.std.proofs.Common.{ℕ, zero, suc, ◌≡◌, ◌+◌, ◌<◌, ◌≤◌, ◌⊎◌, ◌↔◌, inl, inr, arith, add-one, Bool, List, [], ◌∷◌, length, refl, subst}
+use Rattle.std.proofs.Common.{ℕ, zero, suc, ◌≡◌, ◌+◌, ◌<◌, ◌≤◌, ◌⊎◌, ◌↔◌, inl, inr, arith, add-one, List, [], ◌∷◌, length, refl, subst}
 use Rattle.std.proofs.lemmas.Bool.{cases_eq, cases_lt}
 use Rattle.ml_graph.specs.Graph.{Graph, node_at}
 use Rattle.ml_graph.specs.declared.node.Node.{Node}

@@ -3,12 +3,11 @@
 --   decided_state  == whether a node is a state is decided
 --   some_automaton == so there is the automaton of a formula
 --   few_states     == which has no more states than nodes
-use Rattle.std.proofs.Common.{ℕ, ◌≡◌, ◌<◌, ◌≤◌, ◌⊎◌, inl, inr, arith, false, List, [], ◌∷◌, length, refl, sym, ap, ◌∙◌, subst}
+use Rattle.std.proofs.Common.{ℕ, ◌≡◌, ◌≤◌, ◌⊎◌, inl, inr, arith, false, List, [], ◌∷◌, length, refl, sym, ap, ◌∙◌, subst}
 use Rattle.std.specs.List.{range_with_len}
 use Rattle.std.proofs.lemmas.List.FromFn.{length-range_with_len}
 use Rattle.ml_lists.specs.Ascending.{IsAscending}
 use Rattle.ml_lists.specs.Found.{Found}
-use Rattle.ml_lists.specs.Member.{IsMember}
 use Rattle.ml_lists.proofs.Decided.{Decided, decided_both, decided_either, decided_number, decided_same}
 use Rattle.ml_lists.proofs.Deciding.{Sieved, sieve, some_below}
 use Rattle.ml_lists.proofs.Different.{different_within}

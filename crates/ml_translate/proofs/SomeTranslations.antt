@@ -3,7 +3,7 @@
 --   named            == the propositions of a formula are names
 --   some_written     == where there are no more places than the limit, an automaton is written
 --   some_translation, one_outcome == the laws
-use Rattle.std.proofs.Common.{ℕ, ◌≡◌, ◌<◌, ◌≤◌, ◌⊎◌, ◌^◌, inl, inr, arith, false, List, length, refl}
+use Rattle.std.proofs.Common.{ℕ, ◌≡◌, ◌<◌, ◌≤◌, ◌⊎◌, inl, inr, arith, false, List, refl}
 use Rattle.std.specs.List.{All}
 use Rattle.std.proofs.lemmas.Bool.{cases_lt}
 use Rattle.ml_base.specs.Name.{IsName}
@@ -24,7 +24,7 @@ use Rattle.ml_labelled.proofs.SomeParts.{some_part}
 use Rattle.ml_word_automaton.specs.Letters as word
 use Rattle.ml_word_automaton.specs.Letters.{IsAutomatonOf}
 use Rattle.ml_word_automaton.proofs.BlockGraphs.{one_size}
-use Rattle.ml_translate.specs.Laws.{IsOneOutcome, OneOutcome, SomeTranslation}
+use Rattle.ml_translate.specs.Laws.{OneOutcome, SomeTranslation}
 use Rattle.ml_translate.specs.Output.{IsWrittenFor}
 use Rattle.ml_translate.specs.Places.{HasMorePlaces}
 use Rattle.ml_translate.specs.Translation.{HasTooManyPlaces, IsLarge, IsWordAutomaton, most_nodes, props_of}

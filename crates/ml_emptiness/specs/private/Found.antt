@@ -8,11 +8,9 @@
 --   AreFound row s f         == all pairs are left
 use Rattle.std.specs.Prelude.{ℕ, ◌≡◌, ◌+◌, Bool, List, [], ◌∷◌, ◌++◌, length, if◌then◌else◌}
 use Rattle.ml_lists.specs.Added.{IsAdded}
-use Rattle.ml_lists.specs.Member.{IsMember}
 use Rattle.ml_trace.specs.declared.letters.Transition.{Transition}
 use Rattle.ml_emptiness.specs.Systems.{SystemTable}
 use Rattle.ml_emptiness.specs.private.Pairs.{AreKept, IsLeftAlong, IsPartly, arc, pair}
-use Rattle.ml_emptiness.specs.declared.pairs.Origin.{Origin}
 use Rattle.ml_emptiness.specs.declared.pairs.Pair.{Pair}
 use Rattle.ml_emptiness.specs.declared.pairs.Pairs.{Pairs}
 use Rattle.ml_emptiness.specs.declared.systems.Move.{Move}

@@ -18,7 +18,7 @@
 --                            none covers it
 --   AreKept g p old left new == so were all of old but those that are left
 --   IsTrimming old rows   == the rows are trimmed by some guide that is right, or are as they were
-use Rattle.std.specs.Prelude.{ℕ, ◌≡◌, ◌<◌, ◌≤◌, ◌⊎◌, Bool, true, false, List, [], length, map, get_or, if◌then◌else◌, nat_lt}
+use Rattle.std.specs.Prelude.{ℕ, ◌≡◌, ◌<◌, ◌≤◌, ◌⊎◌, Bool, true, false, List, [], length, get_or, if◌then◌else◌, nat_lt}
 use Rattle.std.specs.Global.{Vec}
 use Rattle.ml_lists.specs.Member.{IsMember}
 use Rattle.ml_labelled.specs.Labelled.{Edge}

@@ -1,4 +1,4 @@
-use Rattle.std.proofs.Common.{◌<◌, length, get_or, arith}
+use Rattle.std.proofs.Common.{get_or, arith}
 use Rattle.ml_emptiness.specs.Systems.{table_of}
 use Rattle.ml_emptiness.proofs.Backwards.{way_longer}
 use Rattle.ml_emptiness.proofs.lassos.go_back.Goals as goal

@@ -1,4 +1,4 @@
-use Rattle.std.proofs.Common.{◌++◌, length, sym, subst}
+use Rattle.std.proofs.Common.{◌++◌, sym, subst}
 use Rattle.ml_emptiness.specs.Emptiness.{IsFound}
 use Rattle.ml_emptiness.specs.Systems.{table_of}
 use Rattle.ml_emptiness.proofs.Between.{first_low, found_round, walk_members}

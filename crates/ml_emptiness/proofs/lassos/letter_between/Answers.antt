@@ -1,4 +1,4 @@
-use Rattle.std.proofs.Common.{◌≡◌, ◌<◌, ◌≤◌, [], length, get_or, refl, sym, ap, subst, take, arith}
+use Rattle.std.proofs.Common.{◌≤◌, [], length, get_or, refl, sym, ap, subst, take}
 use Rattle.std.proofs.lemmas.List.{get_or_default, take_all}
 use Rattle.ml_emptiness.specs.Systems.{moves_of, table_of}
 use Rattle.ml_emptiness.proofs.Between.{between_more, joins_here, not_between, not_read}

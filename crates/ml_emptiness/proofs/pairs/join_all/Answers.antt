@@ -1,4 +1,4 @@
-use Rattle.std.proofs.Common.{◌∷◌, ◌++◌, [], get_or, sym, subst, take}
+use Rattle.std.proofs.Common.{sym, subst, take}
 use Rattle.ml_lists.proofs.Member.{place-member}
 use Rattle.ml_emptiness.specs.Systems.{table_of}
 use Rattle.ml_emptiness.specs.private.Pairs.{IsLeftAlong}

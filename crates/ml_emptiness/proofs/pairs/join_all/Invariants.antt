@@ -1,4 +1,4 @@
-use Rattle.std.proofs.Common.{◌≡◌, Some, slice_get, take}
+use Rattle.std.proofs.Common.{take}
 use Rattle.ml_emptiness.specs.Systems.{table_of}
 use Rattle.ml_emptiness.specs.private.Found.{AreJoined, IsPartlyFound}
 use Rattle.ml_emptiness.proofs.pairs.join_all.Given as goal

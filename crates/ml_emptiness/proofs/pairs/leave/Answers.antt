@@ -1,7 +1,7 @@
-use Rattle.std.proofs.Common.{◌≡◌, ◌<◌, ◌≤◌, ◌∷◌, ◌++◌, [], length, get_or, sym, ap, ◌∙◌, subst, take, arith}
+use Rattle.std.proofs.Common.{◌<◌, ◌≤◌, [], length, sym, ap, subst, take}
 use Rattle.std.proofs.lemmas.List.{get_or_default, take_all}
 use Rattle.ml_emptiness.specs.Systems.{moves_of, table_of}
-use Rattle.ml_emptiness.specs.private.Pairs.{AreJoint, IsLeftBy}
+use Rattle.ml_emptiness.specs.private.Pairs.{IsLeftBy}
 use Rattle.ml_emptiness.proofs.Joined.{left_more, left_whole}
 use Rattle.ml_emptiness.proofs.Tables.{entry_is, joint_here, move_member, moves_are, pair_low, read_low, step_next, table_long}
 use Rattle.ml_emptiness.proofs.pairs.leave.Goals as goal

@@ -1,5 +1,4 @@
-use Rattle.std.proofs.Common.{◌≡◌, ◌<◌, ◌≤◌, Contains, IsOk, length, refl, sym, subst}
-use Rattle.ml_lists.specs.Member.{IsMember}
+use Rattle.std.proofs.Common.{◌<◌, ◌≤◌, Contains, IsOk, refl, sym, subst}
 use Rattle.ml_lists.proofs.Member.{member-All}
 use Rattle.ml_lists.proofs.Members.{member_of_contains}
 use Rattle.ml_parity.specs.declared.one_sided.graph.Arc.{Arc}

@@ -1,4 +1,4 @@
-use Rattle.std.proofs.Common.{◌+◌, ◌∙◌, ap, get_or, length, sym, subst}
+use Rattle.std.proofs.Common.{◌+◌, ◌∙◌, ap, get_or, sym, subst}
 use Rattle.ml_emptiness.specs.Systems.{table_of}
 use Rattle.ml_synthesis.specs.Machines.{EnvironmentGoes}
 use Rattle.ml_machine_check.specs.private.AsSystems.{AreMovesOf}

@@ -1,8 +1,7 @@
-use Rattle.std.proofs.Common.{◌∷◌, ◌++◌, ◌+◌, [], ◌∙◌, ap, length, sym, subst}
+use Rattle.std.proofs.Common.{◌+◌, ◌∙◌, ap, length, sym, subst}
 use Rattle.ml_emptiness.specs.Systems.{table_of}
 use Rattle.ml_synthesis.specs.Machines.{MachineGoes}
-use Rattle.ml_synthesis.specs.declared.machines.MachineStep.{MachineStep}
-use Rattle.ml_machine_check.specs.private.AsSystems.{AreMoves, AreMovesOf, IsStep}
+use Rattle.ml_machine_check.specs.private.AsSystems.{AreMovesOf}
 use Rattle.ml_machine_check.proofs.AsSystems.{of_more, step_goes}
 use Rattle.ml_machine_check.proofs.ReadRows.{row_at, row_low, steps_give, steps_long, table_more}
 use Rattle.ml_machine_check.proofs.systems.machine_system.Goals as goal

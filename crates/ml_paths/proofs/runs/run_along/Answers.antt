@@ -1,4 +1,4 @@
-use Rattle.std.proofs.Common.{ℕ, ◌≡◌, ◌<◌, ◌∙◌, All, List, ap, length, sym, subst}
+use Rattle.std.proofs.Common.{ℕ, ◌<◌, ◌∙◌, All, List, ap, length, sym, subst}
 use Rattle.ml_paths.specs.Runs.{IsRunOf, pairs_of, word_at}
 use Rattle.ml_paths.specs.private.Built.{letter_of}
 use Rattle.ml_paths.proofs.Gathered.{along_is, pairs_low}

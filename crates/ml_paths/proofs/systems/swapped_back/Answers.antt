@@ -1,4 +1,4 @@
-use Rattle.std.proofs.Common.{◌∷◌, ◌++◌, ◌∙◌, [], ap, sym}
+use Rattle.std.proofs.Common.{◌∷◌, ◌++◌, ◌∙◌, [], sym}
 use Rattle.ml_paths.proofs.Moves.{back_more}
 use Rattle.ml_paths.proofs.systems.swapped_back.Goals as goal
 
