@@ -32,8 +32,9 @@ fn reduced_once(alloc: Global, automaton: LabelledAutomaton) -> Result<LabelledA
 }
 
 /// An automaton that accepts the same words, each state reached, made small: without edges that others cover, and those into
-/// states from which nothing is accepted; the flags of edges that lie on no loop cleared, and all set where each loop accepts;
-/// and states with the same edges one. Each of these again and again, until nothing becomes less.
+/// states from which nothing is accepted; all flags set among states where each loop accepts, and on an edge that lies on no
+/// loop the flag of the states to which it leads; and states with the same edges one. Each of these again and
+/// again, until nothing becomes less.
 ///
 /// # Errors
 /// `NoMemory` alone.

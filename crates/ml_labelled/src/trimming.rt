@@ -172,8 +172,8 @@ fn trim(alloc: Global, rows: &mut Vec<Vec<CubeEdge>>) -> Result<(), NoMemory>
 }
 
 // An automaton that accepts the same, without edges into states from which nothing is accepted and edges that others cover,
-// each flag off loops cleared, and where all loops accept all flags set. The cost is that of sorting the edges of each state,
-// and quadratic in those.
+// all flags set where all loops accept, and each flag off loops that of the states to which the edge leads. The cost is that of
+// sorting the edges of each state, and quadratic in those.
 pub(crate) fn trimmed(
     alloc: Global,
     automaton: LabelledAutomaton,

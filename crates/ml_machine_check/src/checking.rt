@@ -60,7 +60,7 @@ fn check_system(
 
 /// Whether a machine realizes a task, or an environment defeats it.
 ///
-/// The outcome has the inputs and outputs of the task (`Fits`), as `ml_realize_text::read` gives it.
+/// The outcome has the inputs and outputs of the task (`Fits`).
 ///
 /// Back comes `ClosureTooLarge` exactly where the graph of the word automaton has more than `MOST_NODES` nodes: that of the
 /// negated formula for a machine, of the formula for an environment. Else it is `Holds` exactly where each word of the machine

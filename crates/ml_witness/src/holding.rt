@@ -9,13 +9,13 @@ use ml_graph::ModalGraph;
 use ml_kripke::Structure;
 use std::alloc::Global;
 
-/// Does the graph surely hold at the state? True comes only where it holds; false says nothing. It comes where a strong component
-/// of the graph has fixpoints of both kinds, of which the claims that are made needn't be kept.
+/// Does the graph surely hold at the state? True comes only where it holds. False says nothing: it may come where the graph
+/// holds too, as in a strong component with fixpoints of both kinds, of which the claims that are made needn't be kept.
 ///
 /// # Errors
 /// `NoMemory` alone.
 ///
-/// Cost: near linear in the pairs of a state and a node, and in the nodes for each edge.
+/// Cost: near linear in the pairs of a state and a node, and for each edge of the structure in the nodes that look along edges.
 pub fn surely_holds(
     alloc: Global,
     graph: &ModalGraph,
