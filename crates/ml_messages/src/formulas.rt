@@ -1,0 +1,79 @@
+// Why the text of a formula is refused.
+
+use crate::expected::expected;
+use crate::shown::{shown, token};
+use ml_base::ParseRefusal;
+use ml_front::{Logic, read};
+use std::alloc::{AllocError, Global};
+
+/// Past so many bytes it isn't told what may follow.
+const LONGEST_FRONT: usize = 20_000;
+
+/// Why the text is refused by this rule at this byte, without the place.
+pub(crate) fn formula_fault(
+    alloc: Global,
+    logic: Logic,
+    text: &[u8],
+    rule: u32,
+    at: usize,
+) -> Result<String, AllocError> {
+    let (front, rest) = match text.split_at_checked(at) {
+        Some(parts) => parts,
+        None => (text, text.get(text.len()..).unwrap_or(text)),
+    };
+    let found = token(rest, matches!(logic, Logic::Ctl | Logic::Ltl | Logic::Word));
+    let name = shown(alloc, found)?;
+    match rule {
+        1 => syntax_fault(alloc, logic, front, found),
+        2 => format!(in alloc; "the variable {name} has no `mu` or `nu` around it"),
+        3 => format!(in alloc;
+            "the variable {name} stands under an odd number of negations, or beside `<->`, within its `mu` or `nu`"
+        ),
+        4 => String::from_str(alloc, "here the formula passes 1,000 occurrences"),
+        5 => String::from_str(alloc, "here 1,001 parentheses are open at a time"),
+        _ => String::from_str(alloc, "this name has more than 64 bytes"),
+    }
+}
+
+fn syntax_fault(
+    alloc: Global,
+    logic: Logic,
+    front: &[u8],
+    found: &[u8],
+) -> Result<String, AllocError> {
+    let list = if front.len() <= LONGEST_FRONT {
+        expected(alloc, logic, front, found)?
+    } else {
+        String::new(alloc)
+    };
+    let cause = if found.is_empty() {
+        String::from_str(alloc, "the formula isn't whole")?
+    } else {
+        let name = shown(alloc, found)?;
+        format!(in alloc; "{name} isn't expected here")?
+    };
+    if list.is_empty() {
+        return Ok(cause);
+    }
+    format!(in alloc; "{cause}; expected: {list}")
+}
+
+/// The rule and the byte by which the parser refuses the text, if it does.
+pub(crate) fn refusal_of(
+    alloc: Global,
+    logic: Logic,
+    text: &[u8],
+) -> Result<Option<(u32, usize)>, AllocError> {
+    let Err(refusal) = read(alloc, logic, text) else {
+        return Ok(None);
+    };
+    Ok(Some(match refusal {
+        ParseRefusal::Syntax { at } => (1, at as usize),
+        ParseRefusal::Unbound { at } => (2, at as usize),
+        ParseRefusal::NotPositive { at } => (3, at as usize),
+        ParseRefusal::TooMany { at } => (4, at as usize),
+        ParseRefusal::TooNested { at } => (5, at as usize),
+        ParseRefusal::NameTooLong { at } => (6, at as usize),
+        ParseRefusal::NoMemory => return Err(AllocError),
+    }))
+}
