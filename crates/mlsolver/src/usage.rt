@@ -38,7 +38,14 @@ pub(crate) fn explain(rt: &impl Eprint, words: &[String]) -> io::Result<()> {
     }
     eprintln!(rt; "LOGIC is mu, pdl, ctl, ltl or word; ENGINE recursive or measures;")?;
     eprintln!(rt; "FAMILY and, or, step, fair or loop; N has one to six digits.")?;
-    eprintln!(rt; "All but gen and bench read standard input. See docs/GUIDE.md.")
+    eprintln!(rt;
+        "All but gen and bench read standard input. The exit status is 0 for yes or done,"
+    )?;
+    eprintln!(rt;
+        "1 for no, 2 for undecided, 3 for words like these, 4 for a refused input, 5 where"
+    )?;
+    eprintln!(rt; "standard input fails, 6 where standard output fails, and 7 without memory.")?;
+    eprintln!(rt; "See docs/GUIDE.md, or the manual: man docs/mlsolver.1")
 }
 
 // is this the first word of a call?
