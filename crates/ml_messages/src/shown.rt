@@ -1,5 +1,6 @@
 // Parts of inputs, shown.
 
+use ml_lines::split_line;
 use std::alloc::{AllocError, Global};
 
 /// How many bytes of an input are shown at most.
@@ -27,15 +28,11 @@ fn is_printable(byte: u8) -> bool {
 /// The line with this number, counted from 1, without its end; `None` where the text has no such line or it has no end.
 pub(crate) fn line_of(text: &[u8], number: usize) -> Option<&[u8]> {
     let mut rest = text;
-    let mut at: usize = 1;
-    while let Some(end) = rest.iter().position(|byte| *byte == b'\n') {
-        if at == number {
-            return rest.get(..end);
-        }
-        rest = rest.get(end.saturating_add(1)..)?;
-        at = at.saturating_add(1);
+    for _ in 1..number {
+        (_, rest) = split_line(rest)?;
     }
-    None
+    let (line, _) = split_line(rest)?;
+    Some(line)
 }
 
 /// What stands behind this front of a line.
