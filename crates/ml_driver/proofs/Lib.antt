@@ -12,6 +12,10 @@ pub mod GameAnswers
 pub mod CheckedGameAnswers
 -- what is due for `determinise`
 pub mod AutomatonAnswers
+-- what is due for `path`
+pub mod PathAnswers
+-- what is due for `check-machine`
+pub mod MachineAnswers
 -- what is due for `realize`
 pub mod TaskAnswers
 -- each structure has a quotient

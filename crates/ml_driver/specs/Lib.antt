@@ -16,6 +16,10 @@ pub mod CheckedGames
 pub mod Automata
 -- automata of formulas
 pub mod Translations
+-- paths of structures
+pub mod Paths
+-- machines and environments that are checked
+pub mod CheckedMachines
 -- tasks that are realized
 pub mod Tasks
 -- what a problem is decided to be

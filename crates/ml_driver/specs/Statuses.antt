@@ -14,6 +14,7 @@
 --   refutation_said v == what is said of a document with a refutation of which checking finds v: that it is accepted; that
 --                       it isn't, with the first line that breaks a rule, and the lowest such rule; or why the document
 --                       can't be read
+--   undecided_line w n == the line for what stays undecided because of the size n of w
 --   refused_document f == the words of the line for a document that can't be read: its first bad line, and the rule that it
 --                       breaks
 --   IsUnreadable F out == out is the line for a document whose first bad line F tells
@@ -33,7 +34,7 @@ use Rattle.ml_refute_check.specs.declared.verdict.Verdict.{Verdict}
 use Rattle.ml_refute_check.specs.declared.verdict.Verdict.TheVariants as verdict
 use Rattle.ml_task.specs.declared.limits.TheConstants.{LONGEST_TASK_TEXT}
 use Rattle.ml_driver.specs.declared.command.Command.{Command}
-use Rattle.ml_driver.specs.declared.command.Command.TheVariants.{CheckModel, CheckRefutation, Migrate, Quotient, SolveGame, CheckGame, Determinise, Realize, Gen, Bench}
+use Rattle.ml_driver.specs.declared.command.Command.TheVariants.{CheckModel, CheckRefutation, Migrate, Quotient, SolveGame, CheckGame, Path, CheckMachine, Determinise, Realize, Gen, Bench}
 use Rattle.ml_driver.specs.declared.command.TheConstants.{LONGEST_TEXT, LONGEST_DOCUMENT}
 use Rattle.ml_driver.specs.declared.status.Status.{Status}
 use Rattle.ml_driver.specs.declared.status.Status.TheVariants.{Yes, No, Undecided, Words, Text}
@@ -43,6 +44,8 @@ longest_input CheckModel = Some LONGEST_DOCUMENT
 longest_input CheckRefutation = Some LONGEST_DOCUMENT
 longest_input Migrate = Some LONGEST_DOCUMENT
 longest_input Quotient = Some LONGEST_DOCUMENT
+longest_input Path = Some LONGEST_DOCUMENT
+longest_input CheckMachine = Some LONGEST_DOCUMENT
 longest_input (SolveGame e) = Some LONGEST_GAME_TEXT
 longest_input CheckGame = Some LONGEST_CHECKED_TEXT
 longest_input (Determinise n) = Some LONGEST_AUTOMATON_TEXT
@@ -64,6 +67,9 @@ words_refused = (Words, codes "refused" ∷ codes "words" ∷ [])
 
 abbrev pub length_refused : Said
 length_refused = (Text, codes "refused" ∷ codes "length" ∷ [])
+
+abbrev pub undecided_line : Word → ℕ → List ℕ
+undecided_line what size = line_text (codes "undecided" ∷ what ∷ number size ∷ [])
 
 abbrev pub refused_document : DocFault → Line
 refused_document fault =

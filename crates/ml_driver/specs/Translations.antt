@@ -4,27 +4,22 @@
 -- formula's word automaton has too many nodes, or has more places than the limit, that alone is said.
 --
 --   StandsForFormula text P  == the text stands for a formula of LTL, and P is true of it
---   undecided_line w n       == the line for what stays undecided because of the size n of w
 --   large_line               == the line for a formula whose word automaton has too many nodes
 --   many_places_line n       == the line for one whose word automaton has more than n places
 --   IsUntranslated f n out   == f is such a formula, and out is its line
 --   IsRefusedFormula text out == out says why the text is refused, and at which byte
-use Rattle.std.specs.Prelude.{ℕ, ◌≡◌, List, [], ◌∷◌, Some, codes}
+use Rattle.std.specs.Prelude.{ℕ, ◌≡◌, List, Some, codes}
 use Rattle.ml_base.specs.declared.parse_refusal.ParseRefusal.{ParseRefusal}
-use Rattle.ml_lines.specs.Lines.{Word, line_text, number}
 use Rattle.ml_ctl.specs.Formula.{Formula}
 use Rattle.ml_ctl.specs.Parsing.{IsParsedAs, IsRefusedBy}
 use Rattle.ml_ctl.specs.declared.language.Language.TheVariants.{Ltl}
 use Rattle.ml_translate.specs.Translation.{HasTooManyPlaces, IsLarge, most_nodes}
-use Rattle.ml_driver.specs.Statuses.{refusal_line}
+use Rattle.ml_driver.specs.Statuses.{refusal_line, undecided_line}
 
 pub record StandsForFormula (text : List ℕ) (IsSo : Formula → Type 0) : Type 0 where
   pub formula : Formula
   pub is_parsed : IsParsedAs Ltl text formula
   pub is_so : IsSo formula
-
-abbrev pub undecided_line : Word → ℕ → List ℕ
-undecided_line what size = line_text (codes "undecided" ∷ what ∷ number size ∷ [])
 
 abbrev pub large_line : List ℕ
 large_line = undecided_line (codes "closure") most_nodes

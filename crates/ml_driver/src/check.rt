@@ -99,7 +99,7 @@ pub(crate) fn migrate(alloc: Global, text: &[u8]) -> Result<Output, NoMemory>
     })
 }
 
-fn not_total(alloc: Global, state: u32) -> Result<Vec<u8>, NoMemory>
+pub(crate) fn not_total(alloc: Global, state: u32) -> Result<Vec<u8>, NoMemory>
     ensures { IfOk result (λ line. line.items ≡ line_text (statuses.model_said (Checked.NotTotal state)).1) }
 {
     let mut line = Vec::new(alloc);
@@ -112,7 +112,7 @@ fn not_total(alloc: Global, state: u32) -> Result<Vec<u8>, NoMemory>
     Ok(line)
 }
 
-fn not_a_word(alloc: Global, state: u32) -> Result<Vec<u8>, NoMemory>
+pub(crate) fn not_a_word(alloc: Global, state: u32) -> Result<Vec<u8>, NoMemory>
     ensures { IfOk result (λ line. line.items ≡ line_text (statuses.model_said (Checked.NotAWord state)).1) }
 {
     let mut line = Vec::new(alloc);

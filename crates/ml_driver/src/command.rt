@@ -53,6 +53,10 @@ pub enum Command {
     /// `automaton`: a Büchi automaton that accepts exactly the words that satisfy the formula of LTL on the input, whose word
     /// automaton may have as many places as the limit.
     Automaton { limit: u32 },
+    /// `path`: a path of the structure of the document on the input that shows its problem, or, for `A f` of CTL*, that breaks f.
+    Path,
+    /// `check-machine`: does the machine of the document on the input realize its task, or the environment defeat it?
+    CheckMachine,
     /// `realize`: a machine that realizes the task on the input, or an environment that defeats it. The game may have as many
     /// positions as the limit.
     Realize { limit: u32 },
@@ -91,8 +95,12 @@ impl Command {
             | Command::Find { .. }
             | Command::Prove { .. }
             | Command::Automaton { .. } => Some(LONGEST_TEXT),
-            Command::CheckModel | Command::CheckRefutation | Command::Migrate | Command::Quotient =>
-                Some(LONGEST_DOCUMENT),
+            Command::CheckModel
+            | Command::CheckRefutation
+            | Command::Migrate
+            | Command::Quotient
+            | Command::Path
+            | Command::CheckMachine => Some(LONGEST_DOCUMENT),
             Command::SolveGame { .. } => Some(LONGEST_GAME_TEXT as u64),
             Command::CheckGame => Some(LONGEST_CHECKED_TEXT as u64),
             Command::Determinise { .. } => Some(LONGEST_AUTOMATON_TEXT as u64),
@@ -322,6 +330,10 @@ fn bare_by(command: &str) -> Option<Command>
         Some(Command::Quotient)
     } else if command == "check-game" {
         Some(Command::CheckGame)
+    } else if command == "path" {
+        Some(Command::Path)
+    } else if command == "check-machine" {
+        Some(Command::CheckMachine)
     } else {
         None
     }

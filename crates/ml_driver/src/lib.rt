@@ -6,7 +6,8 @@
 // `specs/Decision.antt` (they are decisions of `ml_decide`, which knows nothing of texts), what `quotient` answers in
 // `specs/Quotients.antt`, what `solve-game` answers in `specs/Games.antt`, what `check-game` answers in
 // `specs/CheckedGames.antt`, what `determinise` answers in `specs/Automata.antt`, what `automaton` answers in
-// `specs/Translations.antt`, and what `realize` answers in `specs/Tasks.antt`. `Status::code` is the number with which the
+// `specs/Translations.antt`, what `path` answers in `specs/Paths.antt`, what `check-machine` answers in
+// `specs/CheckedMachines.antt`, and what `realize` answers in `specs/Tasks.antt`. `Status::code` is the number with which the
 // program ends. `laws` says that some status is due for all words and each input, and one alone but for `find` and `prove`;
 // that answers are exact; and that what is written is found to be right.
 //
@@ -16,11 +17,13 @@
 mod bench;
 mod check;
 mod checking_games;
+mod checking_machines;
 mod command;
 mod decide;
 mod determinising;
 mod documents;
 mod engine;
+mod finding_paths;
 mod input;
 pub mod laws;
 mod output;

@@ -48,3 +48,15 @@ pub(crate) fn refused_at(
     end_line(&mut line)?;
     Ok(line)
 }
+
+// what stays undecided because of a size
+pub(crate) fn undecided_line(alloc: Global, what: &[u8], size: u32) -> Result<Vec<u8>, NoMemory>
+    ensures { IfOk result (λ line. line.items ≡ statuses.undecided_line what.now size) }
+{
+    let mut line = Vec::new(alloc);
+    write_word(&mut line, b"undecided")?;
+    write_next_word(&mut line, what)?;
+    write_next_number(&mut line, u64::from(size))?;
+    end_line(&mut line)?;
+    Ok(line)
+}

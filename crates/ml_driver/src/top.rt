@@ -9,8 +9,10 @@ ghost use Rattle.ml_driver.specs.private.UsualNumbers.{HasUsualNumbers};
 use crate::bench::{generate, measure};
 use crate::check::{check_model, check_refutation, migrate};
 use crate::checking_games::check_game;
+use crate::checking_machines::check_machine;
 use crate::decide::decide;
 use crate::determinising::determinise_text;
+use crate::finding_paths::find_path;
 use crate::input::input_of;
 use crate::output::Output;
 use crate::question::Question;
@@ -35,7 +37,9 @@ use std::alloc::Global;
 ///   `prove` where its negation holds nowhere, and where it holds at some state; of `check-model` where the problem of the
 ///   document holds at the start of its structure, and where it doesn't; of `check-refutation` where the document's
 ///   refutation is accepted, and where it isn't; of `check-game` where the solution behind the game of the text is right,
-///   and where it isn't; of `realize` with a machine that realizes the task of the text, and with an environment that
+///   and where it isn't; of `path` with a path from the start of the document's structure that shows its problem, and where there
+///   is none; of `check-machine` where the machine of the document realizes its task, or the environment defeats it, and with a
+///   word that shows that it doesn't; of `realize` with a machine that realizes the task of the text, and with an environment that
 ///   defeats it; of `bench` where the family's formula is satisfiable, and where it isn't, with its occurrences, the nodes
 ///   of its graph and the positions of its game counted; `Yes` of `migrate` with the document that is written of the same
 ///   refutation, of `quotient` with the document of the same problem that has the quotient of the structure and the class
@@ -46,7 +50,8 @@ use std::alloc::Global;
 ///   decision game passes the limit; of `find` and `prove` only there; of `check-model` exactly where the closure has too
 ///   many nodes, on a structure of which the logic speaks; of `determinise` exactly where the deterministic automaton has
 ///   more states than the limit; of `automaton` exactly where the graph of the word automaton has too many nodes, or the
-///   word automaton more places than the limit; of `realize` exactly where the graph of the word automaton has too many
+///   word automaton more places than the limit; of `path` and `check-machine` exactly where the graph of the word automaton has too many nodes,
+///   for an input that isn't refused; of `realize` exactly where the graph of the word automaton has too many
 ///   nodes, or the game of the task passes the limit;
 /// - `Words` exactly for words that are no command, `Text` exactly for input that the command refuses, both with one
 ///   line that says so.
@@ -118,6 +123,8 @@ fn outcome(alloc: Global, command: Command, text: &[u8]) -> Result<Output, NoMem
         Command::CheckGame => check_game(alloc, text),
         Command::Determinise { limit } => determinise_text(alloc, limit, text),
         Command::Automaton { limit } => translate_text(alloc, limit, text),
+        Command::Path => find_path(alloc, text),
+        Command::CheckMachine => check_machine(alloc, text),
         Command::Realize { limit } => realize_text(alloc, limit, text),
         Command::Gen { family, n } => generate(alloc, family, n),
         Command::Bench { family, n } => measure(alloc, family, n),

@@ -1,14 +1,12 @@
 // Automata of formulas of LTL.
-ghost use Rattle.std.specs.Prelude.{◌≡◌, IfOk};
+ghost use Rattle.std.specs.Prelude.{IfOk};
 ghost use Rattle.ml_ctl.specs.Parsing.{IsParsedAs};
 ghost use Rattle.ml_ctl.specs.declared.language.Language.TheVariants.{Ltl};
 ghost use Rattle.ml_driver.specs.Run.{IsAnswer};
-ghost use Rattle.ml_driver.specs.Translations as translations;
 
-use crate::output::{Output, refusal_line};
+use crate::output::{Output, refusal_line, undecided_line};
 use crate::{Command, Status};
 use ml_base::{NoMemory, ParseRefusal};
-use ml_lines::{end_line, write_next_number, write_next_word, write_word};
 use ml_ltl::{Formula, parse};
 use ml_translate::{MOST_NODES, TranslateRefusal, automaton_of_formula, write};
 use std::alloc::Global;
@@ -47,15 +45,4 @@ fn answer(alloc: Global, limit: u32, _text: &[u8], formula: &Formula) -> Result<
         }),
         Err(TranslateRefusal::NoMemory) => Err(NoMemory),
     }
-}
-
-fn undecided_line(alloc: Global, what: &[u8], size: u32) -> Result<Vec<u8>, NoMemory>
-    ensures { IfOk result (λ line. line.items ≡ translations.undecided_line what.now size) }
-{
-    let mut line = Vec::new(alloc);
-    write_word(&mut line, b"undecided")?;
-    write_next_word(&mut line, what)?;
-    write_next_number(&mut line, u64::from(size))?;
-    end_line(&mut line)?;
-    Ok(line)
 }

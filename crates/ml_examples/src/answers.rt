@@ -2,6 +2,7 @@
 
 use ml_base::{MemSink, MemSource, NoMemory};
 use ml_driver::run;
+use ml_lines::split_line;
 use std::alloc::Global;
 
 const ROOM: u64 = 1_000_000;
@@ -35,13 +36,31 @@ pub(crate) fn answer_to(alloc: Global, words: &str, input: &[u8]) -> Result<Answ
     answer_in(alloc, &words, &mut source)
 }
 
-/// The command that checks what was written, where it is a document with an answer.
-pub(crate) fn checking(output: &[u8]) -> Option<&'static str> {
-    if output.starts_with(b"mlsolver 2\nanswer satisfiable\n") {
-        Some("check-model")
-    } else if output.starts_with(b"mlsolver 2\nanswer unsatisfiable\n") {
-        Some("check-refutation")
+/// The document with an answer that was written, and the command that checks it.
+pub(crate) fn checking(output: &[u8]) -> Option<(&'static str, &[u8])> {
+    let document = document_in(output)?;
+    if document.starts_with(b"mlsolver 2\nanswer satisfiable\n") {
+        Some(("check-model", document))
+    } else if document.starts_with(b"mlsolver 2\nanswer unsatisfiable\n") {
+        Some(("check-refutation", document))
+    } else if document.starts_with(b"mlsolver realize 1\nanswer realizable\n")
+        || document.starts_with(b"mlsolver realize 1\nanswer unrealizable\n")
+    {
+        Some(("check-machine", document))
     } else {
         None
+    }
+}
+
+// behind the two lines of a path, or the line `fails`
+fn document_in(output: &[u8]) -> Option<&[u8]> {
+    let (line, rest) = split_line(output)?;
+    if line == b"fails".as_slice() {
+        Some(rest)
+    } else if line.starts_with(b"path ") {
+        let (_, rest) = split_line(rest)?;
+        Some(rest)
+    } else {
+        Some(output)
     }
 }

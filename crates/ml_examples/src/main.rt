@@ -33,7 +33,7 @@ use std::fs;
 use std::io::Print;
 use std::rt::Files;
 
-const FILES: [&str; 39] = [
+const FILES: [&str; 43] = [
     "examples",
     "specifications",
     "patterns",
@@ -58,6 +58,10 @@ const FILES: [&str; 39] = [
     "translations",
     "quotients",
     "realize",
+    "machines",
+    "machines_refused",
+    "altered_machines",
+    "paths",
     "meanings",
     "random_models",
     "random_paths",

@@ -9,7 +9,7 @@ use std::fs;
 use std::io::Print;
 use std::rt::Files;
 
-const COMMANDS: [&str; 15] = [
+const COMMANDS: [&str; 17] = [
     "decide",
     "valid",
     "find",
@@ -20,9 +20,11 @@ const COMMANDS: [&str; 15] = [
     "quotient",
     "solve-game",
     "check-game",
+    "path",
     "automaton",
     "determinise",
     "realize",
+    "check-machine",
     "gen",
     "bench",
 ];

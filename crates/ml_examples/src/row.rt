@@ -129,14 +129,14 @@ fn is_checked(
 ) -> Result<bool, Failure> {
     match checking(&found.output) {
         None => Ok(true),
-        Some(command) => {
+        Some((command, document)) => {
             counts.documents = counts.documents.saturating_add(1);
             let wanted = if matches!(row.words.as_str(), "migrate" | "quotient") {
                 answer_to(alloc, command, &row.input)?.status
             } else {
                 0
             };
-            Ok(answer_to(alloc, command, &found.output)?.status == wanted)
+            Ok(answer_to(alloc, command, document)?.status == wanted)
         }
     }
 }

@@ -3,13 +3,14 @@
 use std::io;
 
 // each command with its further words, and what it is for
-const CALLS: [&str; 15] = [
+const CALLS: [&str; 17] = [
     "find LOGIC [--limit N]    is the formula satisfiable?",
     "prove LOGIC [--limit N]   is the formula valid?",
     "decide LOGIC [--limit N]  as find, without a search",
     "valid LOGIC [--limit N]   as prove, without a search",
     "check-model               does the document's problem hold at its start?",
     "check-refutation          is the document's refutation right?",
+    "path                      a path of the document's structure that shows its formula",
     "migrate                   the document's refutation in version 2",
     "quotient                  the document's structure, as small as can be",
     "solve-game ENGINE         who wins the parity game?",
@@ -17,6 +18,7 @@ const CALLS: [&str; 15] = [
     "determinise [--limit N]   the Büchi automaton, made deterministic",
     "automaton [--limit N]     a Büchi automaton of the formula of LTL",
     "realize [--limit N]       a machine for the task, or an environment",
+    "check-machine             does the machine realize its task?",
     "gen FAMILY N              the formula of a family",
     "bench FAMILY N            its size, and whether it is satisfiable",
 ];
