@@ -54,11 +54,7 @@ pub fn read_document(alloc: Global, bytes: &[u8]) -> Result<ShownModel, DocRefus
 /// `NoMemory` alone.
 ///
 /// Cost: linear in the text.
-pub fn write_document(
-    alloc: Global,
-    problem: &Problem,
-    model: &Model,
-) -> Result<Vec<u8>, NoMemory>
+pub fn write_document(alloc: Global, problem: &Problem, model: &Model) -> Result<Vec<u8>, NoMemory>
     ensures text { IfOk result (λ bytes.
         bytes.items ≡ satisfiable_document problem.now model.now.structure model.now.start) }
     ensures written { OnOk result (IsWritten model.now.structure model.now.start) }

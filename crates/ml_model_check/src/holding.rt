@@ -71,9 +71,15 @@ pub fn holds(
     }
 }
 
-// the first state without an edge by `_`
+/// The least state of a structure without an edge by `_`; `None` exactly where each state has one, so where CTL* and LTL speak
+/// of the structure.
+///
+/// # Errors
+/// `NoMemory` alone.
+///
+/// Cost: linear in the edges.
 #[tactic(auto, using(crate::proofs::Deadlocks::deadlock_found))]
-fn first_deadlock(alloc: Global, structure: &Structure) -> Result<Option<u32>, NoMemory>
+pub fn first_deadlock(alloc: Global, structure: &Structure) -> Result<Option<u32>, NoMemory>
     ensures { IfOk result (λ found. MatchOption found (ctl.IsAdmitted structure.now)
         (IsFirst (IsDeadlock structure.now) structure.now.states)) }
 {

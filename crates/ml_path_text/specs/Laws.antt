@@ -1,0 +1,72 @@
+-- What is true of the paths that are found of documents.
+--
+--   AreAlike x y        == x and y are the same, or both are a path
+--   SomeFinding, OneFinding == something is found of each text, and one thing at most, up to which path is shown
+--   PathsAreConfirmed   == whoever checks documents finds that the one behind the lines of a path holds, if the path has fewer
+--                          than 2 ^ 32 places
+--   IsPath x            == x is a path
+--   NeitherIsLarge x c  == neither is a word automaton too large, nor a closure to check the document
+--   FoundWhereItHolds   == where a document has the sense of its path problem, a path is found exactly where checking the document
+--                          finds that its problem holds
+--   FoundWhereItFails   == where it has the other sense, exactly where checking finds that it doesn't
+use Rattle.std.specs.Prelude.{ℕ, ◌≡◌, ◌≢◌, ◌<◌, ◌^◌, ◌↔◌, Bool, List}
+use Rattle.ml_base.specs.Structure.{Structure}
+use Rattle.ml_ctl.specs.Formula.{Formula}
+use Rattle.ml_ctl.specs.Paths.{places}
+use Rattle.ml_lists.specs.Lasso.{Lasso}
+use Rattle.ml_front.specs.declared.problem.Problem.{Problem}
+use Rattle.ml_model_check.specs.Checked.{IsCheckedAs}
+use Rattle.ml_model_check.specs.declared.checked.Checked.{Checked}
+use Rattle.ml_model_check.specs.declared.checked.Checked.TheVariants as checked
+use Rattle.ml_paths.specs.Paths.{IsShown}
+use Rattle.ml_path_text.specs.Found.{Asks, IsFoundIn}
+use Rattle.ml_path_text.specs.WrittenPath.{path_document}
+use Rattle.ml_path_text.specs.declared.finding.Finding.{Finding}
+use Rattle.ml_path_text.specs.declared.finding.Finding.TheVariants.{ClosureTooLarge, Path}
+
+abbrev pub AreAlike : Finding → Finding → Type 0
+AreAlike (Path a) (Path b) = Unit {0}
+AreAlike x y = x ≡ y
+
+abbrev pub SomeFinding : Type 0
+SomeFinding = (text : List ℕ) → (x : Finding) × IsFoundIn text x
+
+abbrev pub OneFinding : Type 0
+OneFinding = (text : List ℕ) (x y : Finding) → IsFoundIn text x → IsFoundIn text y → AreAlike x y
+
+abbrev pub PathsAreConfirmed : Type 0
+PathsAreConfirmed = (text : List ℕ) (p : Problem) (m : Structure) (s : ℕ) (f : Formula) (negated : Bool) (l : Lasso)
+    → Asks text p m s f negated
+    → IsShown m s f negated l
+    → places l < 2 ^ 32
+    → IsCheckedAs (path_document m l f negated) checked.Holds
+
+-- ---- beside checking
+
+abbrev pub IsPath : Finding → Type 0
+IsPath (Path a) = Unit {0}
+IsPath _ = ⊥
+
+pub record NeitherIsLarge (x : Finding) (c : Checked) : Type 0 where
+  pub few_found : x ≢ ClosureTooLarge
+  pub few_checked : c ≢ checked.ClosureTooLarge
+
+abbrev pub FoundWhereItHolds : Type 0
+FoundWhereItHolds =
+    (text : List ℕ) (p : Problem) (m : Structure) (s : ℕ) (f : Formula) (negated : Bool) (x : Finding) (c : Checked)
+    → Asks text p m s f negated
+    → IsFoundIn text x
+    → IsCheckedAs text c
+    → NeitherIsLarge x c
+    → p.negated ≡ negated
+    → IsPath x ↔ (c ≡ checked.Holds)
+
+abbrev pub FoundWhereItFails : Type 0
+FoundWhereItFails =
+    (text : List ℕ) (p : Problem) (m : Structure) (s : ℕ) (f : Formula) (negated : Bool) (x : Finding) (c : Checked)
+    → Asks text p m s f negated
+    → IsFoundIn text x
+    → IsCheckedAs text c
+    → NeitherIsLarge x c
+    → p.negated ≢ negated
+    → IsPath x ↔ (c ≡ checked.Fails)
