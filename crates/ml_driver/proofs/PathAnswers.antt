@@ -7,8 +7,7 @@ use Rattle.std.proofs.Common.{◌≡◌, ℕ, ◌≤◌, List, refl, sym, ap, �
 use Rattle.ml_path_text.specs.Laws.{AreAlike}
 use Rattle.ml_path_text.specs.declared.finding.Finding.{Finding}
 use Rattle.ml_path_text.specs.declared.finding.Finding.TheVariants.{ClosureTooLarge, NoPath, NotAWord, NotTotal, Path, Unreadable}
-use Rattle.ml_path_text.proofs.OneFinding.{one_finding}
-use Rattle.ml_path_text.proofs.Findings.{some_finding}
+use Rattle.ml_path_text.proofs.OneFinding.{one_finding, some_finding}
 use Rattle.ml_driver.specs.Codes.{code_of}
 use Rattle.ml_driver.specs.Paths.{IsPathTold, path_told}
 use Rattle.ml_driver.specs.declared.status.Status.{Status}

@@ -16,7 +16,7 @@ use Rattle.ml_driver.specs.declared.status.Status.{Status}
 use Rattle.ml_driver.specs.declared.status.Status.TheVariants.{Yes, No, Undecided, Text}
 
 abbrev pub path_told : Finding → Status × List ℕ
-path_told (Path written) = (Yes, written.items)
+path_told (Path written) = (Yes, written)
 path_told NoPath = (No, line_text (codes "none" ∷ []))
 path_told ClosureTooLarge = (Undecided, undecided_line (codes "closure") most_nodes)
 path_told (NotTotal state) = (Text, line_text (model_said (checked.NotTotal state)).1)

@@ -26,7 +26,7 @@ fn path_told(alloc: Global, finding: Finding) -> Result<Output, NoMemory>
     Ok(match finding {
         Finding::Path(written) => Output {
             status: Status::Yes,
-            bytes: written,
+            bytes: written.into_bytes(),
         },
         Finding::NoPath => Output {
             status: Status::No,
