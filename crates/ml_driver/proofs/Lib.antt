@@ -14,8 +14,6 @@ pub mod CheckedGameAnswers
 pub mod AutomatonAnswers
 -- what is due for `path`
 pub mod PathAnswers
--- what is due for `check-machine`
-pub mod MachineAnswers
 -- what is due for `realize`
 pub mod TaskAnswers
 -- each structure has a quotient

@@ -18,8 +18,6 @@ pub mod Automata
 pub mod Translations
 -- paths of structures
 pub mod Paths
--- machines and environments that are checked
-pub mod CheckedMachines
 -- tasks that are realized
 pub mod Tasks
 -- what a problem is decided to be

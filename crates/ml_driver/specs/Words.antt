@@ -32,7 +32,7 @@ use Rattle.ml_front.specs.declared.logic.Logic.{Logic}
 use Rattle.ml_gen.specs.FamilyRanges.{family_named, is_in_range}
 use Rattle.ml_gen.specs.declared.family.Family.{Family}
 use Rattle.ml_driver.specs.declared.command.Command.{Command}
-use Rattle.ml_driver.specs.declared.command.Command.TheVariants.{Decide, Valid, Find, Prove, CheckModel, CheckRefutation, Migrate, Quotient, SolveGame, CheckGame, Path, CheckMachine, Determinise, Automaton, Realize, Gen, Bench}
+use Rattle.ml_driver.specs.declared.command.Command.TheVariants.{Decide, Valid, Find, Prove, CheckModel, CheckRefutation, Migrate, Quotient, SolveGame, CheckGame, Path, Determinise, Automaton, Realize, Gen, Bench}
 use Rattle.ml_driver.specs.Games.{engine_named}
 use Rattle.ml_driver.specs.declared.command.TheConstants.{DEFAULT_LIMIT, GREATEST_LIMIT, LONGEST_NUMBER}
 
@@ -111,8 +111,7 @@ bare_by w =
     else (if bytes_eq w (codes "migrate") then Some Migrate
     else (if bytes_eq w (codes "quotient") then Some Quotient
     else (if bytes_eq w (codes "check-game") then Some CheckGame
-    else (if bytes_eq w (codes "path") then Some Path
-    else (if bytes_eq w (codes "check-machine") then Some CheckMachine else None))))))
+    else (if bytes_eq w (codes "path") then Some Path else None)))))
 
 -- a command with a limit alone
 abbrev pub determinised_by : Option Word → Option Command

@@ -55,8 +55,6 @@ pub enum Command {
     Automaton { limit: u32 },
     /// `path`: a path of the structure of the document on the input that shows its problem, or, for `A f` of CTL*, that breaks f.
     Path,
-    /// `check-machine`: does the machine of the document on the input realize its task, or the environment defeat it?
-    CheckMachine,
     /// `realize`: a machine that realizes the task on the input, or an environment that defeats it. The game may have as many
     /// positions as the limit.
     Realize { limit: u32 },
@@ -99,8 +97,7 @@ impl Command {
             | Command::CheckRefutation
             | Command::Migrate
             | Command::Quotient
-            | Command::Path
-            | Command::CheckMachine => Some(LONGEST_DOCUMENT),
+            | Command::Path => Some(LONGEST_DOCUMENT),
             Command::SolveGame { .. } => Some(LONGEST_GAME_TEXT as u64),
             Command::CheckGame => Some(LONGEST_CHECKED_TEXT as u64),
             Command::Determinise { .. } => Some(LONGEST_AUTOMATON_TEXT as u64),
@@ -332,8 +329,6 @@ fn bare_by(command: &str) -> Option<Command>
         Some(Command::CheckGame)
     } else if command == "path" {
         Some(Command::Path)
-    } else if command == "check-machine" {
-        Some(Command::CheckMachine)
     } else {
         None
     }

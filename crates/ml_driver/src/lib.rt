@@ -17,7 +17,6 @@
 mod bench;
 mod check;
 mod checking_games;
-mod checking_machines;
 mod command;
 mod decide;
 mod determinising;

@@ -9,7 +9,6 @@ ghost use Rattle.ml_driver.specs.private.UsualNumbers.{HasUsualNumbers};
 use crate::bench::{generate, measure};
 use crate::check::{check_model, check_refutation, migrate};
 use crate::checking_games::check_game;
-use crate::checking_machines::check_machine;
 use crate::decide::decide;
 use crate::determinising::determinise_text;
 use crate::finding_paths::find_path;
@@ -124,7 +123,6 @@ fn outcome(alloc: Global, command: Command, text: &[u8]) -> Result<Output, NoMem
         Command::Determinise { limit } => determinise_text(alloc, limit, text),
         Command::Automaton { limit } => translate_text(alloc, limit, text),
         Command::Path => find_path(alloc, text),
-        Command::CheckMachine => check_machine(alloc, text),
         Command::Realize { limit } => realize_text(alloc, limit, text),
         Command::Gen { family, n } => generate(alloc, family, n),
         Command::Bench { family, n } => measure(alloc, family, n),

@@ -33,7 +33,7 @@ use std::fs;
 use std::io::Print;
 use std::rt::Files;
 
-const FILES: [&str; 43] = [
+const FILES: [&str; 44] = [
     "examples",
     "specifications",
     "patterns",
@@ -62,6 +62,7 @@ const FILES: [&str; 43] = [
     "machines_refused",
     "altered_machines",
     "paths",
+    "random_shown_paths",
     "meanings",
     "random_models",
     "random_paths",
