@@ -3,42 +3,62 @@
 use ml_base::{Failed, Sink, Source};
 use std::alloc::Global;
 
-/// How many bytes of an input are kept at most. Of a longer one none are.
-const LONGEST_KEPT: usize = 16_777_216;
+/// How many bytes of an input are kept at most.
+const LONGEST_INPUT: usize = 16_777_216;
 
 /// How many bytes of an output are kept at most: its first line has fewer, where it is no document.
-const KEPT_OUTPUT: usize = 128;
+const LONGEST_OUTPUT: usize = 128;
+
+/// The front of some bytes.
+#[derive(Drop)]
+struct Front {
+    bytes: Vec<u8>,
+    limit: usize,
+    is_whole: bool,
+}
+
+impl Front {
+    fn new(alloc: Global, limit: usize) -> Front {
+        Front {
+            bytes: Vec::new(alloc),
+            limit,
+            is_whole: true,
+        }
+    }
+
+    fn add(&mut self, bytes: &[u8]) {
+        let room = self.limit.saturating_sub(self.bytes.len());
+        let kept = match bytes.get(..room) {
+            Some(front) => front,
+            None => bytes,
+        };
+        if kept.len() < bytes.len() || self.bytes.extend_from_slice(kept).is_err() {
+            self.is_whole = false;
+        }
+    }
+}
 
 /// A source that keeps what it gave.
 #[derive(Drop)]
 pub(crate) struct KeepingSource<S> {
     source: S,
-    kept: Vec<u8>,
-    is_whole: bool,
+    given: Front,
 }
 
 impl<S> KeepingSource<S> {
     pub(crate) fn new(alloc: Global, source: S) -> KeepingSource<S> {
         KeepingSource {
             source,
-            kept: Vec::new(alloc),
-            is_whole: true,
+            given: Front::new(alloc, LONGEST_INPUT),
         }
     }
 
     /// All that was given, or `None` where it couldn't be kept.
-    pub(crate) fn kept(&self) -> Option<&[u8]> {
-        if self.is_whole {
-            Some(&self.kept)
+    pub(crate) fn given(&self) -> Option<&[u8]> {
+        if self.given.is_whole {
+            Some(&self.given.bytes)
         } else {
             None
-        }
-    }
-
-    fn keep(&mut self, bytes: &[u8]) {
-        let fits = self.kept.len().saturating_add(bytes.len()) <= LONGEST_KEPT;
-        if !fits || self.kept.extend_from_slice(bytes).is_err() {
-            self.is_whole = false;
         }
     }
 }
@@ -51,7 +71,7 @@ impl<S: Source> Source for KeepingSource<S> {
     fn read(&mut self, buf: &mut [u8]) -> Result<usize, Failed> {
         let count = self.source.read(buf)?;
         if let Some(given) = buf.get(..count) {
-            self.keep(given);
+            self.given.add(given);
         }
         Ok(count)
     }
@@ -61,31 +81,20 @@ impl<S: Source> Source for KeepingSource<S> {
 #[derive(Drop)]
 pub(crate) struct KeepingSink<K> {
     sink: K,
-    kept: Vec<u8>,
+    taken: Front,
 }
 
 impl<K> KeepingSink<K> {
     pub(crate) fn new(alloc: Global, sink: K) -> KeepingSink<K> {
         KeepingSink {
             sink,
-            kept: Vec::new(alloc),
+            taken: Front::new(alloc, LONGEST_OUTPUT),
         }
     }
 
     /// The front of what was taken.
-    pub(crate) fn kept(&self) -> &[u8] {
-        &self.kept
-    }
-
-    // what can't be kept isn't told
-    fn keep(&mut self, bytes: &[u8]) {
-        if self.kept.len() < KEPT_OUTPUT {
-            let front = match bytes.get(..KEPT_OUTPUT) {
-                Some(front) => front,
-                None => bytes,
-            };
-            let _ = self.kept.extend_from_slice(front);
-        }
+    pub(crate) fn taken(&self) -> &[u8] {
+        &self.taken.bytes
     }
 }
 
@@ -97,7 +106,7 @@ impl<K: Sink> Sink for KeepingSink<K> {
     fn write(&mut self, piece: &[u8]) -> Result<usize, Failed> {
         let count = self.sink.write(piece)?;
         if let Some(taken) = piece.get(..count) {
-            self.keep(taken);
+            self.taken.add(taken);
         }
         Ok(count)
     }

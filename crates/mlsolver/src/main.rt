@@ -26,7 +26,7 @@ fn main(rt: HostRuntime) -> ExitCode {
     let mut sink = KeepingSink::new(rt.alloc(), StdSink::new(rt.stdout()));
     let status = run(rt.alloc(), &words, &mut source, &mut sink);
     // what can't be told there changes nothing
-    let _ = tell(&rt, &words, status, source.kept(), sink.kept());
+    let _ = tell(&rt, &words, status, source.given(), sink.taken());
     ExitCode::from(status.code())
 }
 
