@@ -3,62 +3,32 @@
 use ml_base::{Failed, Sink, Source};
 use std::alloc::Global;
 
-/// How many bytes of an input are kept at most.
+/// How many bytes of an input are kept at most: of a longer one none are.
 const LONGEST_INPUT: usize = 16_777_216;
 
 /// How many bytes of an output are kept at most: its first line has fewer, where it is no document.
 const LONGEST_OUTPUT: usize = 128;
 
-/// The front of some bytes.
-#[derive(Drop)]
-struct Front {
-    bytes: Vec<u8>,
-    limit: usize,
-    is_whole: bool,
-}
-
-impl Front {
-    fn new(alloc: Global, limit: usize) -> Front {
-        Front {
-            bytes: Vec::new(alloc),
-            limit,
-            is_whole: true,
-        }
-    }
-
-    fn add(&mut self, bytes: &[u8]) {
-        let room = self.limit.saturating_sub(self.bytes.len());
-        let kept = match bytes.get(..room) {
-            Some(front) => front,
-            None => bytes,
-        };
-        if kept.len() < bytes.len() || self.bytes.extend_from_slice(kept).is_err() {
-            self.is_whole = false;
-        }
-    }
-}
-
 /// A source that keeps what it gave.
 #[derive(Drop)]
 pub(crate) struct KeepingSource<S> {
     source: S,
-    given: Front,
+    given: Option<Vec<u8>>,
 }
 
 impl<S> KeepingSource<S> {
     pub(crate) fn new(alloc: Global, source: S) -> KeepingSource<S> {
         KeepingSource {
             source,
-            given: Front::new(alloc, LONGEST_INPUT),
+            given: Some(Vec::new(alloc)),
         }
     }
 
     /// All that was given, or `None` where it couldn't be kept.
     pub(crate) fn given(&self) -> Option<&[u8]> {
-        if self.given.is_whole {
-            Some(&self.given.bytes)
-        } else {
-            None
+        match &self.given {
+            Some(given) => Some(given),
+            None => None,
         }
     }
 }
@@ -70,31 +40,41 @@ impl<S: Source> Source for KeepingSource<S> {
 
     fn read(&mut self, buf: &mut [u8]) -> Result<usize, Failed> {
         let count = self.source.read(buf)?;
-        if let Some(given) = buf.get(..count) {
-            self.given.add(given);
+        if let Some(piece) = buf.get(..count) {
+            self.given = longer(self.given.take(), piece);
         }
         Ok(count)
     }
+}
+
+// what was kept, with a piece behind it, where it fits
+fn longer(kept: Option<Vec<u8>>, piece: &[u8]) -> Option<Vec<u8>> {
+    let mut kept = kept?;
+    if kept.len().saturating_add(piece.len()) > LONGEST_INPUT {
+        return None;
+    }
+    kept.extend_from_slice(piece).ok()?;
+    Some(kept)
 }
 
 /// A sink that keeps the front of what it took.
 #[derive(Drop)]
 pub(crate) struct KeepingSink<K> {
     sink: K,
-    taken: Front,
+    taken: Vec<u8>,
 }
 
 impl<K> KeepingSink<K> {
     pub(crate) fn new(alloc: Global, sink: K) -> KeepingSink<K> {
         KeepingSink {
             sink,
-            taken: Front::new(alloc, LONGEST_OUTPUT),
+            taken: Vec::new(alloc),
         }
     }
 
     /// The front of what was taken.
     pub(crate) fn taken(&self) -> &[u8] {
-        &self.taken.bytes
+        &self.taken
     }
 }
 
@@ -105,9 +85,18 @@ impl<K: Sink> Sink for KeepingSink<K> {
 
     fn write(&mut self, piece: &[u8]) -> Result<usize, Failed> {
         let count = self.sink.write(piece)?;
-        if let Some(taken) = piece.get(..count) {
-            self.taken.add(taken);
+        if let Some(piece) = piece.get(..count) {
+            keep_front(&mut self.taken, piece);
         }
         Ok(count)
     }
+}
+
+// what can't be kept isn't told
+fn keep_front(kept: &mut Vec<u8>, piece: &[u8]) {
+    let room = LONGEST_OUTPUT.saturating_sub(kept.len());
+    let _ = match piece.get(..room) {
+        Some(front) => kept.extend_from_slice(front),
+        None => kept.extend_from_slice(piece),
+    };
 }
