@@ -34,7 +34,8 @@ checks text p m s f b c asks is = go (checked_in text c is)
     go : IsCheckedOf text c ⊎ IsCheckedBad text c → Checks c p m s
     go (inl (q, n, t, so, there)) =
         let same = one_document text q p n m t s so asks.is_document in
-        subst (λ u. Checks c p m u) same.1.1 (subst (λ k. Checks c p k t) same.1.0 (subst (λ r. Checks c r n t) same.0 there))
+        let of_problem = subst (λ r. Checks c r n t) same.0 there in
+        subst (λ u. Checks c p m u) same.1.1 (subst (λ k. Checks c p k t) same.1.0 of_problem)
     go (inr (fault, so, bad)) = absurd (document_fault text p m s fault asks.is_document bad)
 
 -- what is found of it
@@ -59,9 +60,11 @@ module _ (p : Problem) (m : Structure) (s : ℕ) (f : Formula) (b : Bool) where
   abbrev Found : Finding → Type 0
   Found x = Finds x (logic_of p.formula) m s f b
 
+  abbrev Told : Checked → Type 0
+  Told c = ((c ≡ checked.Holds) × HoldsAt m s p) ⊎ ((c ≡ checked.Fails) × (¬ (HoldsAt m s p)))
+
   -- where the logic speaks of the structure, checking finds one of two things
-  told : (c : Checked) → Checks c p m s → Speaks → c ≢ checked.ClosureTooLarge
-      → ((c ≡ checked.Holds) × HoldsAt m s p) ⊎ ((c ≡ checked.Fails) × (¬ (HoldsAt m s p)))
+  told : (c : Checked) → Checks c p m s → Speaks → c ≢ checked.ClosureTooLarge → Told c
   told checked.Holds is speaks few = inl (refl, is.2)
   told checked.Fails is speaks few = inr (refl, is.2)
   told (checked.NotTotal dead) is speaks few = absurd (never_both (logic_of p.formula) m dead speaks (inl is))
@@ -91,10 +94,11 @@ module _ (p : Problem) (m : Structure) (s : ℕ) (f : Formula) (b : Bool) where
       (found : Found x) (checks : Checks c p m s) (few : NeitherIsLarge x c) where
     -- where a path is shown checking finds one thing, and where none is the other one
     with_path : (d : Checked)
-        → (Speaks → Shown → ((c ≡ checked.Holds) × HoldsAt m s p) ⊎ ((c ≡ checked.Fails) × (¬ (HoldsAt m s p))) → c ≡ d)
+        → (Speaks → Shown → Told c → c ≡ d)
         → IsPath x
         → c ≡ d
-    with_path d so path = let there = path_seen x found path in so there.0 there.1 (told c checks there.0 few.few_checked)
+    with_path d so path =
+        let there = path_seen x found path in so there.0 there.1 (told c checks there.0 few.few_checked)
 
     from_check : Speaks → ¬ (¬ Shown) → IsPath x
     from_check speaks some =
@@ -104,8 +108,7 @@ module _ (p : Problem) (m : Structure) (s : ℕ) (f : Formula) (b : Bool) where
     holds_there : p.negated ≡ b → IsPath x ↔ (c ≡ checked.Holds)
     holds_there same = (with_path checked.Holds there, back)
       where
-        there : Speaks → Shown → ((c ≡ checked.Holds) × HoldsAt m s p) ⊎ ((c ≡ checked.Fails) × (¬ (HoldsAt m s p)))
-            → c ≡ checked.Holds
+        there : Speaks → Shown → Told c → c ≡ checked.Holds
         there speaks shown (inl is) = is.0
         there speaks shown (inr is) = absurd (is.1 (shown_holds m s low f linear b p asks speaks same shown))
 
@@ -117,8 +120,7 @@ module _ (p : Problem) (m : Structure) (s : ℕ) (f : Formula) (b : Bool) where
     fails_there : p.negated ≢ b → IsPath x ↔ (c ≡ checked.Fails)
     fails_there other = (with_path checked.Fails there, back)
       where
-        there : Speaks → Shown → ((c ≡ checked.Holds) × HoldsAt m s p) ⊎ ((c ≡ checked.Fails) × (¬ (HoldsAt m s p)))
-            → c ≡ checked.Fails
+        there : Speaks → Shown → Told c → c ≡ checked.Fails
         there speaks shown (inl is) = absurd (shown_fails m s low f linear b p asks other shown is.1)
         there speaks shown (inr is) = is.0
 

@@ -69,7 +69,8 @@ path_confirmed m s f b l ok ordered named well shown few =
     (along_ordered m l ok path ordered)
 
 -- the document that is written for the structure r, which is the one of the word along l
-module _ (m : Structure) (l : Lasso) (f : Formula) (b : Bool) (text : List ℕ) (p : Problem) (r run : Structure) (start : ℕ)
+module _ (m : Structure) (l : Lasso) (f : Formula) (b : Bool)
+    (text : List ℕ) (p : Problem) (r run : Structure) (start : ℕ)
     (is : text ≡ satisfiable_document p r start) (same : p ≡ on_words f b) (made : r ≡ run) (first : start ≡ 0) where
   as_written : text ≡ satisfiable_document (on_words f b) run 0
   as_written =
@@ -88,9 +89,9 @@ module _ (m : Structure) (l : Lasso) (f : Formula) (b : Bool) (text : List ℕ) 
       → IsOrdered r
       → IsCheckedAs text Holds
   document_holds s ok well shown is_run written ordered =
+      let run_written = subst (IsWritten run) first (subst (λ k. IsWritten k start) made written) in
       subst (λ t. IsCheckedAs t Holds) (sym as_written)
-      (run_confirmed m s f b l run ok well shown is_run (subst (IsWritten run) first (subst (λ k. IsWritten k start) made written))
-      (subst IsOrdered made ordered))
+      (run_confirmed m s f b l run ok well shown is_run run_written (subst IsOrdered made ordered))
 
 pub paths_confirmed : PathsAreConfirmed
 paths_confirmed text p m s f b l asks shown few =

@@ -65,7 +65,9 @@ one_behind p text e f (inr x) (inr y) = body.one_fault text first_body_line e f 
 abbrev ShowsGood : List ℕ → Type 0
 ShowsGood text = Shows Satisfiable text (λ v p rest. IsGoodBehind p rest)
 
-shown_good : (text : List ℕ) (p : Problem) (m : Structure) (s : ℕ) (f : Formula) (b : Bool) → Asks text p m s f b → ShowsGood text
+shown_good : (text : List ℕ) (p : Problem) (m : Structure) (s : ℕ) (f : Formula) (b : Bool)
+    → Asks text p m s f b
+    → ShowsGood text
 shown_good text p m s f b x =
     let is = x.is_document in record {
       version = is.0;

@@ -37,9 +37,9 @@ module _ (m : Structure) (s : ℕ) (f : Formula) (linear : is_linear f ≡ true)
     says : (l : Lasso) → IsPathFrom m s l → Says (Satisfies m l f) (value m ok f s)
     says l from =
         let starts = from.is_path.starts in
+        let first_low = subst (λ t. t < m.states) (sym from.starts_at) low in
         subst (λ t. Says (Satisfies m l f) (value m ok f t)) from.starts_at
-        (says_value m ok l from.is_path 0 (starts, omega (arith, starts)) (subst (λ t. t < m.states) (sym from.starts_at) low)
-        f linear)
+        (says_value m ok l from.is_path 0 (starts, omega (arith, starts)) first_low f linear)
 
     on_word : (b : Bool) → IsShownFrom m s f b → words.HoldsAt m s f b
     on_word false (l, x) =

@@ -37,23 +37,25 @@ module _ (edge : ℕ → Edge) (from : (i : ℕ) → (edge i).source ≡ i) wher
   places_ascend a zero = tt
   places_ascend a (suc n) = (above_places a (a + 1) n (omega arith), places_ascend (a + 1) n)
 
-pub run_ordered : (w : WordLasso Letter) → All (IsStrictlySortedBy (slice_cmp nat_cmp)) w.word → IsOrdered (word_structure w)
+-- the edge from a place
+abbrev edge_from : WordLasso Letter → ℕ → Edge
+edge_from w i = record { source = i; action = codes "_"; target = next_letter w i }
+
+pub run_ordered : (w : WordLasso Letter)
+    → All (IsStrictlySortedBy (slice_cmp nat_cmp)) w.word
+    → IsOrdered (word_structure w)
 run_ordered w ascend = record {
   labels_ascend = ascend;
-  edges_ascend =
-      places_ascend (λ i. record { source = i; action = codes "_"; target = next_letter w i }) (λ i. refl) 0 (length w.word);
+  edges_ascend = places_ascend (edge_from w) (λ i. refl) 0 (length w.word);
 }
 
 pub run_named : (w : WordLasso Letter) → All (All IsName) w.word → HasNames (word_structure w)
 run_named w named = record {
   labels_named = named;
-  actions_named = λ i d low. blank i d (subst (λ n. i < n) (length-map-range_with_len step 0 (length w.word)) low);
+  actions_named = λ i d low. blank i d (subst (λ n. i < n) (length-map-range_with_len (edge_from w) 0 (length w.word)) low);
 }
   where
-    step : ℕ → Edge
-    step i = record { source = i; action = codes "_"; target = next_letter w i }
-
-    blank : (i : ℕ) (d : Edge) → i < length w.word → IsAction (get_or (map step (range_with_len 0 (length w.word))) i d).action
+    blank : (i : ℕ) (d : Edge) → i < length w.word → IsAction (get_or (word_structure w).edges i d).action
     blank i d low =
-        subst (λ (e : Edge). IsAction e.action) (sym (get_or-map-range_with_len step 0 (length w.word) i i d low (omega arith)))
-        refl
+        let is = get_or-map-range_with_len (edge_from w) 0 (length w.word) i i d low (omega arith) in
+        subst (λ (e : Edge). IsAction e.action) (sym is) refl

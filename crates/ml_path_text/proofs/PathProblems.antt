@@ -142,7 +142,8 @@ behind_two text shown is =
     let long = length-drop 2 shown in
     take_all (length shown - 2) (drop 2 shown) (omega (arith, long)) ∙ ap (drop 2) is
 
-module _ (h f : Formula) (q : Quantifier) (text given : List ℕ) (begins : h ≡ Quantified q f) (linear : is_linear f ≡ true)
+module _ (h f : Formula) (q : Quantifier) (text given : List ℕ)
+    (begins : h ≡ Quantified q f) (linear : is_linear f ≡ true)
     (read : IsParsedAs language.Ctl text h) (is : text ≡ canonical_text h) (behind : given ≡ drop 2 text) where
   operand_parsed : IsParsedAs language.Ltl given f
   operand_parsed =

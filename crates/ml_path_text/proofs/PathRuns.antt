@@ -72,7 +72,8 @@ module _ (m : Structure) (l : Lasso) (ok : IsStructure m) (path : IsPath m l) wh
     no_label : (n : Structure) → IsStructure n → (k : ℕ) → n.states ≤ k → (p : List ℕ)
         → ¬ (Contains (slice_index_or n.labels k []) p)
     no_label n n_ok k past p here =
-        contains_none p (subst (λ ps. Contains ps p) (get_or_past n.labels k [] (omega (arith, n_ok.labels_states, past))) here)
+        let empty = get_or_past n.labels k [] (omega (arith, n_ok.labels_states, past)) in
+        contains_none p (subst (λ ps. Contains ps p) empty here)
 
     same_labels : (k : ℕ) (p : List ℕ)
         → Contains (slice_index_or run.labels k []) p ↔ Contains (slice_index_or letters k []) p

@@ -6,8 +6,8 @@
 --                          than 2 ^ 32 places
 --   IsPath x            == x is a path
 --   NeitherIsLarge x c  == neither is a word automaton too large, nor a closure to check the document
---   FoundWhereItHolds   == where a document has the sense of its path problem, a path is found exactly where checking the document
---                          finds that its problem holds
+--   FoundWhereItHolds   == where a document has the sense of its path problem, a path is found exactly where checking the
+--                          document finds that its problem holds
 --   FoundWhereItFails   == where it has the other sense, exactly where checking finds that it doesn't
 use Rattle.std.specs.Prelude.{ℕ, ◌≡◌, ◌≢◌, ◌<◌, ◌^◌, ◌↔◌, Bool, List}
 use Rattle.ml_base.specs.Structure.{Structure}

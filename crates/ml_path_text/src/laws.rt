@@ -10,8 +10,8 @@ pub fn one_finding()
     ensures one { OneFinding }
 {}
 
-/// The document of each path of fewer than 2 ^ 32 places that shows what a text asks for is one at whose start its problem holds,
-/// as `ml_model_check::check_document` answers.
+/// Of each path of fewer than 2 ^ 32 places that shows what a text asks for, the document is one at whose start its problem
+/// holds, as `ml_model_check::check_document` answers.
 ///
 /// Does nothing when called.
 pub fn paths_are_confirmed()
@@ -20,8 +20,8 @@ pub fn paths_are_confirmed()
 
 /// Where neither the word automaton nor the closure is too large, a path of a document is found exactly where checking the
 /// document finds that its problem holds, if the document has the sense of its path problem: so for LTL, on structures and on
-/// words, for `E f` in the plain sense, and for `A f` in the negated one. It is found exactly where checking finds that the problem doesn't
-/// hold, if the document has the other sense: so for `A f` in the plain one, and for `E f` in the negated one.
+/// words, for `E f` in the plain sense, and for `A f` in the negated one. It is found exactly where checking finds that the
+/// problem doesn't hold, if the document has the other sense: so for `A f` in the plain one, and for `E f` in the negated one.
 ///
 /// Does nothing when called.
 pub fn found_beside_checking()

@@ -21,15 +21,15 @@ const FORMULA_LINE: u64 = 5;
 
 const FIRST_BODY_LINE: u64 = 6;
 
-// Behind the rules of a head: the formula is one of a path.
-const OF_A_PATH: u32 = 4;
+// The rule behind those of a head: that the formula asks for a path.
+const ASKS_FOR_PATH: u32 = 4;
 
 /// Is there a path of the structure of a document that shows its problem, and which?
 ///
 /// The document is one that `ml_model_check::check_document` reads, of any length: it answers `satisfiable`, and its body is a
 /// structure with a start. Its problem is one of LTL, on structures or on words, or one of CTL* whose whole formula is `E f` or
-/// `A f` and f has no quantifier. A path shows a problem of LTL in its sense where it satisfies the formula, or the negation of a negated
-/// one; it shows `E f` where it satisfies f, and `A f` where it doesn't, whatever the sense.
+/// `A f`, where f has no quantifier. A path shows a plain problem of LTL where it satisfies the formula, and a negated one where
+/// it doesn't; it shows `E f` where it satisfies f, and `A f` where it doesn't, whatever the sense.
 ///
 /// - `Path` exactly where the bytes are such a document, none of the last four answers comes, and some path from the start
 ///   shows the problem. Such a path is told by a line `path` with its states, and a line `loop` with the place to which the
@@ -40,15 +40,15 @@ const OF_A_PATH: u32 = 4;
 ///   has more than `ml_paths::MOST_NODES` nodes;
 /// - `NotTotal` and `NotAWord` exactly where they are and the logic doesn't speak of the structure, with the least state that
 ///   it doesn't allow, as `check_document` answers;
-/// - `Unreadable` exactly where the bytes are no such document, with the first bad line, counted from 1, and the lowest rule that
-///   this line breaks: as `ml_model_check::read_document` says, and of line 5 also rule 4, where the formula is read, and is
-///   none of which a path is asked.
+/// - `Unreadable` exactly where the bytes are no such document, with the first bad line, counted from 1, and the lowest rule
+///   that this line breaks: as `ml_model_check::read_document` says, and of line 5 also rule 4, where the formula is read, and
+///   is none that asks for a path.
 ///
 /// # Errors
 /// `NoMemory` alone.
 ///
-/// Cost: linear in the bytes to read them; then that of `ml_paths::find`, and that of `ml_paths::run_along` for a path. For a problem of LTL
-/// on words also that of `ml_word_check::holds`.
+/// Cost: linear in the bytes to read them; then that of `ml_paths::find`, and for a path that of `ml_paths::run_along`. For a
+/// problem of LTL on words also that of `ml_word_check::holds`.
 pub fn path_of(alloc: Global, text: &[u8]) -> Result<Finding, NoMemory>
     ensures found { IfOk result (IsFoundIn text.now) }
     ensures confirmed { IfOk result IsConfirmed }
@@ -70,7 +70,7 @@ fn behind_head(alloc: Global, _text: &[u8], head: &Head) -> Result<Finding, NoMe
         Some(asked) => in_body(alloc, _text, head, asked),
         None => Ok(Finding::Unreadable(DocFault {
             line: FORMULA_LINE,
-            rule: OF_A_PATH,
+            rule: ASKS_FOR_PATH,
         })),
     }
 }
@@ -127,13 +127,10 @@ fn among_paths(
 {
     let structure = &model.structure;
     match find(alloc, structure, model.start, &asked.formula, asked.negated)? {
-        Found::Path(path) => Ok(Finding::Path(written_path(
-            alloc,
-            structure,
-            model.start,
-            asked,
-            &path,
-        )?)),
+        Found::Path(path) => {
+            let path = written_path(alloc, structure, model.start, asked, &path)?;
+            Ok(Finding::Path(path))
+        }
         Found::NoPath => Ok(Finding::NoPath),
         Found::ClosureTooLarge => Ok(Finding::ClosureTooLarge),
     }
