@@ -36,7 +36,7 @@ use Rattle.ml_model_check.specs.declared.checked.Checked.TheVariants as checked
 use Rattle.ml_model_check.proofs.Findings.{IsFault, IsFoundIn}
 use Rattle.ml_model_check.proofs.OneCheck.{SomeDocument, SomeFault, document_fault, document_or_fault, one_document, one_fault}
 use Rattle.ml_model_check.proofs.ReadBack.{documents_read_back}
-use Rattle.ml_driver.specs.Documents.{satisfiable_document}
+use Rattle.ml_model_check.specs.WrittenDocument.{satisfiable_document}
 use Rattle.ml_driver.specs.Laws.{OneQuotientDue, QuotientsAreCheckedAlike, QuotientsAreRead, WrittenHoldsTheSame}
 use Rattle.ml_driver.specs.Quotients.{IsReduced}
 use Rattle.ml_driver.specs.Run.{IsAnswer, IsDue, IsWhole}

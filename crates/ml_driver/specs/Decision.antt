@@ -27,10 +27,11 @@ use Rattle.ml_refutation.specs.Refutation.{Refutation, IsRefutation}
 use Rattle.ml_refute_check.specs.Documents.{IsDocumentOf}
 use Rattle.ml_decide.specs.Limits.{IsClosed, StaysOpen}
 use Rattle.ml_decide.specs.declared.cause.Cause.{Cause}
+use Rattle.ml_model_check.specs.WrittenDocument.{satisfiable_document}
 use Rattle.ml_driver.specs.declared.question.Question.{Question}
 use Rattle.ml_driver.specs.declared.status.Status.{Status}
 use Rattle.ml_driver.specs.declared.status.Status.TheVariants.{Yes, No, Undecided, Text}
-use Rattle.ml_driver.specs.Documents.{satisfiable_document, undecided_document}
+use Rattle.ml_driver.specs.Documents.{undecided_document}
 use Rattle.ml_driver.specs.Statuses.{refusal_line}
 
 pub record IsProblem (q : Question) (text : List ℕ) (p : Problem) : Type 0 where

@@ -1,22 +1,17 @@
--- Documents that the program writes, all in version 2. The one with a refutation is that of `IsDocumentOf` of `ml_refute_check`.
+-- Documents that the program writes, all in version 2. The one with a structure is `satisfiable_document` of `ml_model_check`,
+-- the one with a refutation that of `IsDocumentOf` of `ml_refute_check`.
 --
---   satisfiable_document p m s == the document that says that the problem p holds at the state s of the structure m
 --   cause_line c               == the line for a cause: `cause positions N` or `cause closure 4096`
 --   undecided_document p c     == the document that says that p stays undecided, for the cause c
 use Rattle.std.specs.Prelude.{ℕ, List, [], ◌∷◌, ◌++◌, codes}
-use Rattle.ml_base.specs.Structure.{Structure}
 use Rattle.ml_base.specs.declared.version.Version.TheVariants.{Two}
 use Rattle.ml_lines.specs.Lines.{Line, number, text_of}
-use Rattle.ml_kripke.specs.ModelText.{model_text}
 use Rattle.ml_front.specs.Head.{head_lines}
-use Rattle.ml_front.specs.declared.answer.Answer.TheVariants.{Satisfiable, Undecided}
+use Rattle.ml_front.specs.declared.answer.Answer.TheVariants.{Undecided}
 use Rattle.ml_front.specs.declared.problem.Problem.{Problem}
 use Rattle.ml_front.specs.declared.problem.TheConstants.{MOST_NODES}
 use Rattle.ml_decide.specs.declared.cause.Cause.{Cause}
 use Rattle.ml_decide.specs.declared.cause.Cause.TheVariants.{Positions, Closure}
-
-abbrev pub satisfiable_document : Problem → Structure → ℕ → List ℕ
-satisfiable_document p m s = text_of (head_lines Two Satisfiable p) ++ model_text m s
 
 abbrev pub cause_line : Cause → Line
 cause_line (Positions n) = codes "cause" ∷ codes "positions" ∷ number n ∷ []

@@ -10,7 +10,7 @@ use Rattle.ml_base.specs.Structure.{Structure}
 use Rattle.ml_bisim.specs.Quotient.{IsQuotientOf, class_of}
 use Rattle.ml_front.specs.declared.problem.Problem.{Problem}
 use Rattle.ml_model_check.specs.Checked.{IsDocument}
-use Rattle.ml_driver.specs.Documents.{satisfiable_document}
+use Rattle.ml_model_check.specs.WrittenDocument.{satisfiable_document}
 
 pub record IsReduced (text out : List ℕ) : Type 0 where
   pub problem : Problem

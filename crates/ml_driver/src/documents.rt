@@ -1,7 +1,5 @@
 // The documents that are written.
 ghost use Rattle.std.specs.Prelude.{◌≡◌, ◌++◌, IfOk, OnOk};
-ghost use Rattle.ml_kripke.specs.ModelText.{IsWritten};
-ghost use Rattle.ml_kripke.specs.Ordered.{IsOrdered};
 ghost use Rattle.ml_lines.specs.Lines.{line_text};
 ghost use Rattle.ml_refutation.specs.Views.{of_parts};
 ghost use Rattle.ml_refute_check.specs.WrittenDocument.{document_of};
@@ -11,8 +9,8 @@ ghost use Rattle.ml_driver.specs.private.Decisions.{IsDocumentFor};
 use ml_base::{NoMemory, Version};
 use ml_decide::{Cause, Decision};
 use ml_front::{Answer, MOST_NODES, Problem, append_head};
-use ml_kripke::{Model, append_model};
 use ml_lines::{end_line, write_next_number, write_next_word, write_word};
+use ml_model_check::write_document;
 use ml_refutation::Refutation;
 use ml_refutation_text::append_refutation;
 use std::alloc::Global;
@@ -26,31 +24,13 @@ pub(crate) fn document(
     ensures { IfOk result (λ output. IsDocumentFor problem.now decision.now output.items) }
 {
     match decision {
-        Decision::Satisfiable(model) => satisfiable(alloc, problem, model),
+        Decision::Satisfiable(model) => write_document(alloc, problem, model),
         Decision::Unsatisfiable(refutation) => unsatisfiable(alloc, problem, refutation),
         Decision::Undecided(cause) => undecided(alloc, problem, *cause),
     }
 }
 
-// the one with a structure
-pub(crate) fn satisfiable(
-    alloc: Global,
-    problem: &Problem,
-    model: &Model,
-) -> Result<Vec<u8>, NoMemory>
-    ensures text { IfOk result (λ output.
-        output.items ≡ documents.satisfiable_document problem.now model.now.structure model.now.start) }
-    ensures written { OnOk result (IsWritten model.now.structure model.now.start) }
-    ensures ordered { OnOk result (IsOrdered model.now.structure) }
-{
-    // whoever asks a structure for its states learns what its type keeps
-    let _states = model.structure.states();
-    let mut output = Vec::new(alloc);
-    append_head(&mut output, problem, Answer::Satisfiable)?;
-    append_model(&mut output, model)?;
-    Ok(output)
-}
-
+// the one with a refutation
 fn unsatisfiable(
     alloc: Global,
     problem: &Problem,

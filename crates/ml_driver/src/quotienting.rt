@@ -5,13 +5,12 @@ ghost use Rattle.ml_driver.specs.Run.{IsAnswer};
 ghost use Rattle.ml_model_check.specs.Checked.{IsDocument};
 
 use crate::check::refused_document;
-use crate::documents::satisfiable;
 use crate::output::Output;
 use crate::{Command, Status};
 use ml_base::{DocRefusal, NoMemory};
 use ml_bisim::quotient;
 use ml_kripke::Model;
-use ml_model_check::{ShownModel, read_document};
+use ml_model_check::{ShownModel, read_document, write_document};
 use std::alloc::Global;
 
 // the answer to `quotient` on a document
@@ -47,5 +46,5 @@ fn reduced(alloc: Global, _text: &[u8], shown: &ShownModel) -> Result<Vec<u8>, N
     let quotient = quotient(alloc, &shown.model.structure)?;
     let start = quotient.class[shown.model.start as usize];
     let model = Model::new(quotient.structure, start);
-    satisfiable(alloc, &shown.problem, &model)
+    write_document(alloc, &shown.problem, &model)
 }

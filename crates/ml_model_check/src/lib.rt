@@ -1,8 +1,8 @@
 // Structures checked: whether a problem holds at a state.
 //
 // `holds` answers it of a problem of any logic and a structure in hand. `read_document` reads a document that answers
-// `satisfiable`, and `check_document` answers whether the problem of its head holds at the start of the structure of its body. It trusts
-// nothing of who wrote the document: what it answers is said of the bytes, by the definitions of heads (`ml_front`), of
+// `satisfiable`, `write_document` writes one, and `check_document` answers whether the problem of its head holds at the start
+// of the structure of its body. It trusts nothing of who wrote the document: what it answers is said of the bytes, by the definitions of heads (`ml_front`), of
 // bodies (`ml_kripke`) and of problems (`ml_front`). Both tell the first state for which the problem's logic doesn't speak of
 // the structure, and check no problem whose closure is too large.
 //
@@ -21,5 +21,5 @@ pub mod laws;
 pub use check::check_document;
 pub use check_refusal::CheckRefusal;
 pub use checked::Checked;
-pub use document::{ShownModel, read_document};
+pub use document::{ShownModel, read_document, write_document};
 pub use holding::holds;

@@ -10,9 +10,10 @@ use Rattle.ml_refutation.specs.Views.{of_parts}
 use Rattle.ml_refute_check.specs.WrittenDocument.{document_of}
 use Rattle.ml_decide.specs.declared.deciding.Decision.{Decision}
 use Rattle.ml_decide.specs.declared.deciding.Decision.TheVariants as decision
+use Rattle.ml_model_check.specs.WrittenDocument.{satisfiable_document}
 use Rattle.ml_driver.specs.declared.status.Status.{Status}
 use Rattle.ml_driver.specs.declared.status.Status.TheVariants as status
-use Rattle.ml_driver.specs.Documents.{satisfiable_document, undecided_document}
+use Rattle.ml_driver.specs.Documents.{undecided_document}
 
 abbrev pub IsDocumentFor : Problem → Decision → List ℕ → Type 0
 IsDocumentFor p (decision.Satisfiable m) out =
