@@ -24,7 +24,7 @@ use Rattle.ml_realize_text.proofs.Bodies.{EnvironmentBody, MachineBody, environm
 use Rattle.ml_realize_text.proofs.CutLines.{IsCut, cut_lines, text_of_three}
 use Rattle.ml_realize_text.proofs.FixedWords.{differ}
 
-apart : (a : Answer) → told_line a ≡ told_line Undecided → (a ≡ Undecided)
+pub apart : (a : Answer) → told_line a ≡ told_line Undecided → (a ≡ Undecided)
 apart Realizable same = absurd (differ (codes "realizable") (codes "undecided") refl (ap (λ l. word l 1) same))
 apart Unrealizable same = absurd (differ (codes "unrealizable") (codes "undecided") refl (ap (λ l. word l 1) same))
 apart Undecided same = refl
@@ -208,7 +208,7 @@ module _ (text : List ℕ) (l1 l2 l3 l4 l5 : Line) (rest : List Line) (same : li
       readable.1.1.1)))
   five_lines Undecided answer decided readable = absurd (decided answer)
 
-told_back : (a : Answer) → ¬ (told_line a ≡ told_line Undecided) → told (told_line a) ≡ a
+pub told_back : (a : Answer) → ¬ (told_line a ≡ told_line Undecided) → told (told_line a) ≡ a
 told_back Realizable decided = refl
 told_back Unrealizable decided = refl
 told_back Undecided decided = absurd (decided refl)

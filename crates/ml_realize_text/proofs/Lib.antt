@@ -54,3 +54,9 @@ pub mod BodyReads
 pub mod ListedLines
 -- the steps and the rows of a machine, as they are read
 pub mod MachineRead
+-- the states of an environment, as they are read
+pub mod EnvironmentRead
+-- what stands before the body, as it is read
+pub mod HeadRead
+-- a whole document, as it is read
+pub mod DocumentRead

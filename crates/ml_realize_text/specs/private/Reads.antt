@@ -18,18 +18,33 @@
 --   IsEnded at              == what is left is `end` alone
 --   IsStep ins outs n s l x == the line l is that of the step x on the set s, and x fits
 --   IsReply outs n s l x    == the line l leads to x on the set s, which is one of n states
-use Rattle.std.specs.Prelude.{ℕ, ◌≡◌, ◌+◌, ◌<◌, ◌≤◌, ◌^◌, ⊤, List, [], ◌∷◌, ◌++◌, codes, length, map}
+--   answer_of b             == the answer of a document whose body is so
+--   AreFirst n lines more   == these are the first n lines of those that `more` goes on, or there are fewer, and no more
+--   IsBehindLine at rest    == the rest stands behind the next line, or is the same, where there is none
+--   IsBehindTask at rest    == the rest stands behind the three lines of a task, or behind all lines
+--   IsTaskRead at t rest    == the next three lines are those of the task t, and the rest stands behind
+--   signals_of a t          == the answer a, and the names of the task t
+--   IsBodyRead at a t r     == what is left is the body of the outcome r of the task t, which the answer a tells
+use Rattle.std.specs.Prelude.{ℕ, ◌≡◌, ◌+◌, ◌<◌, ◌≤◌, ◌^◌, ◌⊎◌, ⊤, List, [], ◌∷◌, ◌++◌, codes, length, map}
 use Rattle.std.specs.List.{AllByRecursion, enumerate_from}
 use Rattle.ml_base.specs.declared.doc_refusal.DocRefusal.{DocRefusal}
 use Rattle.ml_base.specs.declared.doc_refusal.DocRefusal.TheVariants as refused
+use Rattle.ml_ctl.specs.Parsing.{IsParsedAs}
+use Rattle.ml_ctl.specs.declared.language.Language.TheVariants.{Ltl}
 use Rattle.ml_lines.specs.Faults.{IsFault}
 use Rattle.ml_lines.specs.Lines.{Line, Word}
-use Rattle.ml_lines.specs.Reading.{AreWords, IsNumber, IsTextBehind, IsWordBehind, left_of, lines_of, word}
+use Rattle.ml_lines.specs.Reading.{AreWords, IsNumber, IsTextBehind, IsWordBehind, left_of, lines_of, word, words_of}
 use Rattle.ml_lists.specs.Documents.{IsFirstBroken, Rule, rule}
 use Rattle.ml_synthesis.specs.declared.machines.MachineStep.{MachineStep}
+use Rattle.ml_synthesis.specs.declared.outcome.Outcome.{Outcome}
+use Rattle.ml_task.specs.Task.{IsTask, Task}
+use Rattle.ml_realize_text.specs.ReadText.{Fits, states_of}
 use Rattle.ml_realize_text.specs.RealizeRules.{Place, Signals, realize, rule_number, rules}
-use Rattle.ml_realize_text.specs.RealizeText.{answer_line, end_line, play_line, set_words, state_line, step_line}
+use Rattle.ml_realize_text.specs.RealizeText.{answer_line, end_line, outcome_answer, outcome_lines, play_line, set_words, state_line, step_line}
+use Rattle.ml_realize_text.specs.declared.answer.Answer.{Answer}
 use Rattle.ml_realize_text.specs.declared.answer.Answer.TheVariants.{Realizable, Unrealizable}
+use Rattle.ml_realize_text.specs.declared.head.BodyOf.{BodyOf}
+use Rattle.ml_realize_text.specs.declared.head.BodyOf.TheVariants.{AMachine, AnEnvironment}
 use Rattle.ml_realize_text.specs.declared.line_rule.LineRule.{LineRule}
 use Rattle.ml_realize_text.specs.declared.rest.Rest.{Rest}
 
@@ -105,3 +120,35 @@ pub record IsStep (ins outs : List Word) (n s : ℕ) (line : Line) (x : MachineS
 pub record IsReply (outs : List Word) (n s : ℕ) (line : Line) (x : ℕ) : Type 0 where
   pub line_is : line ≡ answer_line outs (s, x)
   pub leads : x < n
+
+-- ---- before the body
+
+abbrev pub answer_of : BodyOf → Answer
+answer_of AMachine = Realizable
+answer_of AnEnvironment = Unrealizable
+
+abbrev pub AreFirst : ℕ → List Line → List Line → Type 0
+AreFirst n lines more = (length lines ≡ n) ⊎ ((length lines < n) × (more ≡ []))
+
+abbrev pub IsBehindLine : Rest → Rest → Type 0
+IsBehindLine at rest = ((line : Line) × Goes at (line ∷ []) rest) ⊎ ((lines_of at.text.now ≡ []) × (rest ≡ at))
+
+abbrev pub IsBehindTask : Rest → Rest → Type 0
+IsBehindTask at rest = (lines : List Line) × Goes at lines rest × AreFirst 3 lines (lines_of rest.text.now)
+
+pub record IsTaskRead (at : Rest) (t : Task) (rest : Rest) : Type 0 where
+  pub formula_text : List ℕ
+  pub goes : Goes at
+      ((codes "inputs" ∷ t.inputs) ∷ (codes "outputs" ∷ t.outputs) ∷ (codes "formula" ∷ words_of formula_text) ∷ [])
+      rest
+  pub is_parsed : IsParsedAs Ltl formula_text t.formula
+  pub is_task : IsTask t
+
+abbrev pub signals_of : Answer → Task → Signals
+signals_of a t = record { answer = a; inputs = t.inputs; outputs = t.outputs }
+
+pub record IsBodyRead (at : Rest) (a : Answer) (t : Task) (r : Outcome) : Type 0 where
+  pub answer_is : outcome_answer r ≡ a
+  pub body : IsBody at (outcome_lines t r)
+  pub fits : Fits t r
+  pub few : states_of r < 2 ^ 32
