@@ -4,3 +4,5 @@ pub mod Splits
 pub mod ItemPlaces
 -- lines without comments
 pub mod KeptLines
+-- how long the parts of an item are
+pub mod PartSizes

@@ -15,12 +15,16 @@
 #![tactic(auto)]
 
 mod comments;
+mod fault;
 mod items;
 mod kind;
 pub mod laws;
 mod name;
 mod parts;
 mod place;
+mod refusal;
+mod rule;
+mod specification;
 
 pub use comments::uncommented;
 pub use items::{ItemText, next_item};
@@ -28,3 +32,6 @@ pub use kind::{Kind, kind_named};
 pub use name::ItemName;
 pub use parts::{behind_colon, is_name, split_name, split_word};
 pub use place::line_and_column;
+pub use refusal::SpecRefusal;
+pub use rule::SpecRule;
+pub use specification::{Item, MOST_ITEMS, Specification};

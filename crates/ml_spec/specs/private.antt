@@ -1,0 +1,2 @@
+-- what is known while items are read
+pub mod Stages
