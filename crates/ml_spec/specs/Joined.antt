@@ -8,9 +8,9 @@
 --   occurrences f    == how many occurrences f has in its logic
 --   requirements xs  == the formulas of the requirements among the items xs, in their order
 --   asked x          == what a question asks for: its formula, and for `follows` the negation of it
---   joined_at l xs before x == the joined formula that an item x of the items xs must keep small, where `before` stands before
---                       it: of a requirement, of the requirements up to it; of a question, of all requirements and what it
---                       asks for
+--   parts_at xs before x == what is joined for an item x of the items xs, where `before` stands before it: for a requirement the
+--                       requirements up to it, for a question all requirements and what it asks for
+--   joined_at l xs before x == the joined formula that the item must keep small
 use Rattle.std.specs.Prelude.{ℕ, true, List, [], ◌∷◌, ◌++◌, filter, map}
 use Rattle.ml_text.specs.declared.token.Operator.TheVariants.{And}
 use Rattle.ml_ctl.specs.Formula as ctl
@@ -76,9 +76,12 @@ asked_as k f = f
 abbrev pub asked : Item → AnyFormula
 asked x = asked_as x.kind x.formula
 
-abbrev pub joined_as : Kind → Logic → List Item → List Item → Item → AnyFormula
-joined_as kind.Require l xs before x = joined l (requirements before ++ x.formula ∷ [])
-joined_as k l xs before x = joined l (requirements xs ++ asked x ∷ [])
+abbrev pub parts_as : Kind → List Item → List Item → Item → List AnyFormula
+parts_as kind.Require xs before x = requirements before ++ x.formula ∷ []
+parts_as k xs before x = requirements xs ++ asked x ∷ []
+
+abbrev pub parts_at : List Item → List Item → Item → List AnyFormula
+parts_at xs before x = parts_as x.kind xs before x
 
 abbrev pub joined_at : Logic → List Item → List Item → Item → AnyFormula
-joined_at l xs before x = joined_as x.kind l xs before x
+joined_at l xs before x = joined l (parts_at xs before x)

@@ -16,6 +16,7 @@
 
 mod comments;
 mod fault;
+mod formulas;
 mod items;
 mod kind;
 pub mod laws;
@@ -24,6 +25,7 @@ mod parts;
 mod place;
 mod refusal;
 mod rule;
+mod sizes;
 mod specification;
 
 pub use comments::uncommented;
