@@ -1,4 +1,6 @@
 -- Each text is one specification, or has one refusal, exactly one of the two.
+--
+--   tells_text   == the first fault of the items behind the first one is the first of the text, if that tells a logic
 use Rattle.std.proofs.Common.{◌≡◌, ◌≢◌, ℕ, ◌<◌, ◌≤◌, ◌⊎◌, Bool, true, false, ◌==◌, if◌then◌else◌, List, [], ◌∷◌, codes, inl, inr, refl, sym, ap, subst, ◌∙◌, arith}
 use Rattle.ml_lists.proofs.Decided.{Decided, decided_bytes, decided_number}
 use Rattle.ml_front.specs.Logics.{logic_of, logic_word}
@@ -11,15 +13,28 @@ use Rattle.ml_spec.specs.Laws.{NeverBoth, OneRefusal, OneSpecification, SomeRead
 use Rattle.ml_spec.specs.Places.{column_at, line_at}
 use Rattle.ml_spec.specs.RuleNumbers.{rule_number}
 use Rattle.ml_spec.specs.Specification.{first_filled, items_behind, AreSmall, IsReadAs, IsSpecification, TellsLogic}
+use Rattle.ml_spec.specs.declared.fault.Fault.{Fault}
+use Rattle.ml_spec.specs.declared.fault.Fault.TheVariants.{Breaks, NoMemory}
 use Rattle.ml_spec.specs.declared.rule.SpecRule.{SpecRule}
 use Rattle.ml_spec.specs.declared.rule.SpecRule.TheVariants.{Syntax, Unbound, NotPositive, TooMany, TooNested, NameTooLong, NoLogic, NoKind, NoName, NoColon, NameTaken, TooManyItems, TooLarge}
 use Rattle.ml_spec.specs.declared.specification.Item.{Item}
 use Rattle.ml_spec.specs.private.Sizes.{IsFirstLarge}
-use Rattle.ml_spec.specs.private.Stages.{IsReadTo, IsStopped}
+use Rattle.ml_spec.specs.private.Stages.{IsReadTo, IsStopped, TellsAmong, TellsInText}
 use Rattle.ml_spec.proofs.LargeItems.{first_of_large, small_not_large}
 use Rattle.ml_spec.proofs.Readings.{items_answer, one_reading, read_whole}
 use Rattle.ml_spec.proofs.SmallItems.{small_answer, small_behind}
 use Rattle.ml_spec.proofs.TextFaults.{first_logic, first_of_items, large_alone}
+
+-- ---- what a reader of items tells
+
+pub tells_text : (text : List ℕ) (l : Logic) (all : List ItemText) (e : Fault)
+    → TellsLogic text l
+    → items_behind text ≡ all
+    → TellsAmong l all e
+    → TellsInText text e
+tells_text text l all (Breaks r at) told is tells =
+    first_of_items text l told r at (subst (λ is. IsStopped l is r at) (sym is) tells)
+tells_text text l all NoMemory told is tells = tt
 
 -- ---- some answer
 

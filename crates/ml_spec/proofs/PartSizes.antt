@@ -3,7 +3,7 @@
 --   kind_shortens  == what stands behind the kind is shorter than the item
 --   name_shortens  == what stands behind a name is shorter than what stands behind the kind
 --   colon_shortens == what stands behind a colon is shorter still
---   kind_fits, name_fits == none is longer than the item
+--   kind_fits, name_fits, text_fits == none is longer than the item
 use Rattle.std.proofs.Common.{◌≡◌, ℕ, zero, suc, ◌+◌, ◌-◌, ◌<◌, ◌≤◌, Bool, true, false, not, List, [], ◌∷◌, length, take, drop, sym, ◌∙◌, ap, subst, arith, length-drop, length-take}
 use Rattle.std.specs.List.{before_first, position_or_len, prefix_len, take_while}
 use Rattle.std.proofs.lemmas.List.Sums.{prefix_len-le-length}
@@ -62,3 +62,6 @@ kind_fits i = omega (arith, word_le i.bytes)
 
 pub name_fits : (i : ItemText) → length (behind_name i) ≤ length i.bytes
 name_fits i = omega (arith, kind_fits i, run_le (behind_kind i))
+
+pub text_fits : (i : ItemText) → length (text_of i) ≤ length i.bytes
+text_fits i = omega (arith, name_fits i, length-drop 1 (behind_name i))

@@ -6,6 +6,7 @@
 --   read_whole      == a text whose items are read is read
 --   one_reading     == a text is read in one way at most
 use Rattle.std.proofs.Common.{◌≡◌, ◌≢◌, ℕ, ◌+◌, ◌<◌, ◌≤◌, ◌⊎◌, Bool, true, false, ◌==◌, if◌then◌else◌, List, [], ◌∷◌, ◌++◌, drop, get_or, length, map, bytes_eq, Contains, Option, Some, None, inl, inr, refl, sym, ap, subst, ◌∙◌, arith, append_assoc, length-append}
+use Rattle.std.specs.List.{AllByRecursion}
 use Rattle.std.specs.Set.{is_member}
 use Rattle.std.proofs.lemmas.List.{append-nil}
 use Rattle.std.proofs.lemmas.Map.Made.{is_member-Decides}
@@ -18,19 +19,21 @@ use Rattle.ml_front.specs.Logics.{logic_of, IsParsedAs, IsRefusedBy}
 use Rattle.ml_front.specs.declared.logic.Logic.{Logic}
 use Rattle.ml_front.specs.declared.problem.AnyFormula.{AnyFormula}
 use Rattle.ml_front.proofs.Logics.{formula_once, some_answer}
+use Rattle.ml_spec.specs.Comments.{uncommented}
 use Rattle.ml_spec.specs.ItemParts.{behind_kind, behind_name, name_of, place_of, text_of, HasColon, HasKind, HasName, IsOfKind}
 use Rattle.ml_spec.specs.Items.{ItemText, begins_with_colon, first_word, is_name, items_of}
 use Rattle.ml_spec.specs.Kinds.{kind_word}
-use Rattle.ml_spec.specs.Specification.{items_behind, most_items, names, AreItemsOf, IsItemOf, IsReadAs, TellsLogic}
+use Rattle.ml_spec.specs.Specification.{items_behind, most_items, names, AreItemsOf, IsItemOf, IsReadAs, IsSpecification, IsSpecified, TellsLogic}
 use Rattle.ml_spec.specs.declared.kind.Kind.{Kind}
 use Rattle.ml_spec.specs.declared.kind.Kind.TheVariants as kind
 use Rattle.ml_spec.specs.declared.rule.SpecRule.{SpecRule}
 use Rattle.ml_spec.specs.declared.rule.SpecRule.TheVariants.{Syntax, Unbound, NotPositive, TooMany, TooNested, NameTooLong, NoKind, NoName, NoColon, NameTaken, TooManyItems}
 use Rattle.ml_spec.specs.declared.specification.Item.{Item}
-use Rattle.ml_spec.specs.private.Stages.{AreNewBehind, IsFirstInItem, IsNextItem, IsReadTo, IsStopped}
+use Rattle.ml_spec.specs.private.Stages.{AreNewBehind, IsFirstInItem, IsNextItem, IsReadTo, IsStopped, told_byte, told_rule}
 use Rattle.ml_spec.proofs.ItemFaults.{first_colon, first_kind, first_many, first_name, first_taken, first_text}
+use Rattle.ml_spec.proofs.JoinedSizes.{AreItemsIn}
 use Rattle.ml_spec.proofs.TextFaults.{new_items, new_more, one_logic}
-use Rattle.ml_spec.proofs.TextRefusals.{refused_by, told_byte, told_rule}
+use Rattle.ml_spec.proofs.TextRefusals.{refused_by}
 
 -- ---- one item more
 
@@ -242,3 +245,28 @@ one_reading text l k xs ys one other =
       one_list k (items_behind text) xs ys (subst (λ m. AreItemsOf m (items_behind text) xs) logics one.are_items)
       other.are_items,
     )
+
+-- ---- what holds of the items that are read
+
+pub read_in : (l : Logic) (is : List ItemText) (xs : List Item) → AreItemsOf l is xs → AreItemsIn l xs
+read_in l [] [] are = tt
+read_in l [] (x ∷ xs) are = absurd are
+read_in l (i ∷ is) [] are = absurd are
+read_in l (i ∷ is) (x ∷ xs) are = (are.0.of_logic, read_in l is xs are.1)
+
+read_named : (l : Logic) (is : List ItemText) (xs : List Item) → AreItemsOf l is xs → AllByRecursion (λ x. is_name x.name ≡ true) xs
+read_named l [] [] are = tt
+read_named l [] (x ∷ xs) are = absurd are
+read_named l (i ∷ is) [] are = absurd are
+read_named l (i ∷ is) (x ∷ xs) are = (are.0.is_named, read_named l is xs are.1)
+
+pub specified : (text : List ℕ) (l : Logic) (xs : List Item) → IsSpecification text l xs → IsSpecified l xs
+specified text l xs is =
+    let read = is.is_read in
+    record {
+      of_logic = read_in l (items_behind (uncommented text)) xs read.are_items;
+      are_named = read_named l (items_behind (uncommented text)) xs read.are_items;
+      are_new = read.are_new;
+      are_few = read.are_few;
+      are_small = is.are_small;
+    }

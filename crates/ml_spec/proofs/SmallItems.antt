@@ -15,10 +15,11 @@ use Rattle.std.proofs.lemmas.List.Sums.{sum_by-append}
 use Rattle.ml_text.specs.Limits.{most_occurrences}
 use Rattle.ml_front.specs.Logics.{logic_of}
 use Rattle.ml_front.specs.declared.logic.Logic.{Logic}
-use Rattle.ml_spec.specs.Joined.{asked, joined_at, occurrences, requirements}
+use Rattle.ml_spec.specs.Joined.{asked, asked_as, joined_at, occurrences, requirements}
 use Rattle.ml_spec.specs.Kinds.{is_requirement}
 use Rattle.ml_spec.specs.Specification.{AreSmall}
 use Rattle.ml_spec.specs.declared.kind.Kind.{Kind}
+use Rattle.ml_spec.specs.declared.kind.Kind.TheVariants as kind
 use Rattle.ml_spec.specs.declared.specification.Item.{Item}
 use Rattle.ml_spec.specs.private.Sizes.{due_of, total, AreDueBehind, AreSmallBehind, IsFirstLarge}
 use Rattle.ml_spec.proofs.JoinedSizes.{part_size, AreItemsIn}
@@ -167,6 +168,38 @@ pub due_next : (xs : List Item) (i : ℕ) (x : Item)
 due_next xs i x within is due fits =
     subst (AreDueBehind (most_occurrences + 1) xs []) (sym (next_front xs i x within is))
     (due_more (most_occurrences + 1) xs [] (take i xs) x due fits)
+
+-- ---- the totals that a reader keeps
+
+module _ (xs : List Item) (i : ℕ) (x : Item) (within : i < length xs) (is : x ≡ get_or xs i x) (all before due : ℕ)
+    (all_is : all ≡ total (requirements xs)) (before_is : before ≡ total (requirements (take i xs)))
+    (due_is : due ≡ due_of x all before) where
+  pub due_whole : due ≡ due_of x (total (requirements xs)) (total (requirements (take i xs)))
+  due_whole = due_is ∙ ap (λ a. due_of x a before) all_is ∙ ap (λ b. due_of x (total (requirements xs)) b) before_is
+
+  due_required : is_requirement x.kind ≡ true → due_of x all before ≡ before + (1 + occurrences x.formula)
+  due_required required = by x.kind required
+    where
+      by : (k : Kind)
+          → is_requirement k ≡ true
+          → cond (is_requirement k) before all + (1 + occurrences (asked_as k x.formula)) ≡ before + (1 + occurrences x.formula)
+      by kind.Require e = refl
+      by kind.Possible e = cc
+      by kind.Follows e = cc
+
+  pub next_required : is_requirement x.kind ≡ true → due ≡ total (requirements (take (i + 1) xs))
+  next_required required =
+      due_is
+      ∙ due_required required
+      ∙ ap (λ b. b + (1 + occurrences x.formula)) before_is
+      ∙ sym (required_total (take i xs) x required)
+      ∙ ap (λ ys. total (requirements ys)) (sym (next_front xs i x within is))
+
+  pub next_question : is_requirement x.kind ≡ false → before ≡ total (requirements (take (i + 1) xs))
+  next_question asks =
+      before_is
+      ∙ sym (question_total (take i xs) x asks)
+      ∙ ap (λ ys. total (requirements ys)) (sym (next_front xs i x within is))
 
 -- ---- all are small, or one is the first that isn't
 

@@ -1,7 +1,6 @@
 -- Refusals of the text of an item, in any logic: what is read of a text, and why it is refused, are one.
 --
 --   refused_once      == a text is refused in one way at most, but for want of memory
---   told_rule e, told_byte e == the rule that a refusal of the parser tells, and its byte
 --   text_refused_once == so a text is refused by one rule at one byte at most
 --   read_not_refused  == a text that is read is refused by none
 --   refused_by        == a refusal of the parser tells a rule
@@ -19,6 +18,7 @@ use Rattle.ml_front.specs.declared.problem.AnyFormula.{AnyFormula}
 use Rattle.ml_front.proofs.Logics.{formula_or_refused}
 use Rattle.ml_spec.specs.Faults.{IsTextRefused}
 use Rattle.ml_spec.specs.declared.rule.SpecRule.{SpecRule}
+use Rattle.ml_spec.specs.private.Stages.{told_byte, told_rule}
 use Rattle.ml_spec.specs.declared.rule.SpecRule.TheVariants.{Syntax, Unbound, NotPositive, TooMany, TooNested, NameTooLong, NoLogic, NoKind, NoName, NoColon, NameTaken, TooManyItems, TooLarge}
 
 pub refused_once : (l : Logic) (text : List ℕ) (e d : ParseRefusal)
@@ -32,25 +32,6 @@ refused_once logic.Pdl = pdl_answer.one_answer.refused
 refused_once logic.Ctl = (ctl_answer.one_answer language.Ctl).refused
 refused_once logic.Ltl = (ctl_answer.one_answer language.Ltl).refused
 refused_once logic.Word = (ctl_answer.one_answer language.Ltl).refused
-
--- the rule that a refusal tells, and its byte
-abbrev pub told_rule : ParseRefusal → Option SpecRule
-told_rule (refusal.Syntax k) = Some Syntax
-told_rule (refusal.Unbound k) = Some Unbound
-told_rule (refusal.NotPositive k) = Some NotPositive
-told_rule (refusal.TooMany k) = Some TooMany
-told_rule (refusal.TooNested k) = Some TooNested
-told_rule (refusal.NameTooLong k) = Some NameTooLong
-told_rule refusal.NoMemory = None
-
-abbrev pub told_byte : ParseRefusal → ℕ
-told_byte (refusal.Syntax k) = k
-told_byte (refusal.Unbound k) = k
-told_byte (refusal.NotPositive k) = k
-told_byte (refusal.TooMany k) = k
-told_byte (refusal.TooNested k) = k
-told_byte (refusal.NameTooLong k) = k
-told_byte refusal.NoMemory = 0
 
 pub record IsTold (l : Logic) (text : List ℕ) (r : SpecRule) (k : ℕ) : Type 0 where
   pub by : ParseRefusal

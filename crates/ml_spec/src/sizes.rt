@@ -2,11 +2,12 @@
 //
 // A formula that is joined to others counts one more than its occurrences, for the AND in front of it; so does the first, which
 // has none, and formulas that are joined have one occurrence less than that.
-ghost use Rattle.std.specs.Prelude.{◌≡◌, ◌+◌, ◌*◌, ◌≤◌, length, List, MatchOption};
+ghost use Rattle.std.specs.Prelude.{◌≡◌, ◌+◌, ◌*◌, ◌≤◌, true, length, List, MatchOption};
 ghost use Rattle.std.specs.List.{AllByRecursion};
 ghost use Rattle.ml_front.specs.Logics.{logic_of};
 ghost use Rattle.ml_front.specs.declared.logic.Logic.{Logic};
 ghost use Rattle.ml_spec.specs.Joined.{asked, requirements};
+ghost use Rattle.ml_spec.specs.Kinds.{is_requirement};
 ghost use Rattle.ml_spec.specs.Joined as spec;
 ghost use Rattle.ml_spec.specs.Specification.{AreSmall};
 ghost use Rattle.ml_spec.specs.private.Sizes.{due_of, total, IsFirstLarge};
@@ -47,6 +48,7 @@ fn due(item: &Item, all: u32, before: u32) -> u32
     requires all { all ≤ 1002 * MOST_ITEMS }
     requires before { before ≤ 1002 * MOST_ITEMS }
     ensures number { result ≡ due_of item.now all before }
+    ensures most { is_requirement item.now.kind ≡ true → result ≤ before + 1002 }
 {
     let others = if item.kind.is_requirement() {
         before

@@ -8,15 +8,22 @@
 --   TellsInItem l names i e      == e tells the first fault of the item i, if it isn't want of memory
 --   TellsAmong l all e           == e tells the first fault of the items `all`, if it isn't
 --   TellsInText text e           == e tells the first fault of the text, if it isn't
-use Rattle.std.specs.Prelude.{ℕ, ◌≡◌, ◌+◌, ◌<◌, ◌≤◌, ◌⊎◌, ⊤, List, [], ◌∷◌, ◌++◌, length, Contains}
+--   TellsRefusal text e          == e tells line, column and rule of it, if it isn't
+--   told_rule e, told_byte e     == the rule that a refusal of the parser tells, and its byte
+use Rattle.std.specs.Prelude.{ℕ, ◌≡◌, ◌+◌, ◌<◌, ◌≤◌, ◌⊎◌, ⊤, List, [], ◌∷◌, ◌++◌, length, Contains, Option, None, Some}
+use Rattle.ml_base.specs.declared.parse_refusal.ParseRefusal.{ParseRefusal}
+use Rattle.ml_base.specs.declared.parse_refusal.ParseRefusal.TheVariants as refusal
 use Rattle.ml_front.specs.declared.logic.Logic.{Logic}
-use Rattle.ml_spec.specs.Faults.{IsFirstFault, IsItemFault}
+use Rattle.ml_spec.specs.Faults.{IsFirstFault, IsItemFault, IsRefused}
 use Rattle.ml_spec.specs.Items.{ItemText}
 use Rattle.ml_spec.specs.RuleNumbers.{rule_number}
 use Rattle.ml_spec.specs.Specification.{most_items, names, AreItemsOf, IsItemOf}
 use Rattle.ml_spec.specs.declared.fault.Fault.{Fault}
 use Rattle.ml_spec.specs.declared.fault.Fault.TheVariants.{Breaks, NoMemory}
+use Rattle.ml_spec.specs.declared.refusal.SpecRefusal.{SpecRefusal}
+use Rattle.ml_spec.specs.declared.refusal.SpecRefusal.TheVariants as refused
 use Rattle.ml_spec.specs.declared.rule.SpecRule.{SpecRule}
+use Rattle.ml_spec.specs.declared.rule.SpecRule.TheVariants.{Syntax, Unbound, NotPositive, TooMany, TooNested, NameTooLong}
 use Rattle.ml_spec.specs.declared.specification.Item.{Item}
 
 pub record IsFirstInItem (l : Logic) (seen : List (List ℕ)) (i : ItemText) (r : SpecRule) (at : ℕ) : Type 0 where
@@ -59,3 +66,27 @@ TellsAmong l all NoMemory = ⊤
 abbrev pub TellsInText : List ℕ → Fault → Type 0
 TellsInText text (Breaks r at) = IsFirstFault text r at
 TellsInText text NoMemory = ⊤
+
+abbrev pub TellsRefusal : List ℕ → SpecRefusal → Type 0
+TellsRefusal text (refused.Refused line column r) = IsRefused text line column r
+TellsRefusal text refused.NoMemory = ⊤
+
+-- ---- the parser's refusals
+
+abbrev pub told_rule : ParseRefusal → Option SpecRule
+told_rule (refusal.Syntax k) = Some Syntax
+told_rule (refusal.Unbound k) = Some Unbound
+told_rule (refusal.NotPositive k) = Some NotPositive
+told_rule (refusal.TooMany k) = Some TooMany
+told_rule (refusal.TooNested k) = Some TooNested
+told_rule (refusal.NameTooLong k) = Some NameTooLong
+told_rule refusal.NoMemory = None
+
+abbrev pub told_byte : ParseRefusal → ℕ
+told_byte (refusal.Syntax k) = k
+told_byte (refusal.Unbound k) = k
+told_byte (refusal.NotPositive k) = k
+told_byte (refusal.TooMany k) = k
+told_byte (refusal.TooNested k) = k
+told_byte (refusal.NameTooLong k) = k
+told_byte refusal.NoMemory = 0
