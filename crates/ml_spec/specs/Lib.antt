@@ -4,9 +4,21 @@ pub mod Comments
 pub mod Items
 -- kinds of items
 pub mod Kinds
+-- the parts of an item, and where they stand
+pub mod ItemParts
 -- lines and columns
 pub mod Places
+-- formulas joined
+pub mod Joined
+-- specifications and their texts
+pub mod Specification
+-- the rules that a text may break, by their numbers
+pub mod RuleNumbers
+-- why a text is no specification
+pub mod Faults
 -- items as a reader comes to them
 pub mod Scan
 -- laws on texts
 pub mod Laws
+-- what private contracts cite
+pub mod private

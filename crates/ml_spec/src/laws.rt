@@ -1,5 +1,5 @@
 // Laws over specification texts: no caller runs these functions, their contracts are the theorems.
-ghost use Rattle.ml_spec.specs.Laws.{ItemsApart, KeepsLines};
+ghost use Rattle.ml_spec.specs.Laws.{ItemsApart, KeepsLines, NeverBoth, OneRefusal, OneSpecification, SomeReading};
 
 /// A text has as many bytes without its comments, and its lines end at the same places.
 ///
@@ -13,4 +13,15 @@ pub fn lines_kept()
 /// Does nothing when called.
 pub fn items_apart()
     ensures apart { ItemsApart }
+{}
+
+/// Each text is one specification, or is refused by one rule at one line and column, exactly one of the two. So `read` answers
+/// each exactly where it is said to come, but for want of memory.
+///
+/// Does nothing when called.
+pub fn one_answer()
+    ensures some { SomeReading }
+    ensures never_both { NeverBoth }
+    ensures one_specification { OneSpecification }
+    ensures one_refusal { OneRefusal }
 {}

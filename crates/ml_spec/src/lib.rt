@@ -15,12 +15,20 @@
 #![tactic(auto)]
 
 mod comments;
+mod fault;
+mod formulas;
+mod head;
 mod items;
 mod kind;
 pub mod laws;
 mod name;
 mod parts;
 mod place;
+mod reading;
+mod refusal;
+mod rule;
+mod sizes;
+mod specification;
 
 pub use comments::uncommented;
 pub use items::{ItemText, next_item};
@@ -28,3 +36,7 @@ pub use kind::{Kind, kind_named};
 pub use name::ItemName;
 pub use parts::{behind_colon, is_name, split_name, split_word};
 pub use place::line_and_column;
+pub use reading::read;
+pub use refusal::SpecRefusal;
+pub use rule::SpecRule;
+pub use specification::{Item, MOST_ITEMS, Specification};

@@ -14,7 +14,7 @@ fn without_blanks(bytes: &[u8]) -> &[u8]
 }
 
 // how many blanks stand at the front
-fn blank_length(bytes: &[u8]) -> usize
+pub(crate) fn blank_length(bytes: &[u8]) -> usize
     ensures { result ≡ prefix_len is_blank bytes.now }
 {
     bytes.iter().take_while(|byte| is_blank(**byte)).count()

@@ -1,0 +1,165 @@
+// Reading a specification from its text.
+//
+// `told_logic` reads the first item, `add_items` the others, one after the other, with the names that were seen, and
+// `first_too_large` asks for the sizes at the end. Each answers the first fault of what it reads; what lies behind a fault is
+// not read.
+ghost use Rattle.std.specs.Prelude.{◌≡◌, ◌≤◌, [], ℕ, List, codes, length, IfOk, IfErr, IsErrOf, MatchOption, OnOk};
+ghost use Rattle.ml_front.specs.Logics.{logic_word};
+ghost use Rattle.ml_front.specs.declared.logic.Logic as declared;
+ghost use Rattle.ml_spec.specs.Comments as comments;
+ghost use Rattle.ml_spec.specs.Faults.{IsRefused};
+ghost use Rattle.ml_spec.specs.Items.{behind_word, first_word};
+ghost use Rattle.ml_spec.specs.Scan.{items_at};
+ghost use Rattle.ml_spec.specs.Specification.{items_behind, AreSmall, IsReadAs, IsSpecification, IsSpecified, TellsLogic};
+ghost use Rattle.ml_spec.specs.declared.specification.Item as plain;
+ghost use Rattle.ml_spec.specs.private.Stages.{IsReadTo, TellsAmong, TellsInText, TellsRefusal};
+
+use crate::comments::uncommented;
+use crate::fault::Fault;
+use crate::head::read_item;
+use crate::items::next_item;
+use crate::name::ItemName;
+use crate::parts::{blank_length, split_word};
+use crate::place::line_and_column;
+use crate::refusal::SpecRefusal;
+use crate::rule::SpecRule;
+use crate::sizes::first_too_large;
+use crate::specification::{Item, Specification};
+use indexmap::IndexSet;
+use ml_front::Logic;
+use std::alloc::Global;
+
+/// The specification that a text stands for.
+///
+/// # Errors
+/// `Refused` exactly where the text is no specification: the first line and column, counted from 1, at which it breaks a rule,
+/// and of those the one with the lowest number, as `specs/Faults.antt` says. `NoMemory`.
+///
+/// Cost: linear in the text, on average, and that of the logic's parser for each item.
+pub fn read(alloc: Global, text: &[u8]) -> Result<Specification, SpecRefusal>
+    ensures specification { IfOk result (λ s. IsSpecification text.now s.logic s.items.items) }
+    ensures specified { IfOk result (λ s. IsSpecified s.logic s.items.items) }
+    ensures refused { (line column : ℕ) (rule : SpecRule) → IsErrOf result (SpecRefusal.Refused line column rule)
+        → IsRefused text.now line column rule }
+    ensures no_specification { (line column : ℕ) (rule : SpecRule) → IsErrOf result (SpecRefusal.Refused line column rule)
+        → (l : declared.Logic) (xs : List plain.Item) → ¬ (IsSpecification text.now l xs) }
+{
+    read_text(alloc, text)
+}
+
+fn read_text(alloc: Global, text: &[u8]) -> Result<Specification, SpecRefusal>
+    ensures specification { IfOk result (λ s. IsSpecification text.now s.logic s.items.items) }
+    ensures refused { IfErr result (TellsRefusal text.now) }
+{
+    let plain = uncommented(alloc, text)?;
+    match read_plain(alloc, &plain) {
+        Ok(specification) => Ok(specification),
+        Err(fault) => Err(refusal(text, fault)),
+    }
+}
+
+// the refusal of a text, by the fault that it has without its comments
+fn refusal(text: &[u8], fault: Fault) -> SpecRefusal
+    requires { TellsInText (comments.uncommented text.now) fault }
+    ensures { TellsRefusal text.now result }
+{
+    match fault {
+        Fault::Breaks { rule, at } => {
+            let (line, column) = line_and_column(text, at);
+            SpecRefusal::Refused { line, column, rule }
+        }
+        Fault::NoMemory => SpecRefusal::NoMemory,
+    }
+}
+
+// the specification of a text without comments
+fn read_plain(alloc: Global, text: &[u8]) -> Result<Specification, Fault>
+    ensures read { IfOk result (λ s. IsReadAs text.now s.logic s.items.items) }
+    ensures small { IfOk result (λ s. AreSmall s.logic s.items.items) }
+    ensures refused { IfErr result (TellsInText text.now) }
+{
+    let Some((logic, from)) = told_logic(text) else {
+        return Err(Fault::Breaks {
+            rule: SpecRule::NoLogic,
+            at: blank_length(text),
+        });
+    };
+    let items = match read_items(alloc, logic, text, from) {
+        Ok(items) => items,
+        Err(fault) => return Err(fault),
+    };
+    match first_too_large(&items) {
+        Some(at) => Err(Fault::Breaks {
+            rule: SpecRule::TooLarge,
+            at,
+        }),
+        None => Ok(Specification { logic, items }),
+    }
+}
+
+// the logic that the first item tells, and where what stands behind that item begins
+fn told_logic(text: &[u8]) -> Option<(Logic, usize)>
+    ensures { MatchOption result ((l : declared.Logic) → ¬ (TellsLogic text.now l))
+        (λ r. TellsLogic text.now r.0 × (items_behind text.now ≡ items_at text.now r.1) × (r.1 ≤ length text.now)) }
+{
+    let (item, next) = next_item(text, 0)?;
+    if item.at != blank_length(text) {
+        return None;
+    }
+    match logic_of_item(item.bytes) {
+        Some(logic) => Some((logic, next)),
+        None => None,
+    }
+}
+
+// the logic that an item tells, if it tells one
+fn logic_of_item(bytes: &[u8]) -> Option<Logic>
+    ensures { MatchOption result
+        ((l : declared.Logic) → first_word bytes.now ≡ codes "logic" → ¬ (behind_word bytes.now ≡ logic_word l))
+        (λ l. (first_word bytes.now ≡ codes "logic") × (behind_word bytes.now ≡ logic_word l)) }
+{
+    let (word, behind) = split_word(bytes);
+    if word == b"logic".as_slice() {
+        Logic::named(behind)
+    } else {
+        None
+    }
+}
+
+// the items from this place of a text without comments on
+fn read_items(alloc: Global, logic: Logic, text: &[u8], from: usize) -> Result<Vec<Item>, Fault>
+    requires { from ≤ length text.now }
+    ensures read { IfOk result (λ items. IsReadTo logic (items_at text.now from) [] items.items) }
+    ensures refused { IfErr result (TellsAmong logic (items_at text.now from)) }
+{
+    let mut items = Vec::new(alloc);
+    let mut seen = IndexSet::new(alloc);
+    match add_items(alloc, logic, text, from, &mut items, &mut seen) {
+        Ok(()) => Ok(items),
+        Err(fault) => Err(fault),
+    }
+}
+
+// adds these items to none, and their names to none
+fn add_items(
+    alloc: Global,
+    logic: Logic,
+    text: &[u8],
+    from: usize,
+    items: &mut Vec<Item>,
+    seen: &mut IndexSet<ItemName>,
+) -> Result<(), Fault>
+    requires from { from ≤ length text.now }
+    requires items { items.old.items ≡ [] }
+    requires seen { seen.old.keys ≡ [] }
+    ensures read { OnOk result (IsReadTo logic (items_at text.now from) [] items.new.items) }
+    ensures refused { IfErr result (TellsAmong logic (items_at text.now from)) }
+{
+    let mut at = from;
+    while let Some((item, next)) = next_item(text, at) {
+        let read = read_item(alloc, logic, &item, seen)?;
+        items.push(read)?;
+        at = next;
+    }
+    Ok(())
+}
