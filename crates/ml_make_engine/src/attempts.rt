@@ -140,9 +140,10 @@ impl Attempts {
         let letters = self.signals.letters();
         self.machine.fill(self.alloc, task, true, letters)?;
         self.environment.fill(self.alloc, task, false, letters)?;
+        let (machines, environments) = (self.machine.all.len(), self.environment.all.len());
         for most in COUNTERS {
-            self.add_side(Side::Machine, self.machine.all.len(), most)?;
-            self.add_side(Side::Environment, self.environment.all.len(), most)?;
+            self.add_side(Side::Machine, machines, most)?;
+            self.add_side(Side::Environment, environments, most)?;
         }
         Ok(())
     }

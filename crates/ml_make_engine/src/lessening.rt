@@ -15,6 +15,13 @@ struct Ways {
     plain: Vec<Vec<u32>>,
 }
 
+fn add_to(lists: &mut [Vec<u32>], from: usize, to: u32) -> Result<(), NoMemory> {
+    if let Some(list) = lists.get_mut(from) {
+        list.push(to)?;
+    }
+    Ok(())
+}
+
 impl Ways {
     fn of(alloc: Global, automaton: &Automaton) -> Result<Ways, NoMemory> {
         let mut ways = Ways {
@@ -26,15 +33,11 @@ impl Ways {
     }
 
     fn add(&mut self, from: usize, to: u32, accepting: bool) -> Result<(), NoMemory> {
-        let lists = if accepting {
-            &mut self.accepting
+        if accepting {
+            add_to(&mut self.accepting, from, to)
         } else {
-            &mut self.plain
-        };
-        if let Some(list) = lists.get_mut(from) {
-            list.push(to)?;
+            add_to(&mut self.plain, from, to)
         }
-        Ok(())
     }
 
     fn fill(&mut self, automaton: &Automaton) -> Result<(), NoMemory> {

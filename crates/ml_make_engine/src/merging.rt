@@ -3,19 +3,17 @@ use crate::automata::empty_rows;
 use crate::components::components;
 use crate::counting::{Count, Counting};
 use crate::moves::{Move, Moves, moves_at, numbered};
-use indexmap::IndexSet;
 use ml_base::NoMemory;
-use ml_search_local::{NONE, number, small};
+use ml_search_local::{NONE, number, put, small};
 use std::alloc::Global;
 
-/// A state of the moves and one of the automaton, or `NONE` where no run is.
-type Pair = (u32, u32);
-
-/// The pairs that are reached, and where they lead.
+/// The pairs of a state of the moves and one of the automaton that are reached, and where they lead.
 #[derive(Drop)]
 struct Product<'a> {
     counting: &'a Counting,
-    pairs: IndexSet<Pair>,
+    /// The number of each pair, by the place that it has among all, or `NONE`.
+    numbers: Vec<u32>,
+    pairs: Vec<(u32, u32)>,
     targets: Vec<Vec<u32>>,
     /// Pairs with an arc of the automaton that counts on.
     counts: Vec<(u32, u32)>,
@@ -24,16 +22,63 @@ struct Product<'a> {
     alloc: Global,
 }
 
+/// The place of a pair among all, where the automaton has so many states.
+fn place_of(pair: (u32, u32), states: usize) -> u32 {
+    small(
+        (pair.0 as usize)
+            .saturating_mul(states)
+            .saturating_add(pair.1 as usize),
+    )
+}
+
 impl<'a> Product<'a> {
     fn new(alloc: Global, counting: &'a Counting) -> Product<'a> {
         Product {
             counting,
-            pairs: IndexSet::new(alloc),
+            numbers: Vec::new(alloc),
+            pairs: Vec::new(alloc),
             targets: Vec::new(alloc),
             counts: Vec::new(alloc),
             arcs: 0,
             alloc,
         }
+    }
+
+    /// Room for the pairs of so many states, if that takes no more work than is left; tells whether there is room.
+    fn make_room(&mut self, states: usize, left: u64) -> Result<bool, NoMemory> {
+        let room = states.saturating_mul(self.counting.states);
+        if room as u64 > left {
+            return Ok(false);
+        }
+        for _ in 0..room {
+            self.numbers.push(NONE)?;
+        }
+        Ok(true)
+    }
+
+    /// Forgets all pairs.
+    fn clear(&mut self) {
+        let states = self.counting.states;
+        for pair in &self.pairs {
+            put(&mut self.numbers, place_of(*pair, states), NONE);
+        }
+        self.pairs.clear();
+        self.targets.clear();
+        self.counts.clear();
+        self.arcs = 0;
+    }
+
+    /// The number of a pair.
+    fn number(&mut self, pair: (u32, u32)) -> Result<u32, NoMemory> {
+        let place = place_of(pair, self.counting.states);
+        let known = number(&self.numbers, place);
+        if known != NONE {
+            return Ok(known);
+        }
+        let new = small(self.pairs.len());
+        put(&mut self.numbers, place, new);
+        self.pairs.push(pair)?;
+        Ok(new)
     }
 
     /// Writes where a pair leads by a move.
@@ -46,8 +91,7 @@ impl<'a> Product<'a> {
     ) -> Result<(), NoMemory> {
         let counting = self.counting;
         for arc in counting.arcs(counting.class(step.letter), state) {
-            let (number, _) = self.pairs.insert_full((step.to, arc.to))?;
-            let to = small(number);
+            let to = self.number((step.to, arc.to))?;
             targets.push(to)?;
             self.arcs = self.arcs.saturating_add(1);
             if arc.count == Count::More {
@@ -60,7 +104,7 @@ impl<'a> Product<'a> {
     /// Looks at the next pair, if there is one.
     fn look_at_next(&mut self, moves: &[Vec<Move>]) -> Result<bool, NoMemory> {
         let pair = small(self.targets.len());
-        let Some((at, state)) = self.pairs.as_slice().get(self.targets.len()).copied() else {
+        let Some((at, state)) = self.pairs.get(self.targets.len()).copied() else {
             return Ok(false);
         };
         let mut targets = Vec::new(self.alloc);
@@ -73,10 +117,11 @@ impl<'a> Product<'a> {
     }
 
     fn fill(&mut self, moves: &[Vec<Move>]) -> Result<(), NoMemory> {
+        self.clear();
         if self.counting.start == NONE {
             return Ok(());
         }
-        self.pairs.insert((0, self.counting.start))?;
+        let _ = self.number((0, self.counting.start))?;
         for _ in 0..u64::MAX {
             if !self.look_at_next(moves)? {
                 break;
@@ -100,7 +145,7 @@ impl<'a> Product<'a> {
 /// Moves that are merged as long as there is work left.
 #[derive(Drop)]
 struct Merging<'a> {
-    counting: &'a Counting,
+    product: Product<'a>,
     moves: Moves,
     left: u64,
     alloc: Global,
@@ -139,10 +184,9 @@ impl<'a> Merging<'a> {
 
     /// Counts no run of these moves for ever?
     fn is_good(&mut self, moves: &[Vec<Move>]) -> Result<bool, NoMemory> {
-        let mut product = Product::new(self.alloc, self.counting);
-        product.fill(moves)?;
-        self.left = self.left.saturating_sub(product.arcs);
-        Ok(!product.counts_for_ever()?)
+        self.product.fill(moves)?;
+        self.left = self.left.saturating_sub(self.product.arcs);
+        Ok(!self.product.counts_for_ever()?)
     }
 
     /// Leads the ways to a state to another one; tells whether that is good.
@@ -175,6 +219,9 @@ impl<'a> Merging<'a> {
     }
 
     fn merge_all(&mut self) -> Result<(), NoMemory> {
+        if !self.product.make_room(self.moves.len(), self.left)? {
+            return Ok(());
+        }
         for _ in 0..self.moves.len() {
             if !self.merge_two()? {
                 break;
@@ -192,7 +239,7 @@ pub(crate) fn merged_by_trial(
     work: u64,
 ) -> Result<Moves, NoMemory> {
     let mut merging = Merging {
-        counting,
+        product: Product::new(alloc, counting),
         moves,
         left: work,
         alloc,
