@@ -1,0 +1,13 @@
+// Machines and environments from few positions, for the tasks of `ml_realize`.
+//
+// `make` answers a task with a machine that realizes it, or with an environment that defeats it. A search that claims nothing
+// (`ml_make_engine`) makes a candidate; it is let out if the check of machines (`ml_machine_check`) says that it holds. Else
+// the whole game decides (`ml_realize`), and each refusal is one of that. `specs/Making.antt` says what an answer is; `laws`
+// says that there is one for each task whose game isn't too large, and never two that differ in who wins.
+#![tactic(auto)]
+
+mod fitting;
+pub mod laws;
+mod making;
+
+pub use making::make;

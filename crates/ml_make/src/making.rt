@@ -1,0 +1,75 @@
+// Answers to tasks: a candidate that is confirmed, or else what the whole game finds.
+ghost use Rattle.std.specs.Prelude.{◌≤◌, IfOk, IfSome, IsErrOf, IsTrue};
+ghost use Rattle.ml_make.specs.Making.{IsAnswer, IsConfirmed};
+ghost use Rattle.ml_realize.specs.Realizing.{IsRight};
+ghost use Rattle.ml_realize.specs.TaskGame.{IsLarge, PassesLimit};
+ghost use Rattle.ml_realize.specs.declared.refusals.RealizeRefusal.TheVariants as refusal;
+ghost use Rattle.ml_task.specs.Task.{task_of};
+
+use crate::fitting::fits;
+use ml_base::NoMemory;
+use ml_machine_check::{Checked, check};
+use ml_make_engine::candidate;
+use ml_realize::{RealizeRefusal, realize};
+use ml_synthesis::Outcome;
+use ml_task::Task;
+use std::alloc::Global;
+
+// does the check say that it holds?
+fn is_confirmed(alloc: Global, task: &Task, outcome: &Outcome) -> Result<bool, NoMemory>
+    ensures { IfOk result (λ holds. IsTrue holds
+        → IsConfirmed (task_of task.now.inputs.items task.now.outputs.items task.now.formula) outcome.now) }
+{
+    if !fits(task, outcome) {
+        return Ok(false);
+    }
+    match check(alloc, task, outcome)? {
+        Checked::Holds => Ok(true),
+        Checked::Fails(_) | Checked::ClosureTooLarge => Ok(false),
+    }
+}
+
+// what is confirmed of what the search makes
+fn confirmed(alloc: Global, task: &Task, limit: u32) -> Result<Option<Outcome>, NoMemory>
+    ensures { IfOk result (λ found. IfSome found
+        (IsConfirmed (task_of task.now.inputs.items task.now.outputs.items task.now.formula))) }
+{
+    let Some(outcome) = candidate(alloc, task, limit)? else {
+        return Ok(None);
+    };
+    if is_confirmed(alloc, task, &outcome)? {
+        Ok(Some(outcome))
+    } else {
+        Ok(None)
+    }
+}
+
+/// A machine that realizes a task, or an environment that defeats it: of few states, where a search finds some.
+///
+/// `limit` is 1 or more.
+///
+/// Back comes the machine, each of whose words satisfies the formula, or the environment, none of whose words does. Either
+/// `ml_machine_check::check` says that it holds, or it is one that `ml_realize::realize` may give for the same task and limit.
+///
+/// # Errors
+/// Those of `realize` for the same task and limit, and only where it refuses so: `ClosureTooLarge`, where the graph of the
+/// word automaton of the negated formula has more than 4,096 nodes; `Passed`, where it hasn't, and the game has more than
+/// `limit` positions. There too a machine or an environment may come. `NoMemory`.
+///
+/// Cost: the search does at most a fixed multiple of `limit` steps; the check of a candidate is that of `check`, with at most
+/// 65,536 nodes of a word automaton; and where nothing is confirmed, that of `realize`.
+/// Source: Schewe and Finkbeiner, Bounded synthesis (2007).
+pub fn make(alloc: Global, task: &Task, limit: u32) -> Result<Outcome, RealizeRefusal>
+    requires { 1 ≤ limit }
+    ensures right { IfOk result (IsRight (task_of task.now.inputs.items task.now.outputs.items task.now.formula)) }
+    ensures answer { IfOk result (IsAnswer (task_of task.now.inputs.items task.now.outputs.items task.now.formula) limit) }
+    ensures passed { IsErrOf result refusal.Passed
+        → PassesLimit (task_of task.now.inputs.items task.now.outputs.items task.now.formula) limit }
+    ensures too_large { IsErrOf result refusal.ClosureTooLarge
+        → IsLarge (task_of task.now.inputs.items task.now.outputs.items task.now.formula) }
+{
+    match confirmed(alloc, task, limit)? {
+        Some(outcome) => Ok(outcome),
+        None => realize(alloc, task, limit),
+    }
+}
