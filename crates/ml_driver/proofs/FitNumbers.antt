@@ -14,7 +14,7 @@ use Rattle.ml_gen.specs.FamilyRanges.{family_named, is_in_range}
 use Rattle.ml_gen.specs.declared.family.Family.{Family}
 use Rattle.ml_front.specs.declared.logic.Logic.{Logic}
 use Rattle.ml_driver.specs.declared.command.Command.{Command}
-use Rattle.ml_driver.specs.declared.command.Command.TheVariants.{Decide, Valid, Find, Prove, CheckModel, CheckRefutation, Migrate, Quotient, SolveGame, CheckGame, Path, Determinise, Automaton, Realize, Gen, Bench}
+use Rattle.ml_driver.specs.declared.command.Command.TheVariants.{Decide, Valid, Find, Prove, CheckModel, CheckRefutation, Migrate, Quotient, SolveGame, CheckGame, Path, CheckMachine, Determinise, Automaton, Realize, Make, Gen, Bench}
 use Rattle.ml_driver.specs.declared.command.TheConstants.{GREATEST_LIMIT, LONGEST_NUMBER}
 use Rattle.ml_driver.specs.declared.engine.Engine.{Engine}
 use Rattle.ml_driver.specs.Games.{engine_named}
@@ -83,20 +83,22 @@ bare_fits : (w : Word) → HasFitNumbers (bare_by w)
 bare_fits w =
     by_words (bytes_eq w (codes "check-model")) (bytes_eq w (codes "check-refutation")) (bytes_eq w (codes "migrate"))
     (bytes_eq w (codes "quotient")) (bytes_eq w (codes "check-game")) (bytes_eq w (codes "path"))
+    (bytes_eq w (codes "check-machine"))
   where
-    by_words : (a b c d e f : Bool)
+    by_words : (a b c d e f g : Bool)
         → HasFitNumbers (if a then Some CheckModel
         else (if b then Some CheckRefutation
         else (if c then Some Migrate
         else (if d then Some Quotient
-        else (if e then Some CheckGame else (if f then Some Path else None))))))
-    by_words true b c d e f = tt
-    by_words false true c d e f = tt
-    by_words false false true d e f = tt
-    by_words false false false true e f = tt
-    by_words false false false false true f = tt
-    by_words false false false false false true = tt
-    by_words false false false false false false = tt
+        else (if e then Some CheckGame else (if f then Some Path else (if g then Some CheckMachine else None)))))))
+    by_words true b c d e f g = tt
+    by_words false true c d e f g = tt
+    by_words false false true d e f g = tt
+    by_words false false false true e f g = tt
+    by_words false false false false true f g = tt
+    by_words false false false false false true g = tt
+    by_words false false false false false false true = tt
+    by_words false false false false false false false = tt
 
 counted_fits : (w : Word) (f : Family) (n : ℕ) → is_in_range f n ≡ true → HasFitNumbers (counted_by w f n)
 counted_fits w f n inside = by_words (bytes_eq w (codes "gen")) (bytes_eq w (codes "bench"))
@@ -150,21 +152,24 @@ about_fits w subject limit = by_word (bytes_eq w (codes "solve-game"))
 
 alone_fits : (w : Word) (limit : Option Word) → HasFitNumbers (alone w limit)
 alone_fits w limit =
-    by_word (bytes_eq w (codes "determinise")) (bytes_eq w (codes "realize")) (bytes_eq w (codes "automaton")) limit
-    (limit_named limit)
+    by_word (bytes_eq w (codes "determinise")) (bytes_eq w (codes "realize")) (bytes_eq w (codes "automaton"))
+    (bytes_eq w (codes "make")) limit (limit_named limit)
   where
-    by_word : (t s r : Bool) (limit : Option Word) (n : Option ℕ)
+    by_word : (t s r q : Bool) (limit : Option Word) (n : Option ℕ)
         → HasFitNumbers (if t then option_map Determinise n
         else (if s then option_map Realize n
-        else (if r then option_map Automaton n else unlimited w limit)))
-    by_word true s r limit None = tt
-    by_word true s r limit (Some n) = tt
-    by_word false true r limit None = tt
-    by_word false true r limit (Some n) = tt
-    by_word false false true limit None = tt
-    by_word false false true limit (Some n) = tt
-    by_word false false false None n = bare_fits w
-    by_word false false false (Some word) n = tt
+        else (if r then option_map Automaton n
+        else (if q then option_map Make n else unlimited w limit))))
+    by_word true s r q limit None = tt
+    by_word true s r q limit (Some n) = tt
+    by_word false true r q limit None = tt
+    by_word false true r q limit (Some n) = tt
+    by_word false false true q limit None = tt
+    by_word false false true q limit (Some n) = tt
+    by_word false false false true limit None = tt
+    by_word false false false true limit (Some n) = tt
+    by_word false false false false None n = bare_fits w
+    by_word false false false false (Some word) n = tt
 
 row_fits : (command subject count limit : Option Word) → HasFitNumbers (row_of command subject count limit)
 row_fits (Some w) (Some subject) None limit = about_fits w subject limit

@@ -14,8 +14,12 @@ pub mod CheckedGameAnswers
 pub mod AutomatonAnswers
 -- what is due for `path`
 pub mod PathAnswers
+-- what is due for `check-machine`
+pub mod MachineAnswers
 -- what is due for `realize`
 pub mod TaskAnswers
+-- what is due for `make`
+pub mod MadeAnswers
 -- each structure has a quotient
 pub mod SomeQuotient
 -- what is due for `quotient`

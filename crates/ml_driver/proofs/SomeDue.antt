@@ -29,9 +29,11 @@ use Rattle.ml_decide.proofs.Measures.{some_finding}
 use Rattle.ml_decide.specs.declared.way.Way.TheVariants.{WholeGame, Search}
 use Rattle.ml_driver.proofs.QuotientAnswers.{on_structure}
 use Rattle.ml_driver.proofs.PathAnswers.{on_path}
+use Rattle.ml_driver.proofs.MachineAnswers.{on_machine}
+use Rattle.ml_driver.proofs.MadeAnswers.{on_made}
 use Rattle.ml_driver.proofs.TaskAnswers.{on_task}
 use Rattle.ml_driver.proofs.TranslationAnswers.{on_formula}
-use Rattle.ml_driver.specs.declared.command.Command.TheVariants.{Decide, Valid, Find, Prove, CheckModel, CheckRefutation, Migrate, Quotient, SolveGame, CheckGame, Path, Determinise, Automaton, Realize, Gen, Bench}
+use Rattle.ml_driver.specs.declared.command.Command.TheVariants.{Decide, Valid, Find, Prove, CheckModel, CheckRefutation, Migrate, Quotient, SolveGame, CheckGame, Path, CheckMachine, Determinise, Automaton, Realize, Make, Gen, Bench}
 use Rattle.ml_driver.specs.declared.status.Status.TheVariants.{Yes, Text}
 use Rattle.ml_driver.specs.Statuses.{model_said, refused_document, refutation_said, words_refused}
 use Rattle.ml_driver.specs.Run.{asked}
@@ -124,6 +126,8 @@ answered CheckGame text small = on_checked_game text
 answered (Determinise n) text small = on_automaton n text
 answered (Automaton n) text small = on_formula n text
 answered Path text small = on_path text
+answered CheckMachine text small = on_machine text
+answered (Make n) text small = on_made n text
 answered (Realize n) text small = on_task n text
 answered (Gen f n) text small = (Yes, (gen_text f n, refl))
 answered (Bench f n) text small = of_family f n text small

@@ -11,6 +11,8 @@
 --                       them says that the problem stays open
 --   FindsAsDecided, ProvesAsDecided == what `decide` (`valid`) answers, `find` (`prove`) may answer; and what these answer is
 --                       yes, or no, or is due for `decide` (`valid`), with the same output
+--   MakesAsRealized  == what `realize` answers, `make` may answer; and what this answers is yes, or no, or is due for `realize`, with
+--                       the same output
 --   OneMeasure       == one output is due at most for `gen` and `bench`
 --   SameWinners      == both engines of `solve-game` name the same winners
 --   OneSolutionDue   == one status and one output are due at most for `solve-game measures`
@@ -40,7 +42,7 @@ use Rattle.ml_buchi.specs.Valuations.{Leads}
 use Rattle.ml_determinise.specs.Numbering.{automaton_of}
 use Rattle.ml_gen.specs.FamilyRanges.{is_in_range}
 use Rattle.ml_gen.specs.declared.family.Family.{Family}
-use Rattle.ml_driver.specs.declared.command.Command.TheVariants.{Decide, Valid, Find, Prove, CheckModel, CheckRefutation, Quotient, SolveGame, CheckGame, Determinise, Automaton, Gen, Bench}
+use Rattle.ml_driver.specs.declared.command.Command.TheVariants.{Decide, Valid, Find, Prove, CheckModel, CheckRefutation, Quotient, SolveGame, CheckGame, Determinise, Automaton, Make, Realize, Gen, Bench}
 use Rattle.ml_driver.specs.declared.command.Command.{Command}
 use Rattle.ml_bisim.specs.Quotient.{class_of}
 use Rattle.ml_model_check.specs.Checked.{IsCheckedAs, IsDocument}
@@ -76,6 +78,7 @@ use Rattle.ml_lines.specs.Lines.{Word, line_text}
 abbrev pub searches : Option Command → Bool
 searches (Some (Find l n)) = true
 searches (Some (Prove l n)) = true
+searches (Some (Make n)) = true
 searches _ = false
 
 abbrev pub OneDue : Type 0
@@ -102,7 +105,12 @@ FindsAsDecided = AnswersAs Find Decide
 abbrev pub ProvesAsDecided : Type 0
 ProvesAsDecided = AnswersAs Prove Valid
 
--- for `gen`, `determinise`, `automaton` and `realize` a number may be any
+abbrev pub MakesAsRealized : Type 0
+MakesAsRealized = (n : ℕ) (text : List ℕ) (s : Status) (out : List ℕ)
+    → (IsDue (Some (Realize n)) text s out → IsDue (Some (Make n)) text s out)
+    × (s ≢ Yes → s ≢ No → IsDue (Some (Make n)) text s out → IsDue (Some (Realize n)) text s out)
+
+-- for `gen`, `determinise`, `automaton`, `realize` and `make` a number may be any
 abbrev pub HasFitNumbers : Option Command → Type 0
 HasFitNumbers (Some (Decide l n)) = n < 2 ^ 32
 HasFitNumbers (Some (Valid l n)) = n < 2 ^ 32

@@ -18,8 +18,12 @@ pub mod Automata
 pub mod Translations
 -- paths of structures
 pub mod Paths
+-- machines and environments that are checked
+pub mod CheckedMachines
 -- tasks that are realized
 pub mod Tasks
+-- tasks for which a machine is searched
+pub mod MadeTasks
 -- what a problem is decided to be
 pub mod Decision
 -- what is written of the formulas of families

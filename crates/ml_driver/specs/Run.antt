@@ -35,7 +35,7 @@ use Rattle.ml_refute_check.specs.Documents.{HoldsNowhere, IsMigrated, IsVerdict}
 use Rattle.ml_refute_check.specs.declared.verdict.Verdict.{Verdict}
 use Rattle.ml_refute_check.specs.declared.verdict.Verdict.TheVariants as verdict
 use Rattle.ml_driver.specs.declared.command.Command.{Command}
-use Rattle.ml_driver.specs.declared.command.Command.TheVariants.{Decide, Valid, Find, Prove, CheckModel, CheckRefutation, Migrate, Quotient, SolveGame, CheckGame, Path, Determinise, Automaton, Realize, Gen, Bench}
+use Rattle.ml_driver.specs.declared.command.Command.TheVariants.{Decide, Valid, Find, Prove, CheckModel, CheckRefutation, Migrate, Quotient, SolveGame, CheckGame, Path, CheckMachine, Determinise, Automaton, Realize, Make, Gen, Bench}
 use Rattle.ml_driver.specs.declared.command.TheConstants.{LONGEST_DOCUMENT}
 use Rattle.ml_driver.specs.declared.question.Question.{Question}
 use Rattle.ml_decide.specs.declared.way.Way.{Way}
@@ -45,8 +45,10 @@ use Rattle.ml_driver.specs.declared.status.Status.TheVariants.{Yes, Undecided, T
 use Rattle.ml_driver.specs.Automata.{IsRefusedAutomaton, IsWrittenFor, PassesLimit, StandsForOne}
 use Rattle.ml_driver.specs.Bench.{IsBenched, gen_text}
 use Rattle.ml_driver.specs.CheckedGames.{IsGameChecked}
+use Rattle.ml_driver.specs.CheckedMachines.{IsMachineTold}
 use Rattle.ml_driver.specs.Decision.{IsAnswered}
 use Rattle.ml_driver.specs.Games.{IsSolved, IsRefusedGame}
+use Rattle.ml_driver.specs.MadeTasks.{IsTaskMade}
 use Rattle.ml_driver.specs.Paths.{IsPathTold}
 use Rattle.ml_driver.specs.Quotients.{IsReduced}
 use Rattle.ml_driver.specs.Statuses.{IsSaid, IsUnreadable, length_refused, longest_input, model_said, refutation_said, words_refused}
@@ -91,6 +93,8 @@ IsAnswer (Automaton n) text Yes out = StandsForFormula text (λ f. translation.I
 IsAnswer (Automaton n) text Undecided out = StandsForFormula text (λ f. IsUntranslated f n out)
 IsAnswer (Automaton n) text Text out = IsRefusedFormula text out
 IsAnswer Path text s out = IsPathTold text s out
+IsAnswer CheckMachine text s out = IsMachineTold text s out
+IsAnswer (Make n) text s out = IsTaskMade n text s out
 IsAnswer (Realize n) text s out = IsTaskAnswered n text s out
 IsAnswer (Gen f n) text Yes out = out ≡ gen_text f n
 IsAnswer (Bench f n) text s out = IsBenched f n s out

@@ -34,7 +34,7 @@ use Rattle.ml_refute_check.specs.declared.verdict.Verdict.{Verdict}
 use Rattle.ml_refute_check.specs.declared.verdict.Verdict.TheVariants as verdict
 use Rattle.ml_task.specs.declared.limits.TheConstants.{LONGEST_TASK_TEXT}
 use Rattle.ml_driver.specs.declared.command.Command.{Command}
-use Rattle.ml_driver.specs.declared.command.Command.TheVariants.{CheckModel, CheckRefutation, Migrate, Quotient, SolveGame, CheckGame, Path, Determinise, Realize, Gen, Bench}
+use Rattle.ml_driver.specs.declared.command.Command.TheVariants.{CheckModel, CheckRefutation, Migrate, Quotient, SolveGame, CheckGame, Path, CheckMachine, Determinise, Realize, Make, Gen, Bench}
 use Rattle.ml_driver.specs.declared.command.TheConstants.{LONGEST_TEXT, LONGEST_DOCUMENT}
 use Rattle.ml_driver.specs.declared.status.Status.{Status}
 use Rattle.ml_driver.specs.declared.status.Status.TheVariants.{Yes, No, Undecided, Words, Text}
@@ -45,9 +45,11 @@ longest_input CheckRefutation = Some LONGEST_DOCUMENT
 longest_input Migrate = Some LONGEST_DOCUMENT
 longest_input Quotient = Some LONGEST_DOCUMENT
 longest_input Path = Some LONGEST_DOCUMENT
+longest_input CheckMachine = Some LONGEST_DOCUMENT
 longest_input (SolveGame e) = Some LONGEST_GAME_TEXT
 longest_input CheckGame = Some LONGEST_CHECKED_TEXT
 longest_input (Determinise n) = Some LONGEST_AUTOMATON_TEXT
+longest_input (Make n) = Some LONGEST_TASK_TEXT
 longest_input (Realize n) = Some LONGEST_TASK_TEXT
 longest_input (Gen f n) = None
 longest_input (Bench f n) = None

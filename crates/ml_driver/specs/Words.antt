@@ -17,7 +17,7 @@
 --   Parts              == the words as they are taken apart: three positionals and the option's value
 --   decided_by, solved_by, counted_by, bare_by == the rows of the table with a logic, with an engine, with a family and a
 --                         number, and with none of these and no limit
---   determinised_by, translated_by, realized_by limit == the rows with a limit alone
+--   determinised_by, translated_by, realized_by, made_by limit == the rows with a limit alone
 --   unlimited w limit, alone w limit == those of bare_by; these together
 --   row p              == the command whose row the parts p are
 --   if_faultless ks c  == c, where there is no fault
@@ -32,7 +32,7 @@ use Rattle.ml_front.specs.declared.logic.Logic.{Logic}
 use Rattle.ml_gen.specs.FamilyRanges.{family_named, is_in_range}
 use Rattle.ml_gen.specs.declared.family.Family.{Family}
 use Rattle.ml_driver.specs.declared.command.Command.{Command}
-use Rattle.ml_driver.specs.declared.command.Command.TheVariants.{Decide, Valid, Find, Prove, CheckModel, CheckRefutation, Migrate, Quotient, SolveGame, CheckGame, Path, Determinise, Automaton, Realize, Gen, Bench}
+use Rattle.ml_driver.specs.declared.command.Command.TheVariants.{Decide, Valid, Find, Prove, CheckModel, CheckRefutation, Migrate, Quotient, SolveGame, CheckGame, Path, CheckMachine, Determinise, Automaton, Realize, Make, Gen, Bench}
 use Rattle.ml_driver.specs.Games.{engine_named}
 use Rattle.ml_driver.specs.declared.command.TheConstants.{DEFAULT_LIMIT, GREATEST_LIMIT, LONGEST_NUMBER}
 
@@ -111,7 +111,8 @@ bare_by w =
     else (if bytes_eq w (codes "migrate") then Some Migrate
     else (if bytes_eq w (codes "quotient") then Some Quotient
     else (if bytes_eq w (codes "check-game") then Some CheckGame
-    else (if bytes_eq w (codes "path") then Some Path else None)))))
+    else (if bytes_eq w (codes "path") then Some Path
+    else (if bytes_eq w (codes "check-machine") then Some CheckMachine else None))))))
 
 -- a command with a limit alone
 abbrev pub determinised_by : Option Word → Option Command
@@ -123,6 +124,9 @@ translated_by limit = option_map Automaton (limit_named limit)
 abbrev pub realized_by : Option Word → Option Command
 realized_by limit = option_map Realize (limit_named limit)
 
+abbrev pub made_by : Option Word → Option Command
+made_by limit = option_map Make (limit_named limit)
+
 -- a command that stands alone, and no limit
 abbrev pub unlimited : Word → Option Word → Option Command
 unlimited w None = bare_by w
@@ -133,7 +137,8 @@ abbrev pub alone : Word → Option Word → Option Command
 alone w limit =
     if bytes_eq w (codes "determinise") then determinised_by limit
     else (if bytes_eq w (codes "realize") then realized_by limit
-    else (if bytes_eq w (codes "automaton") then translated_by limit else unlimited w limit))
+    else (if bytes_eq w (codes "automaton") then translated_by limit
+    else (if bytes_eq w (codes "make") then made_by limit else unlimited w limit)))
 
 -- a command with an engine, and no limit
 abbrev pub solved_by : Word → Option Word → Option Command

@@ -55,6 +55,10 @@ pub enum Command {
     Automaton { limit: u32 },
     /// `path`: a path of the structure of the document on the input that shows its problem, or, for `A f` of CTL*, that breaks f.
     Path,
+    /// `check-machine`: does the machine of the document on the input realize its task, or the environment defeat it?
+    CheckMachine,
+    /// `make`: as `realize`, but a machine or an environment of few states is searched for before the game is explored.
+    Make { limit: u32 },
     /// `realize`: a machine that realizes the task on the input, or an environment that defeats it. The game may have as many
     /// positions as the limit.
     Realize { limit: u32 },
@@ -97,11 +101,12 @@ impl Command {
             | Command::CheckRefutation
             | Command::Migrate
             | Command::Quotient
-            | Command::Path => Some(LONGEST_DOCUMENT),
+            | Command::Path
+            | Command::CheckMachine => Some(LONGEST_DOCUMENT),
             Command::SolveGame { .. } => Some(LONGEST_GAME_TEXT as u64),
             Command::CheckGame => Some(LONGEST_CHECKED_TEXT as u64),
             Command::Determinise { .. } => Some(LONGEST_AUTOMATON_TEXT as u64),
-            Command::Realize { .. } => Some(LONGEST_TASK_TEXT as u64),
+            Command::Make { .. } | Command::Realize { .. } => Some(LONGEST_TASK_TEXT as u64),
             Command::Gen { .. } | Command::Bench { .. } => None,
         }
     }
@@ -220,6 +225,8 @@ fn alone(command: &str, limit: Option<&str>) -> Option<Command>
         realized_by(limit)
     } else if command == "automaton" {
         translated_by(limit)
+    } else if command == "make" {
+        made_by(limit)
     } else {
         unlimited(command, limit)
     }
@@ -247,6 +254,14 @@ fn realized_by(limit: Option<&str>) -> Option<Command>
 {
     let limit = limit_named(limit)?;
     Some(Command::Realize { limit })
+}
+
+fn made_by(limit: Option<&str>) -> Option<Command>
+    ensures command { result ≡ command_line.made_by (option_map (λ s. s.now) limit.entry) }
+    ensures usual { IfSome result HasUsualNumbers }
+{
+    let limit = limit_named(limit)?;
+    Some(Command::Make { limit })
 }
 
 fn unlimited(command: &str, limit: Option<&str>) -> Option<Command>
@@ -329,6 +344,8 @@ fn bare_by(command: &str) -> Option<Command>
         Some(Command::CheckGame)
     } else if command == "path" {
         Some(Command::Path)
+    } else if command == "check-machine" {
+        Some(Command::CheckMachine)
     } else {
         None
     }

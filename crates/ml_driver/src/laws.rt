@@ -4,7 +4,7 @@ ghost use Rattle.ml_realize.specs.TaskGame.{most_nodes};
 ghost use Rattle.ml_translate.specs.Translation as translation;
 ghost use Rattle.ml_task.specs.declared.limits.TheConstants.{LONGEST_TASK_TEXT};
 ghost use Rattle.ml_driver.specs.declared.command.TheConstants.{DEFAULT_LIMIT, GREATEST_LIMIT, LONGEST_DOCUMENT, LONGEST_NUMBER, LONGEST_TEXT};
-ghost use Rattle.ml_driver.specs.Laws.{AnswersAreExact, DecideIsChecked, DecidedAreChecked, FindIsChecked, FindsAsDecided, OneAutomatonDue};
+ghost use Rattle.ml_driver.specs.Laws.{AnswersAreExact, DecideIsChecked, DecidedAreChecked, FindIsChecked, FindsAsDecided, MakesAsRealized, OneAutomatonDue};
 ghost use Rattle.ml_driver.specs.Laws.{OneAutomatonWritten, OneCheckDue, OneDue, OneMeasure, OneQuotientDue, OneSolutionDue, OneUnlessOpen, ProveIsChecked, ProvesAsDecided};
 ghost use Rattle.ml_driver.specs.Laws.{QuotientsAreCheckedAlike, QuotientsAreRead, RefutedAreAccepted, SameWinners, SolutionsAreAccepted, SomeDue, SomeDueForWords};
 ghost use Rattle.ml_driver.specs.Laws.{ValidIsChecked, WrittenAcceptsTheSame, WrittenHoldsTheSame, WrittenIsTranslated};
@@ -30,10 +30,11 @@ pub fn answers_are_exact()
 {}
 
 /// Whatever is due for `decide` is due for `find`. And whatever is due for `find`, but yes and no, is due for `decide`, with
-/// the same output: what stays undecided, and texts that are refused. So it is for `prove` and `valid`.
+/// the same output: what stays undecided, and texts that are refused. So it is for `prove` and `valid`, and for `make` and `realize`.
 pub fn searches_find_as_much()
     ensures finds { FindsAsDecided }
     ensures proves { ProvesAsDecided }
+    ensures makes { MakesAsRealized }
 {}
 
 /// The documents that answer a question are right, of whatever length: one with a structure shows that its

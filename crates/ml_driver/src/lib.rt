@@ -7,7 +7,8 @@
 // `specs/Quotients.antt`, what `solve-game` answers in `specs/Games.antt`, what `check-game` answers in
 // `specs/CheckedGames.antt`, what `determinise` answers in `specs/Automata.antt`, what `automaton` answers in
 // `specs/Translations.antt`, what `path` answers in `specs/Paths.antt`, what `check-machine` answers in
-// `specs/CheckedMachines.antt`, and what `realize` answers in `specs/Tasks.antt`. `Status::code` is the number with which the
+// `specs/CheckedMachines.antt`, what `realize` answers in `specs/Tasks.antt`, and what `make` answers in
+// `specs/MadeTasks.antt`. `Status::code` is the number with which the
 // program ends. `laws` says that some status is due for all words and each input, and one alone but for `find` and `prove`;
 // that answers are exact; and that what is written is found to be right.
 //
@@ -17,6 +18,7 @@
 mod bench;
 mod check;
 mod checking_games;
+mod checking_machines;
 mod command;
 mod decide;
 mod determinising;
@@ -25,6 +27,7 @@ mod engine;
 mod finding_paths;
 mod input;
 pub mod laws;
+mod making;
 mod output;
 mod question;
 mod quotienting;

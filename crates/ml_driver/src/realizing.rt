@@ -1,5 +1,6 @@
 // Tasks realized from their texts.
 ghost use Rattle.std.specs.Prelude.{◌≡◌, ◌≤◌, IfOk};
+ghost use Rattle.ml_driver.specs.MadeTasks.{IsMadeTold};
 ghost use Rattle.ml_driver.specs.Run.{IsAnswer};
 ghost use Rattle.ml_driver.specs.Tasks.{IsOpenFor, IsLeftOpen, IsTold};
 ghost use Rattle.ml_driver.specs.private.Outcomes.{status_of};
@@ -49,7 +50,7 @@ fn answer(alloc: Global, task: &Task, limit: u32) -> Result<Output, NoMemory>
     }
 }
 
-fn status_of(outcome: &Outcome) -> Status
+pub(crate) fn status_of(outcome: &Outcome) -> Status
     ensures { result ≡ status_of outcome.now }
 {
     match outcome {
@@ -59,9 +60,16 @@ fn status_of(outcome: &Outcome) -> Status
 }
 
 // the cause for which the task is undecided within the limit
-fn left_open(alloc: Global, task: &Task, _limit: u32, cause: Cause) -> Result<Output, NoMemory>
+pub(crate) fn left_open(
+    alloc: Global,
+    task: &Task,
+    _limit: u32,
+    cause: Cause,
+) -> Result<Output, NoMemory>
     requires { IsOpenFor (task_of task.now.inputs.items task.now.outputs.items task.now.formula) _limit cause }
-    ensures { IfOk result (λ output. IsTold (task_of task.now.inputs.items task.now.outputs.items task.now.formula) _limit
+    ensures made { IfOk result (λ output. IsMadeTold (task_of task.now.inputs.items task.now.outputs.items task.now.formula) _limit
+        output.status output.bytes.items) }
+    ensures told { IfOk result (λ output. IsTold (task_of task.now.inputs.items task.now.outputs.items task.now.formula) _limit
         output.status output.bytes.items) }
 {
     Ok(Output {

@@ -9,10 +9,12 @@ ghost use Rattle.ml_driver.specs.private.UsualNumbers.{HasUsualNumbers};
 use crate::bench::{generate, measure};
 use crate::check::{check_model, check_refutation, migrate};
 use crate::checking_games::check_game;
+use crate::checking_machines::check_machine;
 use crate::decide::decide;
 use crate::determinising::determinise_text;
 use crate::finding_paths::find_path;
 use crate::input::input_of;
+use crate::making::make_text;
 use crate::output::Output;
 use crate::question::Question;
 use crate::quotienting::quotient_document;
@@ -29,31 +31,41 @@ use std::alloc::Global;
 /// the answer, makes its whole output, and writes it. Words that are no command end the call before anything is read, and
 /// `gen` and `bench` read nothing.
 ///
-/// The contract says which status and output are due, and what each status leaves behind. But for faults and want of
-/// memory:
-/// - `Yes` and `No` as the command says, in each of the logics: of `decide` and `find` with a structure and a state at
-///   which the formula of the text holds, and with a refutation that is accepted, where it holds nowhere; of `valid` and
-///   `prove` where its negation holds nowhere, and where it holds at some state; of `check-model` where the problem of the
-///   document holds at the start of its structure, and where it doesn't; of `check-refutation` where the document's
-///   refutation is accepted, and where it isn't; of `check-game` where the solution behind the game of the text is right,
-///   and where it isn't; of `path` with a path from the start of the document's structure that shows its problem, and where there
-///   is none; of `check-machine` where the machine of the document realizes its task, or the environment defeats it, and with a
-///   word that shows that it doesn't; of `realize` with a machine that realizes the task of the text, and with an environment that
-///   defeats it; of `bench` where the family's formula is satisfiable, and where it isn't, with its occurrences, the nodes
-///   of its graph and the positions of its game counted; `Yes` of `migrate` with the document that is written of the same
-///   refutation, of `quotient` with the document of the same problem that has the quotient of the structure and the class
-///   of the start, of `solve-game` with the text of a solution, of `determinise` with the text of the deterministic
-///   automaton, of `automaton` with that of an automaton that accepts exactly the words that satisfy the formula of the
-///   text, and of `gen` with the text of the family's formula;
-/// - `Undecided` of `decide`, `valid` and `bench` exactly where the closure of the problem has too many nodes, or the
-///   decision game passes the limit; of `find` and `prove` only there; of `check-model` exactly where the closure has too
-///   many nodes, on a structure of which the logic speaks; of `determinise` exactly where the deterministic automaton has
-///   more states than the limit; of `automaton` exactly where the graph of the word automaton has too many nodes, or the
-///   word automaton more places than the limit; of `path` and `check-machine` exactly where the graph of the word automaton has too many nodes,
-///   for an input that isn't refused; of `realize` exactly where the graph of the word automaton has too many
-///   nodes, or the game of the task passes the limit;
-/// - `Words` exactly for words that are no command, `Text` exactly for input that the command refuses, both with one
-///   line that says so.
+/// The contract says which status and output are due, and what each status leaves behind. `Yes` and `No` come as the command
+/// says, in each of the logics:
+///
+/// | command | `Yes` | `No` |
+/// |---|---|---|
+/// | `decide`, `find` | a structure with a state at which the formula holds | it holds nowhere, with a refutation that is accepted |
+/// | `valid`, `prove` | its negation holds nowhere, with a refutation | a structure with a state at which the negation holds |
+/// | `check-model` | the document's problem holds at the start of its structure | it doesn't |
+/// | `path` | a path from the start of the document's structure that shows its problem | there is none |
+/// | `check-refutation` | the document's refutation is accepted | it isn't |
+/// | `check-game` | the solution behind the game is right | it isn't |
+/// | `realize`, `make` | a machine that realizes the task | an environment that defeats it |
+/// | `check-machine` | the machine realizes its task, or the environment defeats it | it doesn't, with a word that shows it |
+/// | `bench` | the family's formula is satisfiable, with its occurrences, nodes and positions | it isn't |
+/// | `migrate` | the document of the same refutation in version 2 | never |
+/// | `quotient` | the document of the same problem with the quotient of the structure | never |
+/// | `solve-game` | the text of a solution | never |
+/// | `determinise` | the text of the deterministic automaton | never |
+/// | `automaton` | the text of an automaton that accepts exactly the words that satisfy the formula | never |
+/// | `gen` | the text of the family's formula | never |
+///
+/// `Undecided` comes
+/// - of `decide`, `valid` and `bench` exactly where the closure of the problem has too many nodes, or the decision game passes
+///   the limit; of `find` and `prove` only there;
+/// - of `check-model` exactly where the closure has too many nodes, on a structure of which the logic speaks;
+/// - of `path` and `check-machine` exactly where the graph of the word automaton has too many nodes, for an input that isn't
+///   refused;
+/// - of `determinise` exactly where the deterministic automaton has more states than the limit;
+/// - of `automaton` exactly where the graph of the word automaton has too many nodes, or the word automaton more places than
+///   the limit;
+/// - of `realize` exactly where the graph of the word automaton has too many nodes, or the game of the task passes the limit;
+///   of `make` only there.
+///
+/// `Words` comes exactly for words that are no command, and `Text` exactly for input that the command refuses, both with one
+/// line that says so.
 ///
 /// And else:
 /// - `ReadFault` only where the source's count of faults rose in this call, and always where it is greater after it;
@@ -123,6 +135,8 @@ fn outcome(alloc: Global, command: Command, text: &[u8]) -> Result<Output, NoMem
         Command::Determinise { limit } => determinise_text(alloc, limit, text),
         Command::Automaton { limit } => translate_text(alloc, limit, text),
         Command::Path => find_path(alloc, text),
+        Command::CheckMachine => check_machine(alloc, text),
+        Command::Make { limit } => make_text(alloc, limit, text),
         Command::Realize { limit } => realize_text(alloc, limit, text),
         Command::Gen { family, n } => generate(alloc, family, n),
         Command::Bench { family, n } => measure(alloc, family, n),
