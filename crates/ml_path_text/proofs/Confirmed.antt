@@ -4,7 +4,8 @@
 --   path_confirmed    == so of a path of a structure that shows it
 --   document_is, document_holds == so of the document that is written
 --   paths_confirmed   == so of the paths that a text asks for
-use Rattle.std.proofs.Common.{ℕ, ◌≡◌, ◌<◌, ◌^◌, ◌∙◌, Bool, List, ap, subst, sym, arith}
+--   texts_confirmed   == and of what is told of one in few bytes
+use Rattle.std.proofs.Common.{ℕ, ◌≡◌, ◌<◌, ◌^◌, ◌∙◌, Bool, List, ap, length, subst, sym, length-append, arith}
 use Rattle.ml_base.specs.Structure.{IsStructure, Structure}
 use Rattle.ml_base.specs.declared.version.Version.TheVariants.{Two}
 use Rattle.ml_ctl.specs.Formula.{Formula}
@@ -22,11 +23,12 @@ use Rattle.ml_model_check.proofs.ReadBack.{documents_read_back}
 use Rattle.ml_paths.specs.Paths.{IsShown}
 use Rattle.ml_paths.specs.Runs.{IsRunOf, word_along}
 use Rattle.ml_paths.proofs.WordRuns.{runs_hold, shown_are_runs}
-use Rattle.ml_path_text.specs.Laws.{PathsAreConfirmed}
+use Rattle.ml_path_text.specs.Laws.{PathsAreConfirmed, TextsAreConfirmed}
 use Rattle.ml_path_text.specs.PathProblems.{on_words}
-use Rattle.ml_path_text.specs.WrittenPath.{path_document, run_of_path}
+use Rattle.ml_path_text.specs.WrittenPath.{path_document, path_lines, run_of_path}
 use Rattle.ml_path_text.proofs.Documents.{asked_formula}
 use Rattle.ml_path_text.proofs.PathRuns.{along_named, along_ordered, along_structure, long, loops, own_run}
+use Rattle.ml_path_text.proofs.WrittenLines.{long_lines}
 
 pub run_confirmed : (m : Structure) (s : ℕ) (f : Formula) (b : Bool) (l : Lasso) (run : Structure)
     → IsStructure m
@@ -97,3 +99,14 @@ pub paths_confirmed : PathsAreConfirmed
 paths_confirmed text p m s f b l asks shown few =
     let is = asks.is_document in
     path_confirmed m s f b l is.2.is_structure is.3 is.2.has_names (asked_formula text p m s f b asks) shown few
+
+pub texts_confirmed : TextsAreConfirmed
+texts_confirmed text out (p, m, s, f, b, asks, (speaks, few, (l, shown, is))) short =
+    let document = path_document m l f b in
+    let whole = ap length is in
+    let sum = length-append (path_lines l) document in (
+      l,
+      document,
+      is,
+      paths_confirmed text p m s f b l asks shown (omega (arith, short, whole, sum, long_lines l)),
+    )

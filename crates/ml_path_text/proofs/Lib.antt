@@ -12,9 +12,9 @@ pub mod Findings
 pub mod Documents
 -- something is found of each text, and one thing at most
 pub mod OneFinding
+-- the lines of a path
+pub mod WrittenLines
 -- whoever checks documents confirms a path
 pub mod Confirmed
--- the line of a path, as the program writes it
-pub mod WrittenLines
 -- what is found beside what checking finds
 pub mod BesideChecking

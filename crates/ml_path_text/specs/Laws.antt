@@ -4,12 +4,13 @@
 --   SomeFinding, OneFinding == something is found of each text, and one thing at most, up to which path is shown
 --   PathsAreConfirmed   == whoever checks documents finds that the one behind the lines of a path holds, if the path has fewer
 --                          than 2 ^ 32 places
+--   TextsAreConfirmed   == so it is of what is told, if that has fewer than 2 ^ 32 bytes
 --   IsPath x            == x is a path
 --   NeitherIsLarge x c  == neither is a word automaton too large, nor a closure to check the document
 --   FoundWhereItHolds   == where a document has the sense of its path problem, a path is found exactly where checking the
 --                          document finds that its problem holds
 --   FoundWhereItFails   == where it has the other sense, exactly where checking finds that it doesn't
-use Rattle.std.specs.Prelude.{ℕ, ◌≡◌, ◌≢◌, ◌<◌, ◌^◌, ◌↔◌, Bool, List}
+use Rattle.std.specs.Prelude.{ℕ, ◌≡◌, ◌≢◌, ◌<◌, ◌^◌, ◌↔◌, Bool, List, length}
 use Rattle.ml_base.specs.Structure.{Structure}
 use Rattle.ml_ctl.specs.Formula.{Formula}
 use Rattle.ml_ctl.specs.Paths.{places}
@@ -19,7 +20,7 @@ use Rattle.ml_model_check.specs.Checked.{IsCheckedAs}
 use Rattle.ml_model_check.specs.declared.checked.Checked.{Checked}
 use Rattle.ml_model_check.specs.declared.checked.Checked.TheVariants as checked
 use Rattle.ml_paths.specs.Paths.{IsShown}
-use Rattle.ml_path_text.specs.Found.{Asks, IsFoundIn}
+use Rattle.ml_path_text.specs.Found.{Asks, IsConfirmedText, IsFoundIn}
 use Rattle.ml_path_text.specs.WrittenPath.{path_document}
 use Rattle.ml_path_text.specs.declared.finding.Finding.{Finding}
 use Rattle.ml_path_text.specs.declared.finding.Finding.TheVariants.{ClosureTooLarge, Path}
@@ -40,6 +41,9 @@ PathsAreConfirmed = (text : List ℕ) (p : Problem) (m : Structure) (s : ℕ) (f
     → IsShown m s f negated l
     → places l < 2 ^ 32
     → IsCheckedAs (path_document m l f negated) checked.Holds
+
+abbrev pub TextsAreConfirmed : Type 0
+TextsAreConfirmed = (text out : List ℕ) → IsFoundIn text (Path out) → length out < 2 ^ 32 → IsConfirmedText out
 
 -- ---- beside checking
 

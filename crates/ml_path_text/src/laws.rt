@@ -1,5 +1,5 @@
 // Laws over the definitions alone: no caller runs these functions, their contracts are the theorems.
-ghost use Rattle.ml_path_text.specs.Laws.{FoundWhereItFails, FoundWhereItHolds, OneFinding, PathsAreConfirmed, SomeFinding};
+ghost use Rattle.ml_path_text.specs.Laws.{FoundWhereItFails, FoundWhereItHolds, OneFinding, PathsAreConfirmed, SomeFinding, TextsAreConfirmed};
 
 /// Of the paths of a document something is found for each text, and one thing at most, up to which path is shown. So `path_of`
 /// answers each exactly where it is said to come, but for want of memory.
@@ -11,11 +11,13 @@ pub fn one_finding()
 {}
 
 /// Of each path of fewer than 2 ^ 32 places that shows what a text asks for, the document is one at whose start its problem
-/// holds, as `ml_model_check::check_document` answers.
+/// holds, as `ml_model_check::check_document` answers. So is the one behind the lines of what is told of a path in fewer than
+/// 2 ^ 32 bytes.
 ///
 /// Does nothing when called.
 pub fn paths_are_confirmed()
-    ensures { PathsAreConfirmed }
+    ensures paths { PathsAreConfirmed }
+    ensures texts { TextsAreConfirmed }
 {}
 
 /// Where neither the word automaton nor the closure is too large, a path of a document is found exactly where checking the
