@@ -33,7 +33,7 @@ use std::fs;
 use std::io::Print;
 use std::rt::Files;
 
-const FILES: [&str; 44] = [
+const FILES: [&str; 47] = [
     "examples",
     "specifications",
     "patterns",
@@ -78,6 +78,9 @@ const FILES: [&str; 44] = [
     "random_checked_games",
     "random_quotients",
     "small_tasks",
+    "made_tasks",
+    "small_tasks_made",
+    "literature_tasks",
 ];
 
 const PAGES: [&str; 5] = ["GUIDE", "DOCUMENTS", "GAMES", "AUTOMATA", "REALIZE"];

@@ -9,7 +9,7 @@ use std::fs;
 use std::io::Print;
 use std::rt::Files;
 
-const COMMANDS: [&str; 17] = [
+const COMMANDS: [&str; 18] = [
     "decide",
     "valid",
     "find",
@@ -23,6 +23,7 @@ const COMMANDS: [&str; 17] = [
     "path",
     "automaton",
     "determinise",
+    "make",
     "realize",
     "check-machine",
     "gen",

@@ -12,3 +12,5 @@ pub mod Confirmed
 pub mod OneFinding
 -- what is written of a right outcome is found right
 pub mod RightOutcomes
+-- what is made in a game of at most n positions has at most n states
+pub mod FewStates

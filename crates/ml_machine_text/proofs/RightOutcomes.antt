@@ -17,6 +17,7 @@ use Rattle.ml_synthesis.specs.declared.outcome.Outcome.{Outcome}
 use Rattle.ml_synthesis.specs.declared.outcome.Outcome.TheVariants as outcome
 use Rattle.ml_task.specs.Task.{Task}
 use Rattle.ml_machine_text.specs.Laws.{DefeatedHolds, MadeHolds, RightHolds}
+use Rattle.ml_machine_text.proofs.FewStates.{found_few}
 
 right_fits : (t : Task) (r : Outcome) → IsRight t r → Fits t r
 right_fits t (outcome.Made m) right = right.fits
@@ -35,9 +36,12 @@ made_small t limit m found =
     not_large t true found.reading.automaton found.reading.is_automaton few
 
 pub made_holds : MadeHolds
-made_holds t limit m is well found few =
-    right_holds t (outcome.Made m) is well (found_right t limit (outcome.Made m) is found) few (made_small t limit m found)
+made_holds t limit m is well found low =
+    let few = found_few t limit (outcome.Made m) found in
+    right_holds t (outcome.Made m) is well (found_right t limit (outcome.Made m) is found) (omega (arith, low, few))
+    (made_small t limit m found)
 
 pub defeated_holds : DefeatedHolds
-defeated_holds t limit e is well found few small =
-    right_holds t (outcome.Defeated e) is well (found_right t limit (outcome.Defeated e) is found) few small
+defeated_holds t limit e is well found low small =
+    let few = found_few t limit (outcome.Defeated e) found in
+    right_holds t (outcome.Defeated e) is well (found_right t limit (outcome.Defeated e) is found) (omega (arith, low, few)) small

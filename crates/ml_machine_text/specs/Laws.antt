@@ -4,7 +4,7 @@
 --   SomeFinding, OneFinding == in each text something is found, and one thing at most, up to which word is shown
 --   ShownAreConfirmed  == whoever checks documents finds that that of a shown word holds, if it has fewer than 2 ^ 32 places
 --   RightHolds         == what is written of an outcome that is right is found right, unless the word automaton is too large
---   MadeHolds          == so is each machine that is found in the game of a task
+--   MadeHolds          == so is each machine that is found in the game of a task, of fewer than 2 ^ 32 positions
 --   DefeatedHolds      == and each environment, unless the word automaton of the formula is too large
 use Rattle.std.specs.Prelude.{ℕ, ◌≡◌, ◌<◌, ◌^◌, List, length}
 use Rattle.ml_ctl.specs.WellFormed.{IsWellFormed}
@@ -56,7 +56,7 @@ MadeHolds = (t : Task) (limit : ℕ) (m : MachineTable)
     → IsTask t
     → IsWellFormed Ltl t.formula
     → IsFound t limit (Made m)
-    → length m < 2 ^ 32
+    → limit < 2 ^ 32
     → IsFoundIn (outcome_text t (Made m)) Holds
 
 abbrev pub DefeatedHolds : Type 0
@@ -64,6 +64,6 @@ DefeatedHolds = (t : Task) (limit : ℕ) (e : EnvironmentTable)
     → IsTask t
     → IsWellFormed Ltl t.formula
     → IsFound t limit (Defeated e)
-    → length e.plays < 2 ^ 32
+    → limit < 2 ^ 32
     → ¬ (IsLarge t (Defeated e))
     → IsFoundIn (outcome_text t (Defeated e)) Holds

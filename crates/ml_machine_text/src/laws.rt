@@ -26,8 +26,8 @@ pub fn right_holds()
     ensures { RightHolds }
 {}
 
-/// So is what is found in the game of a task: a machine without exception, and an environment unless the word automaton of the
-/// formula is too large.
+/// So is what is found in the game of a task of fewer than 2 ^ 32 positions: a machine without exception, and an environment
+/// unless the word automaton of the formula is too large.
 ///
 /// Does nothing when called.
 pub fn found_holds()

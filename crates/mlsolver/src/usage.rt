@@ -3,7 +3,7 @@
 use std::io;
 
 // each command with its further words, and what it is for
-const CALLS: [&str; 17] = [
+const CALLS: [&str; 18] = [
     "find LOGIC [--limit N]    is the formula satisfiable?",
     "prove LOGIC [--limit N]   is the formula valid?",
     "decide LOGIC [--limit N]  as find, without a search",
@@ -17,7 +17,8 @@ const CALLS: [&str; 17] = [
     "check-game                is the solution behind the parity game right?",
     "determinise [--limit N]   the Büchi automaton, made deterministic",
     "automaton [--limit N]     a Büchi automaton of the formula of LTL",
-    "realize [--limit N]       a machine for the task, or an environment",
+    "make [--limit N]          a machine for the task, or an environment",
+    "realize [--limit N]       as make, without a search",
     "check-machine             does the machine realize its task?",
     "gen FAMILY N              the formula of a family",
     "bench FAMILY N            its size, and whether it is satisfiable",
