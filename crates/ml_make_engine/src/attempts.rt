@@ -22,6 +22,7 @@ const FEW: usize = 4;
 
 /// How many arcs are walked at most where states are merged by trial, in all and for each position of the limit.
 const MOST_MERGING: u64 = 20_000_000;
+
 const MERGING: u64 = 400;
 
 /// The automata of a side.
@@ -192,12 +193,7 @@ impl Attempts {
         }
     }
 
-    fn play(
-        &self,
-        counting: &Counting,
-        attempt: Attempt,
-        budget: u32,
-    ) -> Result<Tried, NoMemory> {
+    fn play(&self, counting: &Counting, attempt: Attempt, budget: u32) -> Result<Tried, NoMemory> {
         let mut game = CountingGame::new(
             self.alloc,
             counting,

@@ -228,11 +228,7 @@ fn reduce(alloc: Global, automaton: &mut Automaton) -> Result<bool, NoMemory> {
     Ok(true)
 }
 
-fn fill(
-    alloc: Global,
-    automaton: &Automaton,
-    counting: &mut Counting,
-) -> Result<(), NoMemory> {
+fn fill(alloc: Global, automaton: &Automaton, counting: &mut Counting) -> Result<(), NoMemory> {
     let counted = Counted::of(alloc, automaton)?;
     counted.write_rows(alloc, automaton, &mut counting.rows)?;
     counting.class_of.extend_from_slice(&automaton.class_of)?;

@@ -17,7 +17,10 @@ pub(crate) enum Side {
 }
 
 /// How much work an attempt may do for each position that it may expand.
-pub(crate) const WORK: u64 = 1_024;
+const WORK: u64 = 1_024;
+
+/// How many counters all positions may have.
+const MOST_COUNTERS: usize = 200_000_000;
 
 /// What an attempt came to.
 #[derive(Clone, Copy, PartialEq, Eq)]
@@ -259,11 +262,7 @@ impl<'a> CountingGame<'a> {
         }
     }
 
-    fn take_targets(
-        &mut self,
-        position: u32,
-        steps: &[Option<Vec<u8>>],
-    ) -> Result<(), NoMemory> {
+    fn take_targets(&mut self, position: u32, steps: &[Option<Vec<u8>>]) -> Result<(), NoMemory> {
         let mut targets = Vec::new(self.alloc);
         self.write_targets(steps, &mut targets)?;
         if let Some(place) = self.positions.at_mut(position) {
@@ -402,6 +401,7 @@ impl<'a> CountingGame<'a> {
 
     /// Chooses the moves of a position; tells whether there are some.
     fn pick(&mut self, position: u32) -> Result<bool, NoMemory> {
+        self.positions.spend(1);
         let mut choice = Vec::new(self.alloc);
         if !self.write_choice(position, &mut choice)? {
             return Ok(false);
@@ -428,6 +428,9 @@ impl<'a> CountingGame<'a> {
             let Some(position) = open.pop() else {
                 break;
             };
+            if self.positions.is_spent() {
+                break;
+            }
             if self.positions.status(position) != Status::Lost {
                 self.lose_one(position, open)?;
             }
@@ -489,6 +492,9 @@ impl<'a> CountingGame<'a> {
         open: &mut Vec<u32>,
     ) -> Result<(), NoMemory> {
         for user in users {
+            if self.positions.is_spent() {
+                break;
+            }
             if self.uses(*user, position) && !self.pick(*user)? {
                 open.push(*user)?;
             }
@@ -589,9 +595,11 @@ impl<'a> CountingGame<'a> {
 
     fn is_spent(&self, budget: u32) -> bool {
         let budget = budget as usize;
+        let positions = self.positions.all.len();
         self.expanded >= budget
-            || self.positions.all.len() > budget.saturating_mul(8)
-            || self.positions.work > WORK.saturating_mul(budget as u64)
+            || positions > budget.saturating_mul(8)
+            || positions.saturating_mul(self.counting.states) > MOST_COUNTERS
+            || self.positions.is_spent()
     }
 
     /// Expands those that wait among the reached positions; `None` where enough was done, and else whether some waited.
@@ -612,20 +620,27 @@ impl<'a> CountingGame<'a> {
         Ok(Some(waited))
     }
 
+    /// One round: the walk, and positions expanded on it; `None` where the game goes on.
+    fn round(&mut self, budget: u32) -> Result<Option<Ended>, NoMemory> {
+        self.walk()?;
+        match self.expand_reached(budget)? {
+            Some(true) if self.positions.status(0) == Status::Lost => Ok(Some(Ended::Lost)),
+            Some(true) if self.positions.is_spent() => Ok(Some(Ended::GaveUp)),
+            Some(true) => Ok(None),
+            Some(false) => Ok(Some(Ended::Won)),
+            None => Ok(Some(Ended::GaveUp)),
+        }
+    }
+
     /// Plays until the start is won or lost, or enough was done.
     pub(crate) fn play(&mut self, budget: u32) -> Result<Ended, NoMemory> {
+        self.positions.allow(WORK.saturating_mul(u64::from(budget)));
         if !self.begin()? {
             return Ok(Ended::Lost);
         }
         for _ in 0..u64::MAX {
-            if self.positions.status(0) == Status::Lost {
-                return Ok(Ended::Lost);
-            }
-            self.walk()?;
-            match self.expand_reached(budget)? {
-                None => return Ok(Ended::GaveUp),
-                Some(false) => return Ok(Ended::Won),
-                Some(true) => {}
+            if let Some(ended) = self.round(budget)? {
+                return Ok(ended);
             }
         }
         Ok(Ended::GaveUp)
