@@ -103,6 +103,6 @@ environment_of_rows i o e some long rows plays =
       a_next_each = λ s low. (rows s low).a_next_each;
       plays_sets = λ s low. All-get_or (λ p. p < 2 ^ i) e.plays s 0 low plays;
       leads = λ s outs low set.
-      let each = (rows s low).a_next_each in
-      All-get_or (λ x. x < length e.plays) (get_or e.next s []) outs 0 (omega (arith, each, set)) (rows s low).lead;
+          let each = (rows s low).a_next_each in
+          All-get_or (λ x. x < length e.plays) (get_or e.next s []) outs 0 (omega (arith, each, set)) (rows s low).lead;
     }

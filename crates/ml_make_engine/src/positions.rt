@@ -1,7 +1,7 @@
 // Positions of a counting game, what is known of each, and which lie within which.
 //
-// A position lies within another one if each of its counters is at most that of the other one. Who wins from the greater
-// one wins from the lesser one too, if it is the machine's or the environment's turn to keep the counters low.
+// A position lies within another one if each of its counters is at most that of the other one. Whoever keeps the counters low
+// from the greater one does so from the lesser one too.
 use crate::moves::Move;
 use indexmap::IndexSet;
 use ml_base::NoMemory;
