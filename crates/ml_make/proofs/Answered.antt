@@ -3,7 +3,7 @@
 --   answers_right == what is confirmed or found is right
 --   never_both    == so never both are answers
 --   some_answer   == what is found is an answer
-use Rattle.std.proofs.Common.{ℕ, ◌⊎◌, inl, inr, ⊎_elim}
+use Rattle.std.proofs.Common.{◌⊎◌, inl, inr}
 use Rattle.ml_make.specs.Laws.{AnswersAreRight, NeverBoth, SomeAnswer}
 use Rattle.ml_make.specs.Making.{IsAnswer}
 use Rattle.ml_realize.specs.TaskGame.{IsFound, IsLarge, PassesLimit}
@@ -12,7 +12,6 @@ use Rattle.ml_realize.proofs.RightOutcomes.{found_right}
 use Rattle.ml_realize.proofs.SomeOutcomes.{some_outcome}
 use Rattle.ml_synthesis.specs.declared.outcome.Outcome.{Outcome}
 use Rattle.ml_synthesis.specs.declared.outcome.Outcome.TheVariants as outcome
-use Rattle.ml_task.specs.Task.{Task}
 
 pub answers_right : AnswersAreRight
 answers_right t n r ok (inl confirmed) = confirmed.1

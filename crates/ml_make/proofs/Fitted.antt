@@ -1,21 +1,18 @@
--- Rows that fit make machines and environments that fit.
+-- Rows of machines and environments that fit, as they are read one behind the other.
 --
+--   Below P n rows   == P is true of the rows below the place n
 --   rows_more        == if the rows below a place fit and the one at it, those below the next place do
 --   read_more        == so with the row that is read
 --   machine_more, environment_more == and so with the rows of a machine, and of an environment
---   machine_of_rows  == a machine fits whose rows do
---   environment_of_rows == an environment fits whose rows and plays do
-use Rattle.std.proofs.Common.{ℕ, ◌≡◌, ◌+◌, ◌^◌, ◌<◌, ◌≤◌, ◌⊎◌, List, [], length, get_or, All, inl, inr, map, ap, subst, sym, ◌∙◌, arith}
+use Rattle.std.proofs.Common.{ℕ, ◌≡◌, ◌+◌, ◌^◌, ◌<◌, ◌≤◌, ◌⊎◌, List, [], length, get_or, inl, inr, map, ap, subst, sym, ◌∙◌, arith}
 use Rattle.std.specs.Global.{Vec}
 use Rattle.std.proofs.lemmas.Bool.{cases_lt}
 use Rattle.std.proofs.lemmas.List.{length-map}
-use Rattle.std.proofs.lemmas.List.Elements.{All-get_or}
 use Rattle.ml_machine_check.proofs.ReadRows.{row_at}
-use Rattle.ml_make.specs.private.Fitting.{NextsFit, StepFits, StepsFit}
-use Rattle.ml_synthesis.specs.Machines.{EnvironmentFits, EnvironmentTable, MachineFits, MachineTable, next_at, play_at, step_at}
+use Rattle.ml_make.specs.private.Fitting.{NextsFit, StepsFit}
+use Rattle.ml_synthesis.specs.Machines.{EnvironmentTable, MachineTable}
 use Rattle.ml_synthesis.specs.declared.machines.MachineStep.{MachineStep}
 
--- what is true of each item below a place
 abbrev pub Below : {X : Type 0} → (List X → Type 0) → ℕ → List (List X) → Type 0
 Below P n rows = (s : ℕ) → s < n → P (get_or rows s [])
 
@@ -31,7 +28,8 @@ rows_more P n rows below here s low = by (cases_lt s n)
         let same : n ≡ s = omega (arith, low, more) in subst (λ k. P (get_or rows k [])) same here
 
 -- the row at the place, as it is read
-pub read_more : {X : Type 0} (P : List X → Type 0) (all : List (Vec X)) (rows : List (List X)) (n : ℕ) (v : Vec X) (row : List X)
+pub read_more : {X : Type 0} (P : List X → Type 0) (all : List (Vec X)) (rows : List (List X)) (n : ℕ) (v : Vec X)
+    (row : List X)
     → map (λ (w : Vec X). w.items) all ≡ rows
     → n < length all
     → v ≡ get_or all n v
@@ -73,36 +71,3 @@ pub environment_more : (o : ℕ) (e : EnvironmentTable) (all : List (Vec ℕ)) (
 environment_more o e all plays n v row y are played low is read outs below fits =
     read_more (NextsFit (2 ^ o) (length e.plays)) all e.next n v row are low is read below
     (subst (λ b. NextsFit b (length e.plays) row) outs (subst (λ (ps : List ℕ). NextsFit y (length ps) row) played fits))
-
-pub machine_of_rows : (i o : ℕ) (m : MachineTable)
-    → 0 < length m
-    → Below (StepsFit (2 ^ i) (2 ^ o) (length m)) (length m) m
-    → MachineFits i o m
-machine_of_rows i o m some rows =
-    let step : (s ins : ℕ) → s < length m → ins < 2 ^ i → StepFits (2 ^ o) (length m) (step_at m s ins) =
-    λ s ins low set.
-    let long = (rows s low).a_step_each in
-    All-get_or (StepFits (2 ^ o) (length m)) (get_or m s []) ins (record { give = 0; next = 0 }) (omega (arith, long, set)) (rows s low).fit in
-    record {
-      some = some;
-      a_step_each = λ s low. (rows s low).a_step_each;
-      gives = λ s ins low set. (step s ins low set).0;
-      leads = λ s ins low set. (step s ins low set).1;
-    }
-
-pub environment_of_rows : (i o : ℕ) (e : EnvironmentTable)
-    → 0 < length e.plays
-    → length e.next ≡ length e.plays
-    → Below (NextsFit (2 ^ o) (length e.plays)) (length e.plays) e.next
-    → All (λ p. p < 2 ^ i) e.plays
-    → EnvironmentFits i o e
-environment_of_rows i o e some long rows plays =
-    record {
-      some = some;
-      a_row_each = long;
-      a_next_each = λ s low. (rows s low).a_next_each;
-      plays_sets = λ s low. All-get_or (λ p. p < 2 ^ i) e.plays s 0 low plays;
-      leads = λ s outs low set.
-      let each = (rows s low).a_next_each in
-      All-get_or (λ x. x < length e.plays) (get_or e.next s []) outs 0 (omega (arith, each, set)) (rows s low).lead;
-    }

@@ -1,4 +1,4 @@
--- rows that fit make what fits
+-- rows that fit, read one behind the other
 pub mod Fitted
 -- answers are right, and some answer is due
 pub mod Answered

@@ -21,9 +21,7 @@ fn steps_fit(steps: &[MachineStep], input_sets: u32, output_sets: u32, states: u
     ensures { IsTrue result → StepsFit input_sets output_sets states steps.now }
 {
     steps.len() == input_sets as usize
-        && steps
-            .iter()
-            .all(|step| step.give < output_sets && (step.next as usize) < states)
+        && steps.iter().all(|step| step.give < output_sets && (step.next as usize) < states)
 }
 
 // is there a next state for each set of outputs?

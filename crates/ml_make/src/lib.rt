@@ -4,6 +4,8 @@
 // (`ml_make_engine`) makes a candidate; it is let out if the check of machines (`ml_machine_check`) says that it holds. Else
 // the whole game decides (`ml_realize`), and each refusal is one of that. `specs/Making.antt` says what an answer is; `laws`
 // says that there is one for each task whose game isn't too large, and never two that differ in who wins.
+//
+// Below stand these three, with tasks (`ml_task`) and what is made of them (`ml_synthesis`).
 #![tactic(auto)]
 
 mod fitting;

@@ -1,13 +1,10 @@
 // Attempts in turn: with growing budgets, growing counters, for both sides, on each of their automata.
 use crate::choosing::moves_of;
-use crate::counting::{Counting, counting_of};
-use crate::formulas::{Formulas, formula_in};
 use crate::games::{CountingGame, Ended, Side, Signals};
 use crate::merging::merged_by_trial;
 use crate::moves::{Moves, merged};
-use crate::sets::{Sets, sets_of};
-use crate::turns::{Pace, automaton_of};
 use ml_base::NoMemory;
+use ml_make_automata::{Counting, add_automata};
 use ml_task::Task;
 use std::alloc::Global;
 
@@ -22,13 +19,8 @@ const FEW: usize = 4;
 
 /// How many arcs are walked at most where states are merged by trial, in all and for each position of the limit.
 const MOST_MERGING: u64 = 20_000_000;
-const MERGING: u64 = 400;
 
-/// The automata of a side.
-#[derive(Drop)]
-struct Automata {
-    all: Vec<Counting>,
-}
+const MERGING: u64 = 400;
 
 /// An attempt to win for a side, on one of its automata, with counters up to some number.
 #[derive(Clone, Copy)]
@@ -58,8 +50,10 @@ pub(crate) struct Won {
 /// All attempts.
 #[derive(Drop)]
 pub(crate) struct Attempts {
-    machine: Automata,
-    environment: Automata,
+    /// Of the negated formula, for machines.
+    machine: Vec<Counting>,
+    /// Of the formula, for environments.
+    environment: Vec<Counting>,
     list: Vec<Attempt>,
     signals: Signals,
     limit: u32,
@@ -67,66 +61,12 @@ pub(crate) struct Attempts {
     alloc: Global,
 }
 
-impl Automata {
-    fn add(
-        &mut self,
-        alloc: Global,
-        sets: &Sets,
-        letters: u32,
-        pace: Pace,
-    ) -> Result<(), NoMemory> {
-        if let Some(automaton) = automaton_of(alloc, sets, letters, pace)? {
-            if let Some(counting) = counting_of(alloc, automaton)? {
-                self.all.push(counting)?;
-            }
-        }
-        Ok(())
-    }
-
-    fn add_both(&mut self, alloc: Global, sets: &Sets, letters: u32) -> Result<(), NoMemory> {
-        self.add(alloc, sets, letters, Pace::Quick)?;
-        if sets.untils >= 2 {
-            self.add(alloc, sets, letters, Pace::Slow)?;
-        }
-        Ok(())
-    }
-
-    fn add_formula(
-        &mut self,
-        alloc: Global,
-        formulas: &Formulas,
-        root: u32,
-        letters: u32,
-    ) -> Result<(), NoMemory> {
-        match sets_of(alloc, formulas, root)? {
-            Some(sets) => self.add_both(alloc, &sets, letters),
-            None => Ok(()),
-        }
-    }
-
-    /// Adds the automata of a task: of its negated formula for a machine, and of the formula for an environment.
-    fn fill(
-        &mut self,
-        alloc: Global,
-        task: &Task,
-        negated: bool,
-        letters: u32,
-    ) -> Result<(), NoMemory> {
-        let (formulas, root) = formula_in(alloc, task, negated)?;
-        self.add_formula(alloc, &formulas, root, letters)
-    }
-}
-
 impl Attempts {
     /// No attempt.
     pub(crate) fn empty(alloc: Global, signals: Signals, limit: u32) -> Attempts {
         Attempts {
-            machine: Automata {
-                all: Vec::new(alloc),
-            },
-            environment: Automata {
-                all: Vec::new(alloc),
-            },
+            machine: Vec::new(alloc),
+            environment: Vec::new(alloc),
             list: Vec::new(alloc),
             signals,
             limit,
@@ -137,10 +77,9 @@ impl Attempts {
 
     /// The attempts at a task.
     pub(crate) fn fill(&mut self, task: &Task) -> Result<(), NoMemory> {
-        let letters = self.signals.letters();
-        self.machine.fill(self.alloc, task, true, letters)?;
-        self.environment.fill(self.alloc, task, false, letters)?;
-        let (machines, environments) = (self.machine.all.len(), self.environment.all.len());
+        add_automata(self.alloc, task, true, &mut self.machine)?;
+        add_automata(self.alloc, task, false, &mut self.environment)?;
+        let (machines, environments) = (self.machine.len(), self.environment.len());
         for most in COUNTERS {
             self.add_side(Side::Machine, machines, most)?;
             self.add_side(Side::Environment, environments, most)?;
@@ -186,18 +125,13 @@ impl Attempts {
             Side::Machine => &self.machine,
             Side::Environment => &self.environment,
         };
-        match automata.all.get(attempt.automaton) {
+        match automata.get(attempt.automaton) {
             Some(counting) => self.play(counting, attempt, budget),
             None => Ok(Tried::Lost),
         }
     }
 
-    fn play(
-        &self,
-        counting: &Counting,
-        attempt: Attempt,
-        budget: u32,
-    ) -> Result<Tried, NoMemory> {
+    fn play(&self, counting: &Counting, attempt: Attempt, budget: u32) -> Result<Tried, NoMemory> {
         let mut game = CountingGame::new(
             self.alloc,
             counting,
@@ -252,7 +186,7 @@ impl Attempts {
     /// Makes attempts with growing budgets, until something is won or the limit is passed.
     pub(crate) fn run(&mut self) -> Result<(), NoMemory> {
         let mut budget = FIRST.min(self.limit);
-        // the budget has 32 bits, and grows by two each time
+        // a budget has 32 bits, and each time two more of them are used
         for _ in 0..17 {
             self.round(budget)?;
             if self.best.is_some() || budget >= self.limit {

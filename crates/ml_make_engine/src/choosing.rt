@@ -300,13 +300,12 @@ impl Choosing {
     ) -> Result<bool, NoMemory> {
         let first = self.first_in_order(&mut game.positions, 0);
         self.states.number(first)?;
-        let most = game.positions.work.saturating_add(MOST_WORK);
         for place in 0..usize::MAX {
             let Some(position) = self.states.states.get(place).copied() else {
                 break;
             };
             let mut moves = Vec::new(alloc);
-            if !self.write_row(alloc, game, position, &mut moves)? || game.positions.work > most {
+            if !self.write_row(alloc, game, position, &mut moves)? || game.positions.is_spent() {
                 return Ok(false);
             }
             rows.push(moves)?;
@@ -321,6 +320,7 @@ fn write_chosen(
     won: &[u32],
     rows: &mut Moves,
 ) -> Result<bool, NoMemory> {
+    game.positions.allow(MOST_WORK);
     let mut order = Vec::with_capacity(alloc, won.len())?;
     write_order(alloc, &mut game.positions, won, &mut order)?;
     let count = game.positions.all.len();
@@ -329,11 +329,7 @@ fn write_chosen(
 }
 
 /// Writes the moves that were chosen when the game was played.
-fn write_played(
-    alloc: Global,
-    positions: &Positions,
-    rows: &mut Moves,
-) -> Result<(), NoMemory> {
+fn write_played(alloc: Global, positions: &Positions, rows: &mut Moves) -> Result<(), NoMemory> {
     for position in &positions.all {
         rows.push(Vec::from_slice(alloc, &position.choice)?)?;
     }
@@ -341,10 +337,7 @@ fn write_played(
 }
 
 /// The moves of a game that is won, breadth first from the start.
-pub(crate) fn moves_of(
-    alloc: Global,
-    game: &mut CountingGame,
-) -> Result<Moves, NoMemory> {
+pub(crate) fn moves_of(alloc: Global, game: &mut CountingGame) -> Result<Moves, NoMemory> {
     let won = std::mem::replace(&mut game.reached, Vec::new(alloc));
     let mut rows = Vec::new(alloc);
     if write_chosen(alloc, game, &won, &mut rows)? {

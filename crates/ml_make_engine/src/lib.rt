@@ -1,43 +1,33 @@
 // A search for machines that realize tasks, and for environments that defeat them, of which nothing is claimed.
 //
-// `candidate` makes what may be an answer to a task; whoever asks checks it before it is let out. So no clause says what
-// this crate makes: it is proved that it is safe and that it ends.
+// `candidate` makes what may be an answer to a task; `ml_make` checks it before it lets it out. So no clause says what this
+// crate makes: it is proved that it is safe and that it ends.
 //
-// The automaton of the negated formula may accept no word of a machine, that of the plain formula none of an environment.
-// For that it is enough that no run passes an accepting arc more than k times, for some k. So a position of the game is a
-// counter for each state, and of two positions the greater is the harder one: who wins from it wins from the lesser one too.
-// With this order few positions serve.
+// An automaton of the negated formula may accept no word of a machine, and one of the formula none of an environment. For that
+// it is enough that no run passes an accepting arc more than k times, for some k. So a position of the game is a counter for
+// each state, and of two positions the greater is the harder one: who wins from it wins from the lesser one too. With this
+// order few positions serve.
 //
-// - `formulas`, `branches`, `sets` and `turns` make a word automaton of a formula; `shrinking`, `lessening` and `simulation`
-//   make it smaller, and `counting` ready for counters.
-// - `positions` and `games` play, for one side and one k.
+// - `positions`, `targets`, `choices` and `games` play, for one side and one k.
 // - `choosing`, `moves` and `merging` make few states of a game that is won, and `outcomes` the machine or the environment.
 // - `attempts` has the order in which this is tried: growing budgets, growing k, both sides in turn.
 //
 // Source: Schewe and Finkbeiner, Bounded synthesis (2007); Filiot, Jin and Raskin, An antichain algorithm for LTL
 // realizability (2009).
 //
-// Below stand tasks (`ml_task`), what is made of them (`ml_synthesis`), and lists that are read and written anywhere
-// (`ml_search_local`).
+// Below stand the automata (`ml_make_automata`), tasks (`ml_task`), what is made of them (`ml_synthesis`), and lists that are
+// read and written anywhere (`ml_search_local`).
 #![tactic(auto)]
 
 mod attempts;
-mod automata;
-mod branches;
+mod choices;
 mod choosing;
-mod components;
-mod counting;
-mod formulas;
 mod games;
-mod lessening;
 mod merging;
 mod moves;
 mod outcomes;
 mod positions;
-mod sets;
-mod shrinking;
-mod simulation;
-mod turns;
+mod targets;
 
 use crate::attempts::Attempts;
 use crate::games::Signals;

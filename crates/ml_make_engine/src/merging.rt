@@ -1,9 +1,7 @@
 // States merged by trial: all ways to one state lead to another one, as long as no run counts for ever then.
-use crate::automata::empty_rows;
-use crate::components::components;
-use crate::counting::{Count, Counting};
 use crate::moves::{Move, Moves, moves_at, numbered};
 use ml_base::NoMemory;
+use ml_make_automata::{Count, Counting, components};
 use ml_search_local::{NONE, number, put, small};
 use std::alloc::Global;
 
@@ -162,14 +160,21 @@ fn write_led(row: &[Move], from: u32, to: u32, led: &mut Vec<Move>) -> Result<()
     Ok(())
 }
 
+fn led_row(alloc: Global, row: &[Move], from: u32, to: u32) -> Result<Vec<Move>, NoMemory> {
+    let mut led = Vec::with_capacity(alloc, row.len())?;
+    write_led(row, from, to, &mut led)?;
+    Ok(led)
+}
+
 fn write_all_led(
+    alloc: Global,
     moves: &[Vec<Move>],
     from: u32,
     to: u32,
-    led: &mut [Vec<Move>],
+    led: &mut Moves,
 ) -> Result<(), NoMemory> {
-    for (row, place) in moves.iter().zip(led.iter_mut()) {
-        write_led(row, from, to, place)?;
+    for row in moves {
+        led.push(led_row(alloc, row, from, to)?)?;
     }
     Ok(())
 }
@@ -177,8 +182,8 @@ fn write_all_led(
 impl<'a> Merging<'a> {
     /// The moves where all ways to a state lead to another one.
     fn led(&self, from: u32, to: u32) -> Result<Moves, NoMemory> {
-        let mut led = empty_rows(self.alloc, self.moves.len())?;
-        write_all_led(&self.moves, from, to, &mut led)?;
+        let mut led = Vec::with_capacity(self.alloc, self.moves.len())?;
+        write_all_led(self.alloc, &self.moves, from, to, &mut led)?;
         numbered(self.alloc, &led, if from == 0 { to } else { 0 })
     }
 

@@ -4,6 +4,9 @@ use ml_base::NoMemory;
 use ml_search_local::{NONE, number, put, small};
 use std::alloc::Global;
 
+/// How many moves are read at most to find which states agree.
+const MOST_READ: usize = 100_000_000;
+
 /// A move: its letter, and the state to which it leads.
 #[derive(Clone, Copy, PartialEq, Eq, Hash)]
 pub(crate) struct Move {
@@ -135,24 +138,33 @@ fn refine(
     Ok(())
 }
 
-/// Classes of states that agree in all they give and lead to.
-fn classes(alloc: Global, moves: &[Vec<Move>]) -> Result<Vec<u32>, NoMemory> {
-    let mut class = vec![in alloc; 0; moves.len()]?;
-    refine_all(alloc, moves, &mut class)?;
-    Ok(class)
+/// How many moves there are.
+fn size(moves: &[Vec<Move>]) -> usize {
+    let mut size: usize = 0;
+    for row in moves {
+        size = size.saturating_add(row.len());
+    }
+    size
 }
 
-fn refine_all(alloc: Global, moves: &[Vec<Move>], class: &mut Vec<u32>) -> Result<(), NoMemory> {
+/// Takes classes apart until they are stable; tells whether they are.
+fn refine_all(alloc: Global, moves: &[Vec<Move>], class: &mut Vec<u32>) -> Result<bool, NoMemory> {
+    let size = size(moves);
+    let mut left = MOST_READ;
     let mut count: usize = 1;
-    for _ in 0..moves.len() {
+    for _ in 0..moves.len().saturating_add(1) {
+        if left < size {
+            return Ok(false);
+        }
+        left = left.saturating_sub(size);
         let mut rows = IndexSet::new(alloc);
         refine(alloc, moves, class, &mut rows)?;
         if rows.len() == count {
-            break;
+            return Ok(true);
         }
         count = rows.len();
     }
-    Ok(())
+    Ok(false)
 }
 
 fn write_merged(
@@ -172,7 +184,10 @@ fn write_merged(
 
 /// The moves with states merged that agree in all they give and lead to.
 pub(crate) fn merged(alloc: Global, moves: &[Vec<Move>]) -> Result<Moves, NoMemory> {
-    let class = classes(alloc, moves)?;
+    let mut class = vec![in alloc; 0; moves.len()]?;
+    if !refine_all(alloc, moves, &mut class)? {
+        return numbered(alloc, moves, 0);
+    }
     let mut merged = Vec::new(alloc);
     write_merged(alloc, moves, &class, &mut merged)?;
     numbered(alloc, &merged, 0)

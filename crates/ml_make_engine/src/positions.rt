@@ -1,7 +1,7 @@
 // Positions of a counting game, what is known of each, and which lie within which.
 //
-// A position lies within another one if each of its counters is at most that of the other one. Who wins from the greater
-// one wins from the lesser one too, if it is the machine's or the environment's turn to keep the counters low.
+// A position lies within another one if each of its counters is at most that of the other one. Whoever keeps the counters low
+// from the greater one does so from the lesser one too.
 use crate::moves::Move;
 use indexmap::IndexSet;
 use ml_base::NoMemory;
@@ -63,8 +63,8 @@ pub(crate) struct Positions {
     /// Those that were chosen, in order, and those that are lost.
     pub active: Vec<u32>,
     pub lost: Vec<u32>,
-    /// How much was done: comparisons of two positions, and states in steps.
-    pub work: u64,
+    /// How much may still be done: comparisons of two positions, states in steps, and choices.
+    left: u64,
     alloc: Global,
 }
 
@@ -96,14 +96,24 @@ impl Positions {
             all: Vec::new(alloc),
             active: Vec::new(alloc),
             lost: Vec::new(alloc),
-            work: 0,
+            left: 0,
             alloc,
         }
     }
 
+    /// So much may be done from now on.
+    pub(crate) fn allow(&mut self, work: u64) {
+        self.left = work;
+    }
+
     /// Notes so much work.
     pub(crate) fn spend(&mut self, work: usize) {
-        self.work = self.work.saturating_add(work as u64);
+        self.left = self.left.saturating_sub(work as u64);
+    }
+
+    /// Was as much done as was allowed?
+    pub(crate) fn is_spent(&self) -> bool {
+        self.left == 0
     }
 
     /// The number of a position.

@@ -1,6 +1,6 @@
 // Counting automata: along each of its runs, how often an accepting arc was passed.
 use crate::automata::{Arc, Automaton};
-use crate::components::components;
+use crate::connected::components;
 use crate::lessening::lessen;
 use crate::shrinking::{shrink, tidy};
 use crate::simulation::thin;
@@ -10,7 +10,7 @@ use std::alloc::Global;
 
 /// What an arc does to a counter.
 #[derive(Clone, Copy, PartialEq, Eq)]
-pub(crate) enum Count {
+pub enum Count {
     /// It begins anew: the arc leads to another component, or within one where nothing accepts.
     Anew,
     /// It stays.
@@ -21,14 +21,14 @@ pub(crate) enum Count {
 
 /// An arc of a state under a letter.
 #[derive(Clone, Copy)]
-pub(crate) struct CountingArc {
+pub struct CountingArc {
     pub to: u32,
     pub count: Count,
 }
 
 /// An automaton to be counted.
 #[derive(Drop)]
-pub(crate) struct Counting {
+pub struct Counting {
     pub states: usize,
     /// Where it starts; `NONE` where it accepts nothing.
     pub start: u32,
@@ -41,13 +41,17 @@ pub(crate) struct Counting {
 }
 
 impl Counting {
-    /// The class of a letter.
-    pub(crate) fn class(&self, letter: u32) -> u32 {
+    /// The class of a letter: the set of inputs, and above its bits those of the set of outputs.
+    ///
+    /// Cost: constant.
+    pub fn class(&self, letter: u32) -> u32 {
         number(&self.class_of, letter)
     }
 
     /// The arcs of a state under the letters of a class.
-    pub(crate) fn arcs(&self, class: u32, state: u32) -> &[CountingArc] {
+    ///
+    /// Cost: constant.
+    pub fn arcs(&self, class: u32, state: u32) -> &[CountingArc] {
         match self.rows.get(class as usize) {
             Some(row) => match row.get(state as usize) {
                 Some(arcs) => arcs.as_slice(),
@@ -84,9 +88,16 @@ impl Counting {
         true
     }
 
-    /// The position behind a position, under the letters of a class; `None` where a counter passes the most. In a position
-    /// stands for each state 0, where no run is in it, or else the greatest counter of one, with 1 for none.
-    pub(crate) fn step(
+    /// The position behind a position, under the letters of a class; `None` where a counter would pass `most`, or where
+    /// nothing can be saved any more.
+    ///
+    /// A position has a number for each state: 0 where no run is in it, and else 1 and the greatest counter of such a run.
+    ///
+    /// # Errors
+    /// `NoMemory` alone.
+    ///
+    /// Cost: linear in the states, and in the arcs of those that runs are in.
+    pub fn step(
         &self,
         alloc: Global,
         position: &[u8],
@@ -228,11 +239,7 @@ fn reduce(alloc: Global, automaton: &mut Automaton) -> Result<bool, NoMemory> {
     Ok(true)
 }
 
-fn fill(
-    alloc: Global,
-    automaton: &Automaton,
-    counting: &mut Counting,
-) -> Result<(), NoMemory> {
+fn fill(alloc: Global, automaton: &Automaton, counting: &mut Counting) -> Result<(), NoMemory> {
     let counted = Counted::of(alloc, automaton)?;
     counted.write_rows(alloc, automaton, &mut counting.rows)?;
     counting.class_of.extend_from_slice(&automaton.class_of)?;

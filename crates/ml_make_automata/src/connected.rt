@@ -122,7 +122,12 @@ impl Walk {
 }
 
 /// A number of the component of each node, where `targets` are the nodes to which each one leads.
-pub(crate) fn components(alloc: Global, targets: &[Vec<u32>]) -> Result<Vec<u32>, NoMemory> {
+///
+/// # Errors
+/// `NoMemory` alone.
+///
+/// Cost: linear in nodes and targets.
+pub fn components(alloc: Global, targets: &[Vec<u32>]) -> Result<Vec<u32>, NoMemory> {
     let mut walk = Walk::new(alloc);
     walk.walk_all(targets)?;
     Ok(walk.component)

@@ -6,6 +6,7 @@ use std::alloc::Global;
 
 /// How many branches are looked at, and how many comparisons of two are made, for all sets of an automaton.
 const BRANCHES: u64 = 400_000;
+
 const COMPARISONS: u64 = 20_000_000;
 
 /// How many branches a set may have.

@@ -13,10 +13,7 @@ pub(crate) enum Part {
     True,
     False,
     /// The name at a place of the task's inputs and outputs, or its negation.
-    Literal {
-        name: u32,
-        positive: bool,
-    },
+    Literal { name: u32, positive: bool },
     And(u32, u32),
     Or(u32, u32),
     Next(u32),

@@ -8,11 +8,16 @@ use std::alloc::Global;
 /// How large an automaton may be: the square of its states, for each class of letters.
 const MOST: u64 = 4_000_000;
 
+/// How many pairs of arcs are compared at most.
+const MOST_COMPARED: u64 = 200_000_000;
+
 /// Pairs of states, the first one below the second.
 #[derive(Drop)]
 struct Below {
     states: usize,
     pairs: Vec<bool>,
+    /// How many pairs of arcs may still be compared.
+    left: u64,
 }
 
 impl Below {
@@ -57,9 +62,12 @@ impl Below {
         true
     }
 
-    fn is_below(&self, automaton: &Automaton, lower: u32, upper: u32) -> bool {
+    fn is_below(&mut self, automaton: &Automaton, lower: u32, upper: u32) -> bool {
         for row in &automaton.rows {
-            if !self.has_arcs(arcs_in(row, lower as usize), arcs_in(row, upper as usize)) {
+            let (less, more) = (arcs_in(row, lower as usize), arcs_in(row, upper as usize));
+            let pairs = less.len().saturating_add(1).saturating_mul(more.len());
+            self.left = self.left.saturating_sub(pairs as u64).saturating_sub(1);
+            if !self.has_arcs(less, more) {
                 return false;
             }
         }
@@ -81,20 +89,22 @@ impl Below {
     fn refine(&mut self, automaton: &Automaton) -> bool {
         let mut changed = false;
         for lower in 0..small(self.states) {
-            if self.refine_state(automaton, lower) {
+            if self.left > 0 && self.refine_state(automaton, lower) {
                 changed = true;
             }
         }
         changed
     }
 
-    /// Removes pairs until nothing changes: each time but the last one there is a pair less.
-    fn refine_all(&mut self, automaton: &Automaton) {
+    /// Removes pairs until nothing changes; tells whether that came to its end.
+    fn refine_all(&mut self, automaton: &Automaton) -> bool {
+        // each time but the last one there is a pair less
         for _ in 0..self.pairs.len().saturating_add(1) {
             if !self.refine(automaton) {
                 break;
             }
         }
+        self.left > 0
     }
 
     /// Is an arc needless beside another one?
@@ -151,7 +161,11 @@ pub(crate) fn thin(alloc: Global, automaton: &mut Automaton) -> Result<(), NoMem
     let mut below = Below {
         states: automaton.states,
         pairs: vec![in alloc; true; pairs]?,
+        left: MOST_COMPARED,
     };
-    below.refine_all(automaton);
-    thin_by(alloc, &below, automaton)
+    if below.refine_all(automaton) {
+        thin_by(alloc, &below, automaton)
+    } else {
+        Ok(())
+    }
 }

@@ -1,6 +1,6 @@
 // Automata with fewer states: those from which nothing is accepted go, and those with equal arcs are merged.
 use crate::automata::{Arc, Automaton, add_arc, arcs_in, empty_rows, write_signature};
-use crate::components::components;
+use crate::connected::components;
 use indexmap::IndexSet;
 use ml_base::NoMemory;
 use ml_search_local::{NONE, flag, number, row, set_flag, small};

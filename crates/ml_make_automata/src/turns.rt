@@ -9,6 +9,9 @@ use std::alloc::Global;
 /// How many states an automaton may have that passes one until at a time.
 const MOST_SLOW: usize = 200;
 
+/// How many edges between states there may be.
+const MOST_TURNS: usize = 400_000;
+
 /// How an edge passes untils that it doesn't put off.
 #[derive(Clone, Copy, PartialEq, Eq)]
 pub(crate) enum Pace {
@@ -33,6 +36,8 @@ struct Turns<'a> {
     pace: Pace,
     states: IndexSet<(u32, u32)>,
     rows: Vec<Vec<Turn>>,
+    /// How many edges there are.
+    turns: usize,
     alloc: Global,
 }
 
@@ -48,6 +53,7 @@ impl<'a> Turns<'a> {
             pace,
             states: IndexSet::new(alloc),
             rows: Vec::new(alloc),
+            turns: 0,
             alloc,
         }
     }
@@ -103,12 +109,7 @@ impl<'a> Turns<'a> {
         })
     }
 
-    fn write_turns(
-        &mut self,
-        set: u32,
-        level: u32,
-        turns: &mut Vec<Turn>,
-    ) -> Result<(), NoMemory> {
+    fn write_turns(&mut self, set: u32, level: u32, turns: &mut Vec<Turn>) -> Result<(), NoMemory> {
         let sets = self.sets;
         let Some(edges) = sets.edges.get(set as usize) else {
             return Ok(());
@@ -126,6 +127,7 @@ impl<'a> Turns<'a> {
         };
         let mut turns = Vec::new(self.alloc);
         self.write_turns(set, level, &mut turns)?;
+        self.turns = self.turns.saturating_add(turns.len());
         self.rows.push(turns)?;
         Ok(true)
     }
@@ -141,8 +143,11 @@ impl<'a> Turns<'a> {
             if !self.look_at_next()? {
                 return Ok(true);
             }
+            if self.turns > MOST_TURNS {
+                return Ok(false);
+            }
         }
-        Ok(self.states.len() <= most)
+        Ok(self.states.len() <= self.rows.len())
     }
 }
 
