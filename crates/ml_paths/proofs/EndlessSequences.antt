@@ -11,7 +11,7 @@ use Rattle.ml_lists.specs.Lasso.{IsLassoOf, Lasso, entry, next_place, round, unr
 use Rattle.ml_lists.specs.Walk.{walk}
 use Rattle.ml_lists.proofs.Lasso.{loop_length, round-end, round-entry}
 use Rattle.ml_lists.proofs.Unrolling.{unrolled_step}
-use Rattle.ml_paths.specs.Shortest.{AreAlike}
+use Rattle.ml_paths.specs.Shortest.{UnrollAlike}
 use Rattle.ml_paths.specs.private.Shortening.{IsPeriodFrom}
 
 module _ (l : Lasso) (starts : l.start < length l.entries) where
@@ -77,7 +77,7 @@ module _ (l : Lasso) (starts : l.start < length l.entries) where
           round-entry l k inside ∙ sym (unrolled_front k inside)
 
   -- lassos for the same endless sequence are lassos of the same relations
-  pub alike_is_lasso : (R : ℕ → ℕ → Type 0) (k : Lasso) → IsLassoOf R k → AreAlike l k → IsLassoOf R l
+  pub alike_is_lasso : (R : ℕ → ℕ → Type 0) (k : Lasso) → IsLassoOf R k → UnrollAlike l k → IsLassoOf R l
   alike_is_lasso R k is alike = record {
     starts = starts;
     joined = λ i low.

@@ -22,3 +22,5 @@ pub mod Periods
 pub mod EndlessSequences
 -- lassos that are made shorter, and those that can't be
 pub mod ShorterLassos
+-- a path that is told in fewer states
+pub mod ShortPaths

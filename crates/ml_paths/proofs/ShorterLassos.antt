@@ -3,7 +3,6 @@
 --   loop_cut          == with the least period of the loop in place of the loop, a lasso stands for the same sequence
 --   rolled_alike      == so it does where the loop begins one place earlier, if the entry before it is its last one
 --   rolled_none, rolled_read == a lasso is rolled back by no place, or by one more
---   early_first, early_apart == where the loop begins as early as it can
 --   short_lasso       == a loop with no shorter period, which begins as early as it can, makes the shortest lasso
 --   shortened         == so what is cut and then rolled back is the shortest
 use Rattle.std.proofs.Common.{ℕ, zero, suc, ◌≡◌, ◌+◌, ◌-◌, ◌*◌, ◌/◌, ◌%◌, ◌<◌, ◌≤◌, ◌⊎◌, inl, inr, arith, refl, List, length, get_or, take, drop, subst, sym, ap, ◌∙◌, length-drop}
@@ -12,7 +11,7 @@ use Rattle.std.proofs.lemmas.Bool.{cases_lt}
 use Rattle.std.proofs.lemmas.List.{get_or-drop, get_or-take, get_or_default, length-take-le, take_all}
 use Rattle.ml_lists.specs.Lasso.{Lasso, entry, unrolled}
 use Rattle.ml_lists.proofs.Lasso.{loop_length}
-use Rattle.ml_paths.specs.Shortest.{AreAlike, IsShortest}
+use Rattle.ml_paths.specs.Shortest.{UnrollAlike, IsShortest}
 use Rattle.ml_paths.specs.private.Shortening.{BeginsEarly, HasLeastPeriod, IsLeastPeriod, IsLoopCut, IsPeriodFrom, IsRolled, IsRolledBack, IsShortened, Repeats}
 use Rattle.ml_paths.proofs.EndlessSequences.{unrolled_front, unrolled_is, unrolled_period}
 use Rattle.ml_paths.proofs.Periods.{Common, common_period, period_sooner, period_times}
@@ -89,7 +88,7 @@ module _ (l : Lasso) (starts : l.start < length l.entries) (d : ℕ) (least : Is
           ∙ sym (later_same (k - d) (omega (arith, behind)) (omega (arith, low, back)))
           ∙ ap (entry l) back
 
-  cut_alike : AreAlike cut l
+  cut_alike : UnrollAlike cut l
   cut_alike =
       unrolled_is l starts (unrolled cut) (λ k low. cut_front (suc k) k (omega arith) low)
       (subst (IsPeriodFrom (unrolled cut) l.start) whole
@@ -168,7 +167,7 @@ module _ (l : Lasso) (t : ℕ) (before : suc t ≡ l.start) (starts : l.start < 
       unrolled_front l starts k (omega (arith, low, long))
       ∙ sym (get_or-take (length l.entries - 1) l.entries k 0 (omega (arith, low, long)))
 
-  pub rolled_alike : AreAlike rolled l
+  pub rolled_alike : UnrollAlike rolled l
   rolled_alike k =
       sym (unrolled_is rolled rolled_starts (unrolled l) front
       (subst (IsPeriodFrom (unrolled l) t) (sym rolled_loop) period) k)
@@ -207,27 +206,10 @@ rolled_read l xs ys s n x y is some size x_is y_is same taken =
     ∙ get_or_default xs (length xs - 1) y 0 (omega (arith, low)))
     (taken ∙ ap (λ k. take (k - 1) xs) size)
 
--- a loop that begins first of all begins as early as it can, and so does one whose last entry y isn't the one before it, x
-pub early_first : (xs : List ℕ) (s : ℕ) → ¬ (0 < s) → BeginsEarly (record { entries = xs; start = s })
-early_first xs s none some = absurd (none some)
-
-pub early_apart : (xs : List ℕ) (s n x y : ℕ) → s < length xs → n ≡ length xs → x ≡ get_or xs (s - 1) x
-    → y ≡ get_or xs (n - 1) y
-    → ¬ (x ≡ y)
-    → BeginsEarly (record { entries = xs; start = s })
-early_apart xs s n x y low size x_is y_is apart some same =
-    apart
-    (x_is
-    ∙ get_or_default xs (s - 1) x 0 (omega (arith, low))
-    ∙ same
-    ∙ get_or_default xs (length xs - 1) 0 y (omega (arith, low))
-    ∙ ap (λ k. get_or xs (k - 1) y) (sym size)
-    ∙ sym y_is)
-
 -- ---- the shortest
 
 module _ (l : Lasso) (starts : l.start < length l.entries) (least : HasLeastPeriod l) (early : BeginsEarly l)
-    (k : Lasso) (k_starts : k.start < length k.entries) (alike : AreAlike k l) where
+    (k : Lasso) (k_starts : k.start < length k.entries) (alike : UnrollAlike k l) where
   its_period : IsPeriodFrom (unrolled l) k.start (loop_length k)
   its_period n late = sym (alike (n + loop_length k)) ∙ unrolled_period k k_starts n late ∙ alike n
 

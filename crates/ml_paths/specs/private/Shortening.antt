@@ -11,7 +11,7 @@
 --   IsShortened k l        == k is the shortest lasso for the endless sequence of l
 use Rattle.std.specs.Prelude.{ℕ, ◌≡◌, ◌+◌, ◌-◌, ◌<◌, ◌≤◌, ◌%◌, List, length, get_or}
 use Rattle.ml_lists.specs.Lasso.{Lasso, entry, unrolled}
-use Rattle.ml_paths.specs.Shortest.{AreAlike, IsShortest}
+use Rattle.ml_paths.specs.Shortest.{UnrollAlike, IsShortest}
 
 abbrev pub Repeats : List ℕ → ℕ → Type 0
 Repeats xs d = (k : ℕ) → k + d < length xs → get_or xs (k + d) 0 ≡ get_or xs k 0
@@ -34,12 +34,12 @@ BeginsEarly l = 0 < l.start → ¬ (entry l (l.start - 1) ≡ entry l (length l.
 
 pub record IsLoopCut (k l : Lasso) : Type 0 where
   pub starts : k.start < length k.entries
-  pub alike : AreAlike k l
+  pub alike : UnrollAlike k l
   pub least : HasLeastPeriod k
 
 pub record IsRolled (k l : Lasso) : Type 0 where
   pub starts : k.start < length k.entries
-  pub alike : AreAlike k l
+  pub alike : UnrollAlike k l
   pub earlier : k.start ≤ l.start
   pub one_loop : length k.entries - k.start ≡ length l.entries - l.start
 
@@ -49,5 +49,5 @@ pub record IsRolledBack (k l : Lasso) : Type 0 where
 
 pub record IsShortened (k l : Lasso) : Type 0 where
   pub starts : k.start < length k.entries
-  pub alike : AreAlike k l
+  pub alike : UnrollAlike k l
   pub shortest : IsShortest k
