@@ -4,5 +4,7 @@
 pub mod Letters
 -- structures as systems
 pub mod Systems
+-- how a lasso is made shorter
+pub mod Shortening
 -- the parts of which the structure of a word is built
 pub mod Built

@@ -20,6 +20,7 @@ mod labels;
 pub mod laws;
 mod letters;
 mod runs;
+mod shortening;
 mod systems;
 
 pub use finding::{MOST_NODES, find};

@@ -21,6 +21,7 @@ use Rattle.ml_emptiness.specs.declared.systems.Move.{Move}
 use Rattle.ml_emptiness.specs.declared.lassos.SystemLasso.{SystemLasso}
 use Rattle.ml_lists.specs.Lasso.{Lasso}
 use Rattle.ml_paths.specs.Paths.{IsShown}
+use Rattle.ml_paths.specs.Shortest.{IsShortest}
 use Rattle.ml_paths.specs.private.Letters.{number_of}
 
 abbrev pub swapped : ℕ → ℕ → ℕ
@@ -52,4 +53,4 @@ path_from start x = record { entries = map (swapped start) x.states.items; start
 
 abbrev pub IsPathFound : Structure → ℕ → Formula → Bool → Option Lasso → Type 0
 IsPathFound m s f negated None = (l : Lasso) → ¬ (IsShown m s f negated l)
-IsPathFound m s f negated (Some l) = IsShown m s f negated l
+IsPathFound m s f negated (Some l) = IsShown m s f negated l × IsShortest l
