@@ -6,13 +6,13 @@
 --                     would come before it don't
 --   no_fault       == an item that is read has none
 --   first_exists   == an item is read, or has a first fault
-use Rattle.std.proofs.Common.{◌≡◌, ◌≢◌, ℕ, ◌+◌, ◌-◌, ◌<◌, ◌≤◌, ◌⊎◌, Bool, true, false, List, [], ◌∷◌, length, drop, Contains, inl, inr, refl, sym, ap, subst, ◌∙◌, arith, length-drop}
+use Rattle.std.proofs.Common.{◌≡◌, ℕ, ◌+◌, ◌<◌, ◌≤◌, ◌⊎◌, Bool, true, false, List, length, drop, Contains, inl, inr, refl, sym, ap, subst, ◌∙◌, arith, length-drop}
 use Rattle.ml_front.specs.declared.logic.Logic.{Logic}
 use Rattle.ml_spec.specs.Faults.{IsItemFault, IsTextFault, IsTextRefused}
 use Rattle.ml_spec.specs.ItemParts.{behind_kind, behind_name, name_of, place_of, text_of, HasColon, HasKind, HasName, IsOfKind}
 use Rattle.ml_spec.specs.Items.{ItemText, begins_with_colon, is_name}
 use Rattle.ml_spec.specs.RuleNumbers.{rule_number}
-use Rattle.ml_spec.specs.Specification.{most_items, IsItemOf}
+use Rattle.ml_spec.specs.Specification.{most_items}
 use Rattle.ml_spec.specs.declared.kind.Kind.{Kind}
 use Rattle.ml_spec.specs.declared.rule.SpecRule.{SpecRule}
 use Rattle.ml_spec.specs.declared.rule.SpecRule.TheVariants.{Syntax, Unbound, NotPositive, TooMany, TooNested, NameTooLong, NoLogic, NoKind, NoName, NoColon, NameTaken, TooManyItems, TooLarge}

@@ -3,14 +3,14 @@
 --   both_size      == two formulas that are joined have one occurrence more than both
 --   joined_size    == formulas that are joined have one occurrence less than their total
 --   part_size      == so has the formula that an item must keep small
-use Rattle.std.proofs.Common.{◌≡◌, ℕ, ◌+◌, ◌<◌, ◌≤◌, Bool, true, false, cond, List, [], ◌∷◌, ◌++◌, filter, map, sum_by, refl, sym, ap, subst, ◌∙◌, arith}
+use Rattle.std.proofs.Common.{◌≡◌, ◌+◌, Bool, true, false, cond, List, [], ◌∷◌, ◌++◌, filter, map, refl, sym, ap, ◌∙◌, arith}
 use Rattle.std.specs.List.{AllByRecursion}
 use Rattle.std.proofs.lemmas.List.Sums.{sum_by-append, sum_by-cons}
 use Rattle.ml_front.specs.Logics.{logic_of}
 use Rattle.ml_front.specs.declared.logic.Logic.{Logic}
 use Rattle.ml_front.specs.declared.problem.AnyFormula.{AnyFormula}
 use Rattle.ml_front.specs.declared.problem.AnyFormula.TheVariants.{Mu, Pdl, Ctl, Ltl, Word}
-use Rattle.ml_spec.specs.Joined.{all_of, asked, asked_as, both, joined, joined_at, negation, occurrences, parts_as, parts_at, requirements}
+use Rattle.ml_spec.specs.Joined.{all_of, asked, asked_as, both, joined, joined_at, negation, occurrences, parts_as, requirements}
 use Rattle.ml_spec.specs.Kinds.{is_requirement}
 use Rattle.ml_spec.specs.declared.kind.Kind.{Kind}
 use Rattle.ml_spec.specs.declared.kind.Kind.TheVariants as kind

@@ -5,7 +5,7 @@
 --   large_behind  == it begins behind those before it
 --   first_large   == the first of them begins first
 --   first_of_large == it is the first fault of its text
-use Rattle.std.proofs.Common.{◌≡◌, ℕ, ◌+◌, ◌<◌, ◌≤◌, ◌⊎◌, List, [], ◌∷◌, ◌++◌, drop, length, inl, inr, refl, sym, ap, subst, ◌∙◌, arith, append_assoc}
+use Rattle.std.proofs.Common.{◌≡◌, ℕ, ◌+◌, ◌<◌, ◌≤◌, ◌⊎◌, List, [], ◌∷◌, ◌++◌, length, inl, inr, refl, sym, subst, ◌∙◌, arith, append_assoc}
 use Rattle.std.proofs.lemmas.List.{append-nil}
 use Rattle.ml_text.specs.Limits.{most_occurrences}
 use Rattle.ml_front.specs.declared.logic.Logic.{Logic}
@@ -14,8 +14,7 @@ use Rattle.ml_spec.specs.Items.{ItemText}
 use Rattle.ml_spec.specs.Joined.{joined_at, occurrences}
 use Rattle.ml_spec.specs.Laws.{AreApart}
 use Rattle.ml_spec.specs.RuleNumbers.{rule_number}
-use Rattle.ml_spec.specs.Specification.{items_behind, AreItemsOf, AreSmall, IsReadAs}
-use Rattle.ml_spec.specs.declared.rule.SpecRule.{SpecRule}
+use Rattle.ml_spec.specs.Specification.{items_behind, AreItemsOf, IsReadAs}
 use Rattle.ml_spec.specs.declared.rule.SpecRule.TheVariants.{TooLarge}
 use Rattle.ml_spec.specs.declared.specification.Item.{Item}
 use Rattle.ml_spec.specs.private.Sizes.{AreSmallBehind, IsFirstLarge}
@@ -35,8 +34,8 @@ module _ (l : Logic) (xs : List Item) where
       inl (subst (λ zs. most_occurrences < occurrences (joined_at l xs zs y)) (append-nil before) large, refl)
   large_item before (z ∷ zs) y after large =
       inr (
-        large_item (before ++ z ∷ []) zs y after
-        (subst (λ ws. most_occurrences < occurrences (joined_at l xs ws y)) (sym (append_assoc before (z ∷ []) zs)) large)
+      large_item (before ++ z ∷ []) zs y after
+      (subst (λ ws. most_occurrences < occurrences (joined_at l xs ws y)) (sym (append_assoc before (z ∷ []) zs)) large)
       )
 
   large_behind : (p : ℕ) (is : List ItemText) (before ys : List Item) (k : ℕ)
@@ -111,7 +110,7 @@ module _ (text : List ℕ) (l : Logic) (xs : List Item) (read : IsReadAs text l 
       comes_first k large =
           let apart = text_apart text in
           by k (
-            first_large l xs apart.0 (items_behind text) [] first.before first.item first.after k apart.1
-            (subst (AreItemsOf l (items_behind text)) first.are_items read.are_items) first.are_small
-            (subst (λ ys. HasLarge l xs [] ys k) first.are_items large)
+          first_large l xs apart.0 (items_behind text) [] first.before first.item first.after k apart.1
+          (subst (AreItemsOf l (items_behind text)) first.are_items read.are_items) first.are_small
+          (subst (λ ys. HasLarge l xs [] ys k) first.are_items large)
           )

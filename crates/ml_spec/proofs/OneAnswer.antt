@@ -1,13 +1,13 @@
 -- Each text is one specification, or has one refusal, exactly one of the two.
 --
 --   tells_text   == the first fault of the items behind the first one is the first of the text, if that tells a logic
-use Rattle.std.proofs.Common.{◌≡◌, ◌≢◌, ℕ, ◌<◌, ◌≤◌, ◌⊎◌, Bool, true, false, ◌==◌, if◌then◌else◌, List, [], ◌∷◌, codes, inl, inr, refl, sym, ap, subst, ◌∙◌, arith}
+use Rattle.std.proofs.Common.{◌≡◌, ℕ, ◌<◌, ◌≤◌, ◌⊎◌, ◌==◌, if◌then◌else◌, List, [], ◌∷◌, codes, inl, inr, refl, sym, ap, subst, ◌∙◌, arith}
 use Rattle.ml_lists.proofs.Decided.{Decided, decided_bytes, decided_number}
-use Rattle.ml_front.specs.Logics.{logic_of, logic_word}
+use Rattle.ml_front.specs.Logics.{logic_word}
 use Rattle.ml_front.specs.declared.logic.Logic.{Logic}
 use Rattle.ml_front.specs.declared.logic.Logic.TheVariants as logic
 use Rattle.ml_spec.specs.Comments.{uncommented}
-use Rattle.ml_spec.specs.Faults.{IsFault, IsFirstFault, IsRefused}
+use Rattle.ml_spec.specs.Faults.{IsFirstFault, IsRefused}
 use Rattle.ml_spec.specs.Items.{ItemText, behind_word, first_word, items_of}
 use Rattle.ml_spec.specs.Laws.{NeverBoth, OneRefusal, OneSpecification, SomeReading}
 use Rattle.ml_spec.specs.Places.{column_at, line_at}
@@ -191,8 +191,7 @@ one_rule r s same = sym (rule_read r) ∙ ap rule_of same ∙ rule_read s
 
 pub one_refusal : OneRefusal
 one_refusal text line column r row place s one other =
-    let same = one_fault (one.is_first.first s other.at other.is_first.comes) (other.is_first.first r one.at one.is_first.comes) in
-    (
+    let same = one_fault (one.is_first.first s other.at other.is_first.comes) (other.is_first.first r one.at one.is_first.comes) in (
       one.is_line ∙ ap (line_at text) same.0 ∙ sym other.is_line,
       one.is_column ∙ ap (column_at text) same.0 ∙ sym other.is_column,
       one_rule r s same.1,

@@ -4,11 +4,10 @@
 --   name_shortens  == what stands behind a name is shorter than what stands behind the kind
 --   colon_shortens == what stands behind a colon is shorter still
 --   kind_fits, name_fits, text_fits == none is longer than the item
-use Rattle.std.proofs.Common.{◌≡◌, ℕ, zero, suc, ◌+◌, ◌-◌, ◌<◌, ◌≤◌, Bool, true, false, not, List, [], ◌∷◌, length, take, drop, sym, ◌∙◌, ap, subst, arith, length-drop, length-take}
-use Rattle.std.specs.List.{before_first, position_or_len, prefix_len, take_while}
-use Rattle.std.proofs.lemmas.List.Sums.{prefix_len-le-length}
+use Rattle.std.proofs.Common.{◌≡◌, ℕ, ◌-◌, ◌<◌, ◌≤◌, true, List, [], ◌∷◌, length, drop, ap, arith, length-drop, length-take}
+use Rattle.std.specs.List.{position_or_len, prefix_len}
 use Rattle.ml_text.specs.Bytes.{is_blank}
-use Rattle.ml_spec.specs.Items.{ItemText, begins_with_colon, behind_run, behind_word, first_word, is_name, is_name_byte, name_run, without_blanks}
+use Rattle.ml_spec.specs.Items.{ItemText, begins_with_colon, behind_run, behind_word, is_name, is_name_byte, without_blanks}
 use Rattle.ml_spec.specs.ItemParts.{behind_kind, behind_name, name_of, text_of, HasKind}
 use Rattle.ml_spec.specs.Kinds.{kind_word}
 use Rattle.ml_spec.specs.declared.kind.Kind.{Kind}

@@ -5,7 +5,7 @@
 --   items_answer    == so are the items of a text, one behind the other, or one of them stops
 --   read_whole      == a text whose items are read is read
 --   one_reading     == a text is read in one way at most
-use Rattle.std.proofs.Common.{◌≡◌, ◌≢◌, ℕ, ◌+◌, ◌<◌, ◌≤◌, ◌⊎◌, Bool, true, false, ◌==◌, if◌then◌else◌, List, [], ◌∷◌, ◌++◌, drop, get_or, length, map, bytes_eq, Contains, Option, Some, None, inl, inr, refl, sym, ap, subst, ◌∙◌, arith, append_assoc, length-append}
+use Rattle.std.proofs.Common.{◌≡◌, ◌≢◌, ℕ, ◌≤◌, ◌⊎◌, Bool, true, false, ◌==◌, if◌then◌else◌, List, [], ◌∷◌, ◌++◌, drop, get_or, length, bytes_eq, Contains, Option, Some, None, inl, inr, refl, sym, ap, subst, ◌∙◌, arith, append_assoc, length-append}
 use Rattle.std.specs.List.{AllByRecursion}
 use Rattle.std.specs.Set.{is_member}
 use Rattle.std.proofs.lemmas.List.{append-nil}
@@ -15,21 +15,20 @@ use Rattle.ml_base.specs.declared.parse_refusal.ParseRefusal.{ParseRefusal}
 use Rattle.ml_base.specs.declared.parse_refusal.ParseRefusal.TheVariants as refusal
 use Rattle.ml_lists.proofs.Decided.{Decided, decided_bytes, decided_number, decided_same, decided_test}
 use Rattle.ml_front.specs.HeadRules.{IsFormulaOf}
-use Rattle.ml_front.specs.Logics.{logic_of, IsParsedAs, IsRefusedBy}
+use Rattle.ml_front.specs.Logics.{IsRefusedBy}
 use Rattle.ml_front.specs.declared.logic.Logic.{Logic}
-use Rattle.ml_front.specs.declared.problem.AnyFormula.{AnyFormula}
 use Rattle.ml_front.proofs.Logics.{formula_once, some_answer}
 use Rattle.ml_spec.specs.Comments.{uncommented}
 use Rattle.ml_spec.specs.ItemParts.{behind_kind, behind_name, name_of, place_of, text_of, HasColon, HasKind, HasName, IsOfKind}
-use Rattle.ml_spec.specs.Items.{ItemText, begins_with_colon, first_word, is_name, items_of}
+use Rattle.ml_spec.specs.Items.{ItemText, begins_with_colon, first_word, is_name}
 use Rattle.ml_spec.specs.Kinds.{kind_word}
 use Rattle.ml_spec.specs.Specification.{items_behind, most_items, names, AreItemsOf, IsItemOf, IsReadAs, IsSpecification, IsSpecified, TellsLogic}
 use Rattle.ml_spec.specs.declared.kind.Kind.{Kind}
 use Rattle.ml_spec.specs.declared.kind.Kind.TheVariants as kind
 use Rattle.ml_spec.specs.declared.rule.SpecRule.{SpecRule}
-use Rattle.ml_spec.specs.declared.rule.SpecRule.TheVariants.{Syntax, Unbound, NotPositive, TooMany, TooNested, NameTooLong, NoKind, NoName, NoColon, NameTaken, TooManyItems}
+use Rattle.ml_spec.specs.declared.rule.SpecRule.TheVariants.{NoKind, NoName, NoColon, NameTaken, TooManyItems}
 use Rattle.ml_spec.specs.declared.specification.Item.{Item}
-use Rattle.ml_spec.specs.private.Stages.{AreNewBehind, IsFirstInItem, IsNextItem, IsReadTo, IsStopped, told_byte, told_rule}
+use Rattle.ml_spec.specs.private.Stages.{IsFirstInItem, IsNextItem, IsReadTo, IsStopped, told_byte, told_rule}
 use Rattle.ml_spec.proofs.ItemFaults.{first_colon, first_kind, first_many, first_name, first_taken, first_text}
 use Rattle.ml_spec.proofs.JoinedSizes.{AreItemsIn}
 use Rattle.ml_spec.proofs.TextFaults.{new_items, new_more, one_logic}
@@ -239,11 +238,10 @@ pub one_reading : (text : List ℕ) (l k : Logic) (xs ys : List Item)
     → IsReadAs text k ys
     → (l ≡ k) × (xs ≡ ys)
 one_reading text l k xs ys one other =
-    let logics = one_logic text l k one.tells_logic other.tells_logic in
-    (
+    let logics = one_logic text l k one.tells_logic other.tells_logic in (
       logics,
       one_list k (items_behind text) xs ys (subst (λ m. AreItemsOf m (items_behind text) xs) logics one.are_items)
-      other.are_items,
+          other.are_items,
     )
 
 -- ---- what holds of the items that are read

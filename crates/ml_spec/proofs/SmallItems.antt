@@ -7,15 +7,14 @@
 --   requirements_more == the total of requirements, with one item more
 --   all_due, large_due == what a reader of totals comes to
 --   small_answer    == all are small, or some item is the first whose is not
-use Rattle.std.proofs.Common.{◌≡◌, ℕ, ◌+◌, ◌*◌, ◌<◌, ◌≤◌, ◌⊎◌, Bool, true, false, cond, List, [], ◌∷◌, ◌++◌, drop, filter, get_or, length, map, sum_by, take, inl, inr, refl, sym, ap, subst, ◌∙◌, arith, append_assoc}
-use Rattle.std.specs.List.{AllByRecursion}
+use Rattle.std.proofs.Common.{◌≡◌, ℕ, ◌+◌, ◌<◌, ◌≤◌, ◌⊎◌, Bool, true, false, cond, List, [], ◌∷◌, ◌++◌, drop, filter, get_or, length, map, take, inl, inr, refl, sym, ap, subst, ◌∙◌, arith, append_assoc}
 use Rattle.std.proofs.lemmas.Bool.{cases_lt}
 use Rattle.std.proofs.lemmas.List.{append-nil, drop_more, take-append-drop, take_all, take_more}
 use Rattle.std.proofs.lemmas.List.Sums.{sum_by-append}
 use Rattle.ml_text.specs.Limits.{most_occurrences}
 use Rattle.ml_front.specs.Logics.{logic_of}
 use Rattle.ml_front.specs.declared.logic.Logic.{Logic}
-use Rattle.ml_spec.specs.Joined.{asked, asked_as, joined_at, occurrences, requirements}
+use Rattle.ml_spec.specs.Joined.{asked_as, joined_at, occurrences, requirements}
 use Rattle.ml_spec.specs.Kinds.{is_requirement}
 use Rattle.ml_spec.specs.Specification.{AreSmall}
 use Rattle.ml_spec.specs.declared.kind.Kind.{Kind}
@@ -45,7 +44,7 @@ due_more n xs before [] y due is =
 due_more n xs before (z ∷ zs) y due is = (
   due.0,
   due_more n xs (before ++ z ∷ []) zs y due.1
-  (subst (λ ws. due_of y (total (requirements xs)) (total (requirements ws)) ≤ n) (sym (append_assoc before (z ∷ []) zs)) is),
+      (subst (λ ws. due_of y (total (requirements xs)) (total (requirements ws)) ≤ n) (sym (append_assoc before (z ∷ []) zs)) is),
 )
 
 pub due_small : (l : Logic) (xs before ys : List Item)
@@ -215,7 +214,7 @@ small_more l xs before [] y small is =
 small_more l xs before (z ∷ zs) y small is = (
   small.0,
   small_more l xs (before ++ z ∷ []) zs y small.1
-  (subst (λ ws. occurrences (joined_at l xs ws y) ≤ most_occurrences) (sym (append_assoc before (z ∷ []) zs)) is),
+      (subst (λ ws. occurrences (joined_at l xs ws y) ≤ most_occurrences) (sym (append_assoc before (z ∷ []) zs)) is),
 )
 
 small_from_here : (l : Logic) (xs before ys : List Item)

@@ -8,7 +8,6 @@
 --   new_behind, new_items  == that no name stands twice, said item by item and of all
 use Rattle.std.proofs.Common.{◌≡◌, ℕ, ◌+◌, ◌<◌, ◌≤◌, ◌⊎◌, List, [], ◌∷◌, ◌++◌, drop, length, map, Contains, inl, inr, refl, sym, ap, subst, ◌∙◌, arith, append_assoc, length-append}
 use Rattle.std.proofs.lemmas.List.{append-nil}
-use Rattle.ml_front.specs.Logics.{logic_word}
 use Rattle.ml_front.specs.declared.logic.Logic.{Logic}
 use Rattle.ml_front.proofs.Logics as logics
 use Rattle.ml_spec.specs.Faults.{HasItemFault, HasLargeItem, IsFault, IsFirstFault, IsItemFault}
@@ -16,12 +15,12 @@ use Rattle.ml_spec.specs.ItemParts.{name_of}
 use Rattle.ml_spec.specs.Items.{ItemText, behind_word, items_of}
 use Rattle.ml_spec.specs.Laws.{AreApart}
 use Rattle.ml_spec.specs.RuleNumbers.{rule_number}
-use Rattle.ml_spec.specs.Specification.{first_filled, items_behind, most_items, names, AreItemsOf, AreNew, IsItemOf, IsReadAs, TellsLogic}
+use Rattle.ml_spec.specs.Specification.{first_filled, items_behind, most_items, names, AreItemsOf, AreNew, IsReadAs, TellsLogic}
 use Rattle.ml_spec.specs.declared.rule.SpecRule.{SpecRule}
 use Rattle.ml_spec.specs.declared.rule.SpecRule.TheVariants.{Syntax, Unbound, NotPositive, TooMany, TooNested, NameTooLong, NoLogic, NoKind, NoName, NoColon, NameTaken, TooManyItems, TooLarge}
 use Rattle.ml_spec.specs.declared.specification.Item.{Item}
-use Rattle.ml_spec.specs.private.Stages.{AreNewBehind, IsFirstInItem, IsReadTo, IsStopped}
-use Rattle.ml_spec.proofs.ItemFaults.{fault_place, no_fault, IsWithinItem}
+use Rattle.ml_spec.specs.private.Stages.{AreNewBehind, IsFirstInItem, IsStopped}
+use Rattle.ml_spec.proofs.ItemFaults.{fault_place, no_fault}
 use Rattle.ml_spec.proofs.ItemPlaces.{items_apart}
 
 -- ---- the logic
@@ -55,8 +54,7 @@ module _ where
   new_from : (done xs : List Item) → AreNew (done ++ xs) → AreNewBehind (names done) xs
   new_from done [] new = tt
   new_from done (x ∷ xs) new =
-      let whole : done ++ x ∷ xs ≡ (done ++ x ∷ []) ++ xs = sym (append_assoc done (x ∷ []) xs) in
-      (
+      let whole : done ++ x ∷ xs ≡ (done ++ x ∷ []) ++ xs = sym (append_assoc done (x ∷ []) xs) in (
         new done x xs refl,
         subst (λ ns. AreNewBehind ns xs) (names_more done x) (new_from (done ++ x ∷ []) xs (subst AreNew whole new)),
       )
@@ -73,7 +71,7 @@ module _ where
   new_more seen (y ∷ ys) x new none = (
     new.0,
     new_more (seen ++ y.name ∷ []) ys x new.1
-    (λ taken. none (subst (λ ns. Contains ns x.name) (append_assoc seen (y.name ∷ []) (names ys)) taken)),
+        (λ taken. none (subst (λ ns. Contains ns x.name) (append_assoc seen (y.name ∷ []) (names ys)) taken)),
   )
 
 -- ---- faults of items
@@ -89,8 +87,8 @@ module _ (l : Logic) where
   from_split seen [] i after s k fault = inl (subst (λ ns. IsItemFault l ns i s k) (append-nil seen) fault)
   from_split seen (j ∷ js) i after s k fault =
       inr (
-        from_split (seen ++ name_of j ∷ []) js i after s k
-        (subst (λ ns. IsItemFault l ns i s k) (sym (append_assoc seen (name_of j ∷ []) (map name_of js))) fault)
+      from_split (seen ++ name_of j ∷ []) js i after s k
+      (subst (λ ns. IsItemFault l ns i s k) (sym (append_assoc seen (name_of j ∷ []) (map name_of js))) fault)
       )
 
   pub item_fault : (text : List ℕ) (s : SpecRule) (k : ℕ) (found : HasItemFault text s k)

@@ -4,7 +4,7 @@
 --   text_refused_once == so a text is refused by one rule at one byte at most
 --   read_not_refused  == a text that is read is refused by none
 --   refused_by        == a refusal of the parser tells a rule
-use Rattle.std.proofs.Common.{◌≡◌, ◌≢◌, ℕ, ◌⊎◌, List, Option, None, Some, inl, inr, refl, sym, ap, subst, ◌∙◌}
+use Rattle.std.proofs.Common.{◌≡◌, ◌≢◌, ℕ, List, Some, refl, sym, ap, subst, ◌∙◌}
 use Rattle.ml_base.specs.declared.parse_refusal.ParseRefusal.{ParseRefusal}
 use Rattle.ml_base.specs.declared.parse_refusal.ParseRefusal.TheVariants as refusal
 use Rattle.ml_ctl.specs.declared.language.Language.TheVariants as language

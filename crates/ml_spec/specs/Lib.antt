@@ -10,6 +10,8 @@ pub mod ItemParts
 pub mod Places
 -- formulas joined
 pub mod Joined
+-- questions
+pub mod Questions
 -- specifications and their texts
 pub mod Specification
 -- the rules that a text may break, by their numbers

@@ -2,3 +2,5 @@
 pub mod Stages
 -- how large joined formulas are
 pub mod Sizes
+-- the texts of joined formulas
+pub mod JoinedTexts

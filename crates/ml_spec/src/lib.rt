@@ -1,4 +1,4 @@
-// Files of requirements and questions: their comments, items, kinds and names.
+// Files of requirements and questions: what they say, why a text is none, and their formulas joined.
 //
 // A specification names a logic, and has requirements and questions, each with a name and a formula of that logic:
 //
@@ -7,11 +7,18 @@
 //     possible rescue: F(call & G fire)
 //     follows shut: G(fire -> !open)
 //
-// `uncommented` takes the comments out, with a blank for each byte, and `next_item` gives one item of such a text after the other.
-// `split_word`, `kind_named`, `split_name`, `is_name` and `behind_colon` take an item apart, `ItemName` holds a name, and
-// `line_and_column` tells where a byte stands. The logic of the first item and the formulas are read by no call of this crate.
-// What comments, items, kinds, names, lines and columns are stands in `specs/`; `laws` says that lines stay as they are without
-// comments, and that items are apart.
+// The calls to know: `read` gives the `Specification` of a text, or tells at which line and column it breaks which rule first;
+// `joined` gives the problem of some requirements and a question together.
+//
+// What a specification is stands in `specs/Specification.antt`, which rules a text may break and where in `specs/Faults.antt`, and
+// what is joined in `specs/Joined.antt` and `specs/Questions.antt`. `laws` says that each text is one specification or has one
+// refusal, and never both.
+//
+// The parts that `read` is made of are public too: `uncommented` takes the comments out, with a blank for each byte, and
+// `next_item` gives one item of such a text after the other. `split_word`, `kind_named`, `split_name`, `is_name` and
+// `behind_colon` take an item apart, `ItemName` holds a name, and `line_and_column` tells where a byte stands.
+//
+// Below stand problems of all logics (`ml_front`), texts (`ml_text`) and lines (`ml_lines`).
 #![tactic(auto)]
 
 mod comments;
@@ -19,11 +26,13 @@ mod fault;
 mod formulas;
 mod head;
 mod items;
+mod joining;
 mod kind;
 pub mod laws;
 mod name;
 mod parts;
 mod place;
+mod question;
 mod reading;
 mod refusal;
 mod rule;
@@ -32,10 +41,12 @@ mod specification;
 
 pub use comments::uncommented;
 pub use items::{ItemText, next_item};
+pub use joining::joined;
 pub use kind::{Kind, kind_named};
 pub use name::ItemName;
 pub use parts::{behind_colon, is_name, split_name, split_word};
 pub use place::line_and_column;
+pub use question::Question;
 pub use reading::read;
 pub use refusal::SpecRefusal;
 pub use rule::SpecRule;

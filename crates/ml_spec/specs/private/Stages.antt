@@ -10,7 +10,7 @@
 --   TellsInText text e           == e tells the first fault of the text, if it isn't
 --   TellsRefusal text e          == e tells line, column and rule of it, if it isn't
 --   told_rule e, told_byte e     == the rule that a refusal of the parser tells, and its byte
-use Rattle.std.specs.Prelude.{ℕ, ◌≡◌, ◌+◌, ◌<◌, ◌≤◌, ◌⊎◌, ⊤, List, [], ◌∷◌, ◌++◌, length, Contains, Option, None, Some}
+use Rattle.std.specs.Prelude.{ℕ, ◌≡◌, ◌<◌, ◌≤◌, ◌⊎◌, ⊤, List, [], ◌∷◌, ◌++◌, length, Contains, Option, None, Some}
 use Rattle.ml_base.specs.declared.parse_refusal.ParseRefusal.{ParseRefusal}
 use Rattle.ml_base.specs.declared.parse_refusal.ParseRefusal.TheVariants as refusal
 use Rattle.ml_front.specs.declared.logic.Logic.{Logic}

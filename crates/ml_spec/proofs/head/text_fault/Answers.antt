@@ -1,4 +1,4 @@
-use Rattle.std.proofs.Common.{◌≡◌, ℕ, ◌+◌, ◌-◌, ◌≤◌, min, List, drop, length, take, ap, sym, subst, ◌∙◌, arith, length-drop, length-take}
+use Rattle.std.proofs.Common.{◌≡◌, ℕ, ◌+◌, ◌-◌, min, List, drop, length, take, ap, sym, subst, ◌∙◌, arith, length-drop, length-take}
 use Rattle.ml_front.specs.Logics.{IsRefusedBy}
 use Rattle.ml_spec.specs.ItemParts.{place_of, text_of}
 use Rattle.ml_spec.specs.Scan.{item_text}

@@ -1,4 +1,4 @@
-use Rattle.std.proofs.Common.{◌≡◌, ◌++◌, [], ◌∷◌, sym, ap, subst, ◌∙◌}
+use Rattle.std.proofs.Common.{◌++◌, [], ◌∷◌, sym, ap, subst, ◌∙◌}
 use Rattle.ml_spec.specs.Scan.{items_at, item_text}
 use Rattle.ml_spec.specs.Specification.{names}
 use Rattle.ml_spec.specs.private.Stages.{IsNextItem, IsReadTo}

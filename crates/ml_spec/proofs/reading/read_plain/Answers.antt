@@ -1,7 +1,7 @@
-use Rattle.std.proofs.Common.{◌≡◌, [], sym, subst, ◌∙◌}
+use Rattle.std.proofs.Common.{[], sym, subst}
 use Rattle.ml_spec.specs.Faults.{IsFirstFault}
-use Rattle.ml_spec.specs.Specification.{items_behind, AreSmall, IsReadAs}
-use Rattle.ml_spec.specs.declared.rule.SpecRule.TheVariants.{NoLogic, TooLarge}
+use Rattle.ml_spec.specs.Specification.{items_behind, AreSmall}
+use Rattle.ml_spec.specs.declared.rule.SpecRule.TheVariants.{NoLogic}
 use Rattle.ml_spec.specs.private.Sizes.{IsFirstLarge}
 use Rattle.ml_spec.specs.private.Stages.{IsReadTo}
 use Rattle.ml_spec.proofs.JoinedSizes.{AreItemsIn}

@@ -1,4 +1,4 @@
-use Rattle.std.proofs.Common.{◌≡◌, ◌+◌, ◌*◌, ◌≤◌, length, take}
+use Rattle.std.proofs.Common.{◌≡◌, ◌*◌, ◌≤◌, take}
 use Rattle.ml_spec.specs.Joined.{requirements}
 use Rattle.ml_spec.specs.private.Sizes.{total}
 use Rattle.ml_spec.proofs.sizes.all_requirements.Given as goal
