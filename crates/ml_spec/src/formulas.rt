@@ -7,8 +7,10 @@ use ml_base::NoMemory;
 use ml_front::AnyFormula;
 use ml_text::MOST_OCCURRENCES;
 
-// how many occurrences the formula has
-pub(crate) fn occurrences(formula: &AnyFormula) -> u32
+/// How many occurrences a formula has in its logic, at most 1,000.
+///
+/// Cost: linear in them. No call is nested deeper than the formula.
+pub fn occurrences(formula: &AnyFormula) -> u32
     ensures number { result ≡ spec.occurrences formula.now }
     ensures most { result ≤ MOST_OCCURRENCES }
 {

@@ -39,6 +39,7 @@ pub fn joined(
     ensures formula { IfOk result (λ p. p.formula
         ≡ joined_of specification.now.logic (is_in taken.now) specification.now.items.items question) }
     ensures plain { IfOk result (λ p. p.negated ≡ false) }
+    ensures well_formed { IfOk result (λ p. IsWellFormed p.formula) }
 {
     let text = text_of(alloc, specification, taken, question)?;
     match ml_front::read(alloc, specification.logic, &text) {

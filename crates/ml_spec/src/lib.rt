@@ -40,6 +40,7 @@ mod sizes;
 mod specification;
 
 pub use comments::uncommented;
+pub use formulas::occurrences;
 pub use items::{ItemText, next_item};
 pub use joining::joined;
 pub use kind::{Kind, kind_named};

@@ -1,4 +1,8 @@
 // The questions of a specification.
+ghost use Rattle.std.specs.Prelude.{◌↔◌, IsTrue};
+ghost use Rattle.ml_spec.specs.Questions.{IsQuestion};
+
+use crate::specification::Item;
 
 /// What is asked of the requirements of a specification.
 #[derive(Clone, Copy, Debug, PartialEq, Eq)]
@@ -7,4 +11,19 @@ pub enum Question {
     Consistent,
     /// What the item with this number asks, counted from 0, which is no requirement.
     Asks(usize),
+}
+
+impl Question {
+    /// Is it a question of these items: whether they are consistent, or one of them that is no requirement?
+    pub fn is_of(self, items: &[Item]) -> bool
+        ensures { IsTrue result ↔ IsQuestion items.now self }
+    {
+        match self {
+            Question::Consistent => true,
+            Question::Asks(number) => match items.get(number) {
+                Some(item) => !item.kind.is_requirement(),
+                None => false,
+            },
+        }
+    }
 }
