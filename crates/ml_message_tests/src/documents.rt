@@ -13,7 +13,7 @@ fn told(alloc: Global, command: &str, input: &[u8], output: &[u8]) -> Result<Str
     }
 }
 
-const ROWS: [(&str, &[u8], &[u8], &str); 19] = [
+const ROWS: [(&str, &[u8], &[u8], &str); 20] = [
     (
         "check-model",
         b"mlsolver 2\nanswer satisfiable\nlogic mu\nsense plain\nformula p &\nstates 1\n",
@@ -72,7 +72,13 @@ const ROWS: [(&str, &[u8], &[u8], &str); 19] = [
         "realize",
         b"inputs r\noutputs g\nformula G(r -> F q)\n",
         b"refused document line 3 rule 46\n",
-        "line 3: `formula G(r -> F q)`: the formula has a proposition that is neither an input nor an output",
+        "line 3: the formula has the proposition `q`, which is neither an input nor an output",
+    ),
+    (
+        "check-machine",
+        b"mlsolver realize 1\nanswer realizable\ninputs r\noutputs g\nformula GF(r U grnt) | X tt\n",
+        b"refused document line 5 rule 46\n",
+        "line 5: the formula has the proposition `grnt`, which is neither an input nor an output",
     ),
     (
         "realize",

@@ -1,6 +1,7 @@
 // Where documents and tasks are at fault, and of which formula they speak.
 
 use crate::formulas::{formula_fault, refusal_of};
+use crate::names::unknown_name;
 use crate::rules::{Shape, of_acceptance, of_document};
 use crate::shown::{behind, line_of, shown};
 use ml_front::Logic;
@@ -23,9 +24,21 @@ pub(crate) fn document_fault(
             return formula_line_fault(alloc, logic_of(shape, input), formula, line);
         }
     }
+    if rule == 46 {
+        if let Some(name) = unknown_name(input, line, text) {
+            return unknown_fault(alloc, line, name);
+        }
+    }
     let found = shown(alloc, text)?;
     let cause = of_document(shape, kind_of_line(shape, line), rule);
     format!(in alloc; "line {line}: {found}: {cause}")
+}
+
+fn unknown_fault(alloc: Global, line: usize, name: &[u8]) -> Result<String, AllocError> {
+    let name = shown(alloc, name)?;
+    format!(in alloc;
+        "line {line}: the formula has the proposition {name}, which is neither an input nor an output"
+    )
 }
 
 // the three lines of a task come behind two others in the document of a machine

@@ -14,6 +14,7 @@ mod documents;
 mod expected;
 mod explaining;
 mod formulas;
+mod names;
 mod rules;
 mod shown;
 mod told;
