@@ -4,7 +4,7 @@
 --   unrolled_period   == from the loop start on, the length of the loop is a period of it
 --   unrolled_is       == and so it is each sequence of which both are true
 --   alike_is_lasso    == lassos for the same endless sequence are lassos of the same relations
-use Rattle.std.proofs.Common.{ℕ, zero, suc, ◌≡◌, ◌+◌, ◌-◌, ◌<◌, ◌≤◌, ◌⊎◌, inl, inr, ltb, arith, refl, length, get_or, subst, subst₂, sym, ap, ◌∙◌, lt-ltb, le-ltb}
+use Rattle.std.proofs.Common.{ℕ, zero, suc, ◌≡◌, ◌+◌, ◌-◌, ◌<◌, ◌≤◌, ◌⊎◌, inl, inr, ltb, arith, refl, length, get_or, subst₂, sym, ap, ◌∙◌, lt-ltb, le-ltb}
 use Rattle.std.proofs.lemmas.Bool.{cases_eq, cases_lt, cond-true, cond-false}
 use Rattle.ml_ctl.proofs.PlaceWalks.{walk-sum}
 use Rattle.ml_lists.specs.Lasso.{IsLassoOf, Lasso, entry, next_place, round, unrolled}
@@ -39,7 +39,7 @@ module _ (l : Lasso) (starts : l.start < length l.entries) where
       ap (walk (next_place l) 0) whole
       ∙ sym (walk-sum (next_place l) 0 (length l.entries) (k - l.start))
       ∙ ap (λ x. walk (next_place l) x (k - l.start))
-          (walk_back (length l.entries) refl ∙ sym (walk_front l.start starts))
+      (walk_back (length l.entries) refl ∙ sym (walk_front l.start starts))
       ∙ walk-sum (next_place l) 0 l.start (k - l.start)
       ∙ ap (walk (next_place l) 0) part
 

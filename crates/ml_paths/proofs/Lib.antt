@@ -16,11 +16,11 @@ pub mod Moves
 pub mod WordRuns
 -- labels and edges, as the program gathers them
 pub mod Gathered
--- sequences that take the same values again
+-- lists that repeat themselves, and sequences that take the same values again
 pub mod Periods
 -- the endless sequence of a lasso
 pub mod EndlessSequences
 -- lassos that are made shorter, and those that can't be
 pub mod ShorterLassos
--- a path that is told in fewer states
+-- paths that are told in fewer states
 pub mod ShortPaths

@@ -4,7 +4,7 @@
 --   some_system   == the structure as a system
 --   some_path     == so something is found
 --   one_path      == and not two things
-use Rattle.std.proofs.Common.{ℕ, ◌≡◌, ◌<◌, ◌≤◌, ◌⊎◌, inl, inr, ⊎_elim, arith, Bool, true, List, [], length, map, filter, get_or, sym, ap, ◌∙◌, subst, subst₂}
+use Rattle.std.proofs.Common.{ℕ, ◌≡◌, ◌<◌, ◌≤◌, ◌⊎◌, inl, inr, ⊎_elim, arith, Bool, true, List, [], map, filter, get_or, sym, ap, ◌∙◌, subst, subst₂}
 use Rattle.std.specs.List.{range_with_len}
 use Rattle.std.proofs.lemmas.Bool.{cases_lt}
 use Rattle.std.proofs.lemmas.List.{get_or_past}

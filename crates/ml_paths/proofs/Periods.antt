@@ -1,16 +1,52 @@
--- Sequences that take the same values again.
+-- Lists that repeat themselves, and sequences that take the same values again.
 --
---   period_times     == so many periods are one
---   period_sooner    == a sequence that has some period from s on has each other period of its own from s on too
+--   repeats_shifted   == a list repeats itself exactly where its end, from so many places on, is its front
+--   period_times      == so many periods are one
+--   period_sooner     == a sequence that has some period from s on has each other period of its own from s on too
 --   period_difference == the difference of two periods is one
---   IsCommonPeriod   == a period that is the greatest common divisor of two others
---   common_period    == there is one, by Euclid's algorithm
-use Rattle.std.proofs.Common.{ℕ, zero, suc, ◌≡◌, ◌+◌, ◌-◌, ◌*◌, ◌<◌, ◌≤◌, ◌⊎◌, inl, inr, arith, refl, sym, ap, ◌∙◌, subst}
+--   IsCommonPeriod    == a period that is the greatest common divisor of two others
+--   common_period     == there is one, by Euclid's algorithm
+use Rattle.std.proofs.Common.{ℕ, zero, suc, ◌≡◌, ◌+◌, ◌-◌, ◌*◌, ◌<◌, ◌≤◌, ◌⊎◌, inl, inr, ◌↔◌, arith, List, drop, get_or, length, take, sym, ap, ◌∙◌, subst, length-drop}
 use Rattle.std.specs.Int.{IsGcd, ◌∣◌}
 use Rattle.std.proofs.Math.Nat.{suc-mul, zero-mul, le-mul_of_pos_right}
 use Rattle.std.proofs.lemmas.Bool.{cases_lt}
+use Rattle.std.proofs.lemmas.List.{ext_get_or, get_or-drop, get_or-take, length-take-le}
 use Rattle.std.proofs.lemmas.Nat.Gcd.{IsGcd-from_sub, IsGcd-swap, dvd_refl}
-use Rattle.ml_paths.specs.private.Shortening.{IsPeriodFrom}
+use Rattle.ml_paths.specs.private.Shortening.{IsPeriodFrom, Repeats}
+
+module _ (xs : List ℕ) (d : ℕ) (fits : d ≤ length xs) where
+  abbrev end : List ℕ
+  end = take (length xs - d) (drop d xs)
+
+  abbrev front : List ℕ
+  front = take (length xs - d) xs
+
+  end_at : (k : ℕ) → k + d < length xs → get_or end k 0 ≡ get_or xs (k + d) 0
+  end_at k low =
+      let there : d + k ≡ k + d = omega arith in
+      get_or-take (length xs - d) (drop d xs) k 0 (omega (arith, low))
+      ∙ get_or-drop d xs k 0
+      ∙ ap (λ n. get_or xs n 0) there
+
+  front_at : (k : ℕ) → k + d < length xs → get_or front k 0 ≡ get_or xs k 0
+  front_at k low = get_or-take (length xs - d) xs k 0 (omega (arith, low))
+
+  end_long : length end ≡ length xs - d
+  end_long =
+      length-take-le (length xs - d) (drop d xs) (let long = length-drop d xs in omega (arith, long))
+
+  front_long : length front ≡ length xs - d
+  front_long = length-take-le (length xs - d) xs (omega arith)
+
+  -- a list repeats itself exactly where its end, from so many places on, is its front
+  pub repeats_shifted : (take (length xs - d) (drop d xs) ≡ take (length xs - d) xs) ↔ Repeats xs d
+  repeats_shifted = (
+    λ same k low. sym (end_at k low) ∙ ap (λ ys. get_or ys k 0) same ∙ front_at k low,
+    λ repeats.
+        ext_get_or 0 end front (end_long ∙ sym front_long)
+        (λ k low. let long = end_long in let inside : k + d < length xs = omega (arith, low, long, fits) in
+        end_at k inside ∙ repeats k inside ∙ sym (front_at k inside)),
+  )
 
 module _ (c : ℕ → ℕ) (s : ℕ) where
   -- so many periods are one

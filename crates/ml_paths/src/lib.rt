@@ -6,7 +6,7 @@
 //
 // The structure is a system whose letters are the labels of the states that are left, as far as the word automaton of the
 // formula knows their propositions; states with the same ones have one letter. `ml_emptiness` finds a lasso of it that the
-// automaton accepts.
+// automaton accepts. What is shown is the shortest lasso with the same endless sequence of states (`specs/Shortest.antt`).
 //
 // `run_along` and `run_of` make the structure of a word: a document that shows it is confirmed by whoever checks LTL on words
 // (`specs/Runs.antt`).

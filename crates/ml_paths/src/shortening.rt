@@ -9,12 +9,7 @@ fn repeats(states: &[u32], period: usize) -> bool
     requires { period ≤ length states.now }
     ensures { (result ≡ true) ↔ Repeats states.now period }
 {
-    for place in period..states.len() {
-        if states[place] != states[place - period] {
-            return false;
-        }
-    }
-    true
+    states[period..] == states[..states.len() - period]
 }
 
 // The least number of states of which these are made, over and over.

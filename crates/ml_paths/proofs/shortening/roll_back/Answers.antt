@@ -1,6 +1,6 @@
 use Rattle.std.proofs.Common.{◌-◌, ◌∙◌, ap, arith, sym, take}
 use Rattle.ml_lists.specs.Lasso.{Lasso}
-use Rattle.ml_paths.proofs.ShorterLassos.{rolled_none, rolled_read}
+use Rattle.ml_paths.proofs.ShorterLassos.{rolled_read}
 use Rattle.ml_paths.proofs.shortening.roll_back.Goals as goal
 
 pub loop-start-preserved : goal.loop-start-preserved
