@@ -25,12 +25,13 @@ use Rattle.ml_driver.specs.Tasks.{IsTaskAnswered}
 use Rattle.ml_driver.specs.declared.question.Question.{Question}
 use Rattle.ml_decide.specs.declared.way.Way.TheVariants.{WholeGame, Search}
 use Rattle.ml_driver.specs.declared.command.Command.{Command}
-use Rattle.ml_driver.specs.declared.command.Command.TheVariants.{Decide, Valid, Find, Prove, CheckModel, CheckRefutation, Migrate, Quotient, SolveGame, CheckGame, Path, CheckMachine, Determinise, Automaton, Realize, Make, Gen, Bench}
+use Rattle.ml_driver.specs.declared.command.Command.TheVariants.{Decide, Valid, Find, Prove, CheckModel, CheckRefutation, Migrate, Quotient, SolveGame, CheckGame, Path, CheckMachine, Determinise, Automaton, Realize, Make, Ask, Gen, Bench}
 use Rattle.ml_driver.specs.declared.status.Status.{Status}
 use Rattle.ml_driver.specs.declared.status.Status.TheVariants.{Yes, No, Undecided, Text, ReadFault, WriteFault, NoMemory}
 use Rattle.ml_decide.specs.Measures.{answer_of}
 use Rattle.ml_driver.specs.Bench.{status_of}
 use Rattle.ml_driver.specs.Statuses.{length_refused, longest_input, model_said, refutation_said}
+use Rattle.ml_driver.proofs.AskedAnswers.{calm_asked}
 use Rattle.ml_driver.proofs.MachineAnswers.{calm_machine}
 use Rattle.ml_driver.proofs.MadeAnswers.{calm_made}
 use Rattle.ml_driver.proofs.PathAnswers.{calm_path}
@@ -94,6 +95,7 @@ calm_answer CheckRefutation text s out x = calm_verdict x.finding s x.is_said.0
 calm_answer CheckGame text s out x = calm_game text s out x
 calm_answer Path text s out x = calm_path x.finding s x.status_is
 calm_answer CheckMachine text s out x = calm_machine x.finding s x.status_is
+calm_answer (Ask f n) text s out x = calm_asked x.told s x.status_is
 calm_answer (Make n) text s out x = calm_made n text s out x
 calm_answer (Realize n) text s out x = calm_task n text s out x
 calm_answer (Bench f n) text s out x = calm_status (answer_of x.finding) s x.status_is

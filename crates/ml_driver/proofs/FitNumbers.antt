@@ -13,13 +13,14 @@ use Rattle.ml_front.specs.Logics.{logic_named}
 use Rattle.ml_gen.specs.FamilyRanges.{family_named, is_in_range}
 use Rattle.ml_gen.specs.declared.family.Family.{Family}
 use Rattle.ml_front.specs.declared.logic.Logic.{Logic}
+use Rattle.ml_ask_text.specs.declared.told.Form.TheVariants.{Lines, Files}
 use Rattle.ml_driver.specs.declared.command.Command.{Command}
-use Rattle.ml_driver.specs.declared.command.Command.TheVariants.{Decide, Valid, Find, Prove, CheckModel, CheckRefutation, Migrate, Quotient, SolveGame, CheckGame, Path, CheckMachine, Determinise, Automaton, Realize, Make, Gen, Bench}
+use Rattle.ml_driver.specs.declared.command.Command.TheVariants.{Decide, Valid, Find, Prove, CheckModel, CheckRefutation, Migrate, Quotient, SolveGame, CheckGame, Path, CheckMachine, Determinise, Automaton, Realize, Make, Ask, Gen, Bench}
 use Rattle.ml_driver.specs.declared.command.TheConstants.{GREATEST_LIMIT, LONGEST_NUMBER}
 use Rattle.ml_driver.specs.declared.engine.Engine.{Engine}
 use Rattle.ml_driver.specs.Games.{engine_named}
 use Rattle.ml_driver.specs.Laws.{HasFitNumbers}
-use Rattle.ml_driver.specs.Words.{about, alone, asked_by, solved_by, at_least_one, bare_by, command_of, count_named, counted_by, decided_by, digit_on, faults_of, if_faultless}
+use Rattle.ml_driver.specs.Words.{about, alone, asked_by, at_least_one, bare_by, command_of, count_named, counted_by, decided_by, digit_on, faults_of, filed_by, if_faultless, solved_by}
 use Rattle.ml_driver.specs.Words.{if_in_range, is_digit, limit_named, number_named, parts_in, row, row_of, rows_in, unlimited, value_from}
 
 -- what a test lets through
@@ -143,33 +144,50 @@ solved_fits subject None = by_engine (engine_named subject)
     by_engine None = tt
     by_engine (Some e) = tt
 
-about_fits : (w subject : Word) (limit : Option Word) → HasFitNumbers (about w subject limit)
-about_fits w subject limit = by_word (bytes_eq w (codes "solve-game"))
+filed_fits : (subject : Word) (limit : Option Word) → HasFitNumbers (filed_by subject limit)
+filed_fits subject limit = by_word (bytes_eq subject (codes "files")) (limit_named limit) refl
   where
-    by_word : (t : Bool) → HasFitNumbers (if t then solved_by subject limit else asked_by w subject limit)
-    by_word true = solved_fits subject limit
-    by_word false = of_logic w limit (logic_named subject)
+    by_word : (t : Bool) (n : Option ℕ)
+        → limit_named limit ≡ n
+        → HasFitNumbers (if t then option_map (Ask Files) n else None)
+    by_word true None is = tt
+    by_word true (Some n) is = limit_small limit n is
+    by_word false n is = tt
+
+about_fits : (w subject : Word) (limit : Option Word) → HasFitNumbers (about w subject limit)
+about_fits w subject limit = by_word (bytes_eq w (codes "solve-game")) (bytes_eq w (codes "ask"))
+  where
+    by_word : (t s : Bool)
+        → HasFitNumbers (if t then solved_by subject limit
+        else (if s then filed_by subject limit else asked_by w subject limit))
+    by_word true s = solved_fits subject limit
+    by_word false true = filed_fits subject limit
+    by_word false false = of_logic w limit (logic_named subject)
 
 alone_fits : (w : Word) (limit : Option Word) → HasFitNumbers (alone w limit)
 alone_fits w limit =
     by_word (bytes_eq w (codes "determinise")) (bytes_eq w (codes "realize")) (bytes_eq w (codes "automaton"))
-    (bytes_eq w (codes "make")) limit (limit_named limit)
+    (bytes_eq w (codes "make")) (bytes_eq w (codes "ask")) limit (limit_named limit) refl
   where
-    by_word : (t s r q : Bool) (limit : Option Word) (n : Option ℕ)
+    by_word : (t s r q p : Bool) (limit : Option Word) (n : Option ℕ)
+        → limit_named limit ≡ n
         → HasFitNumbers (if t then option_map Determinise n
         else (if s then option_map Realize n
         else (if r then option_map Automaton n
-        else (if q then option_map Make n else unlimited w limit))))
-    by_word true s r q limit None = tt
-    by_word true s r q limit (Some n) = tt
-    by_word false true r q limit None = tt
-    by_word false true r q limit (Some n) = tt
-    by_word false false true q limit None = tt
-    by_word false false true q limit (Some n) = tt
-    by_word false false false true limit None = tt
-    by_word false false false true limit (Some n) = tt
-    by_word false false false false None n = bare_fits w
-    by_word false false false false (Some word) n = tt
+        else (if q then option_map Make n
+        else (if p then option_map (Ask Lines) n else unlimited w limit)))))
+    by_word true s r q p limit None is = tt
+    by_word true s r q p limit (Some n) is = tt
+    by_word false true r q p limit None is = tt
+    by_word false true r q p limit (Some n) is = tt
+    by_word false false true q p limit None is = tt
+    by_word false false true q p limit (Some n) is = tt
+    by_word false false false true p limit None is = tt
+    by_word false false false true p limit (Some n) is = tt
+    by_word false false false false true limit None is = tt
+    by_word false false false false true limit (Some n) is = limit_small limit n is
+    by_word false false false false false None n is = bare_fits w
+    by_word false false false false false (Some word) n is = tt
 
 row_fits : (command subject count limit : Option Word) → HasFitNumbers (row_of command subject count limit)
 row_fits (Some w) (Some subject) None limit = about_fits w subject limit

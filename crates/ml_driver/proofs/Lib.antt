@@ -18,6 +18,8 @@ pub mod PathAnswers
 pub mod MachineAnswers
 -- what is due for `realize`
 pub mod TaskAnswers
+-- what is due for `ask`
+pub mod AskedAnswers
 -- what is due for `make`
 pub mod MadeAnswers
 -- each structure has a quotient

@@ -16,7 +16,7 @@ use Rattle.ml_driver.specs.Decision.{IsAnswered, IsProblem, LeftOpen, Refuted, R
 use Rattle.ml_driver.specs.declared.question.Question.{Question}
 use Rattle.ml_decide.specs.declared.way.Way.TheVariants.{WholeGame, Search}
 use Rattle.ml_model_check.proofs.OneCheck.{one_check}
-use Rattle.ml_driver.specs.declared.command.Command.TheVariants.{Decide, Valid, Find, Prove, CheckModel, CheckRefutation, Migrate, Quotient, SolveGame, CheckGame, Path, CheckMachine, Determinise, Automaton, Realize, Make, Gen, Bench}
+use Rattle.ml_driver.specs.declared.command.Command.TheVariants.{Decide, Valid, Find, Prove, CheckModel, CheckRefutation, Migrate, Quotient, SolveGame, CheckGame, Path, CheckMachine, Determinise, Automaton, Realize, Make, Ask, Gen, Bench}
 use Rattle.ml_driver.specs.declared.status.Status.{Status}
 use Rattle.ml_driver.specs.declared.status.Status.TheVariants.{Yes, Undecided, Text}
 use Rattle.ml_driver.specs.Statuses.{IsUnreadable, longest_input, model_said, refusal_line, refutation_said}
@@ -38,6 +38,7 @@ use Rattle.ml_decide.proofs.Measures.{one_finding}
 use Rattle.ml_driver.proofs.QuotientAnswers.{one_quotient_answer}
 use Rattle.ml_driver.proofs.PathAnswers.{one_path_told}
 use Rattle.ml_driver.proofs.MachineAnswers.{one_machine_told}
+use Rattle.ml_driver.proofs.AskedAnswers.{asked_agree}
 use Rattle.ml_driver.proofs.MadeAnswers.{made_agree}
 use Rattle.ml_driver.proofs.TaskAnswers.{one_told}
 use Rattle.ml_driver.proofs.TranslationAnswers.{one_translated}
@@ -205,6 +206,7 @@ one_status Path text s t out more whole x y = one_path_told text s t out more x 
 one_status CheckMachine text s t out more whole x y = one_machine_told text s t out more x y
 one_status (Make n) text s t out more whole x y = absurd (cc)
 one_status (Realize n) text s t out more whole x y = one_told n text s t out more x y
+one_status (Ask f n) text s t out more whole x y = absurd (cc)
 one_status (Gen f n) text s t out more whole x y = (one_generated f n text text s t out more x y).0
 one_status (Bench f n) text s t out more whole x y = (one_benched f n s t out more x y).0
 
@@ -229,6 +231,8 @@ by_searching (Some (Prove l n)) text s t out more true is x y =
     searched_alike (Prove l n) text s t out more (answers_agree (asked true Search l n) text s t out more) x y
 by_searching (Some (Make n)) text s t out more true is x y =
     searched_alike (Make n) text s t out more (made_agree n text s t out more) x y
+by_searching (Some (Ask f n)) text s t out more true is x y =
+    searched_alike (Ask f n) text s t out more (asked_agree f n text s t out more) x y
 by_searching _ text s t out more true is x y = absurd (cc)
 
 pub one_unless_open : OneUnlessOpen

@@ -31,9 +31,10 @@ use Rattle.ml_driver.proofs.QuotientAnswers.{on_structure}
 use Rattle.ml_driver.proofs.PathAnswers.{on_path}
 use Rattle.ml_driver.proofs.MachineAnswers.{on_machine}
 use Rattle.ml_driver.proofs.MadeAnswers.{on_made}
+use Rattle.ml_driver.proofs.AskedAnswers.{on_requirements}
 use Rattle.ml_driver.proofs.TaskAnswers.{on_task}
 use Rattle.ml_driver.proofs.TranslationAnswers.{on_formula}
-use Rattle.ml_driver.specs.declared.command.Command.TheVariants.{Decide, Valid, Find, Prove, CheckModel, CheckRefutation, Migrate, Quotient, SolveGame, CheckGame, Path, CheckMachine, Determinise, Automaton, Realize, Make, Gen, Bench}
+use Rattle.ml_driver.specs.declared.command.Command.TheVariants.{Decide, Valid, Find, Prove, CheckModel, CheckRefutation, Migrate, Quotient, SolveGame, CheckGame, Path, CheckMachine, Determinise, Automaton, Realize, Make, Ask, Gen, Bench}
 use Rattle.ml_driver.specs.declared.status.Status.TheVariants.{Yes, Text}
 use Rattle.ml_driver.specs.Statuses.{model_said, refused_document, refutation_said, words_refused}
 use Rattle.ml_driver.specs.Run.{asked}
@@ -129,6 +130,7 @@ answered Path text small = on_path text
 answered CheckMachine text small = on_machine text
 answered (Make n) text small = on_made n text
 answered (Realize n) text small = on_task n text
+answered (Ask f n) text small = on_requirements f n text small
 answered (Gen f n) text small = (Yes, (gen_text f n, refl))
 answered (Bench f n) text small = of_family f n text small
 

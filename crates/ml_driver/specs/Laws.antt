@@ -42,7 +42,7 @@ use Rattle.ml_buchi.specs.Valuations.{Leads}
 use Rattle.ml_determinise.specs.Numbering.{automaton_of}
 use Rattle.ml_gen.specs.FamilyRanges.{is_in_range}
 use Rattle.ml_gen.specs.declared.family.Family.{Family}
-use Rattle.ml_driver.specs.declared.command.Command.TheVariants.{Decide, Valid, Find, Prove, CheckModel, CheckRefutation, Quotient, SolveGame, CheckGame, Determinise, Automaton, Make, Realize, Gen, Bench}
+use Rattle.ml_driver.specs.declared.command.Command.TheVariants.{Decide, Valid, Find, Prove, CheckModel, CheckRefutation, Quotient, SolveGame, CheckGame, Determinise, Automaton, Make, Ask, Realize, Gen, Bench}
 use Rattle.ml_driver.specs.declared.command.Command.{Command}
 use Rattle.ml_bisim.specs.Quotient.{class_of}
 use Rattle.ml_model_check.specs.Checked.{IsCheckedAs, IsDocument}
@@ -79,6 +79,7 @@ abbrev pub searches : Option Command → Bool
 searches (Some (Find l n)) = true
 searches (Some (Prove l n)) = true
 searches (Some (Make n)) = true
+searches (Some (Ask f n)) = true
 searches _ = false
 
 abbrev pub OneDue : Type 0
@@ -116,6 +117,7 @@ HasFitNumbers (Some (Decide l n)) = n < 2 ^ 32
 HasFitNumbers (Some (Valid l n)) = n < 2 ^ 32
 HasFitNumbers (Some (Find l n)) = n < 2 ^ 32
 HasFitNumbers (Some (Prove l n)) = n < 2 ^ 32
+HasFitNumbers (Some (Ask f n)) = n < 2 ^ 32
 HasFitNumbers (Some (Bench f n)) = is_in_range f n ≡ true
 HasFitNumbers _ = Unit {0}
 

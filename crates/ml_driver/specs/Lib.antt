@@ -24,6 +24,8 @@ pub mod CheckedMachines
 pub mod Tasks
 -- tasks for which a machine is searched
 pub mod MadeTasks
+-- files of requirements that are asked about
+pub mod Asked
 -- what a problem is decided to be
 pub mod Decision
 -- what is written of the formulas of families

@@ -35,13 +35,14 @@ use Rattle.ml_refute_check.specs.Documents.{HoldsNowhere, IsMigrated, IsVerdict}
 use Rattle.ml_refute_check.specs.declared.verdict.Verdict.{Verdict}
 use Rattle.ml_refute_check.specs.declared.verdict.Verdict.TheVariants as verdict
 use Rattle.ml_driver.specs.declared.command.Command.{Command}
-use Rattle.ml_driver.specs.declared.command.Command.TheVariants.{Decide, Valid, Find, Prove, CheckModel, CheckRefutation, Migrate, Quotient, SolveGame, CheckGame, Path, CheckMachine, Determinise, Automaton, Realize, Make, Gen, Bench}
+use Rattle.ml_driver.specs.declared.command.Command.TheVariants.{Decide, Valid, Find, Prove, CheckModel, CheckRefutation, Migrate, Quotient, SolveGame, CheckGame, Path, CheckMachine, Determinise, Automaton, Realize, Make, Ask, Gen, Bench}
 use Rattle.ml_driver.specs.declared.command.TheConstants.{LONGEST_DOCUMENT}
 use Rattle.ml_driver.specs.declared.question.Question.{Question}
 use Rattle.ml_decide.specs.declared.way.Way.{Way}
 use Rattle.ml_decide.specs.declared.way.Way.TheVariants.{WholeGame, Search}
 use Rattle.ml_driver.specs.declared.status.Status.{Status}
 use Rattle.ml_driver.specs.declared.status.Status.TheVariants.{Yes, Undecided, Text, ReadFault, WriteFault, NoMemory}
+use Rattle.ml_driver.specs.Asked.{IsAsked}
 use Rattle.ml_driver.specs.Automata.{IsRefusedAutomaton, IsWrittenFor, PassesLimit, StandsForOne}
 use Rattle.ml_driver.specs.Bench.{IsBenched, gen_text}
 use Rattle.ml_driver.specs.CheckedGames.{IsGameChecked}
@@ -96,6 +97,7 @@ IsAnswer Path text s out = IsPathTold text s out
 IsAnswer CheckMachine text s out = IsMachineTold text s out
 IsAnswer (Make n) text s out = IsTaskMade n text s out
 IsAnswer (Realize n) text s out = IsTaskAnswered n text s out
+IsAnswer (Ask f n) text s out = IsAsked f n text s out
 IsAnswer (Gen f n) text Yes out = out ≡ gen_text f n
 IsAnswer (Bench f n) text s out = IsBenched f n s out
 IsAnswer _ _ _ _ = ⊥

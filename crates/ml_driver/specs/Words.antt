@@ -18,6 +18,7 @@
 --   decided_by, solved_by, counted_by, bare_by == the rows of the table with a logic, with an engine, with a family and a
 --                         number, and with none of these and no limit
 --   determinised_by, translated_by, realized_by, made_by limit == the rows with a limit alone
+--   told_by limit, filed_by w limit == the rows of `ask`, and of `ask` with the word w
 --   unlimited w limit, alone w limit == those of bare_by; these together
 --   row p              == the command whose row the parts p are
 --   if_faultless ks c  == c, where there is no fault
@@ -26,13 +27,14 @@
 use Rattle.std.specs.Prelude.{ℕ, ◌+◌, ◌-◌, ◌*◌, ◌&&◌, Bool, true, List, [], ◌∷◌, length, Option, Some, None, if◌then◌else◌, nat_le, option_and_then, option_map, codes}
 use Rattle.std.specs.Str.{bytes_eq}
 use Rattle.clap.specs.Words.{App, Kinds, Row, first_of, fault_of, matches_of, new_app, new_rule, with_rule}
+use Rattle.ml_ask_text.specs.declared.told.Form.TheVariants.{Lines, Files}
 use Rattle.ml_lines.specs.Lines.{Word}
 use Rattle.ml_front.specs.Logics.{logic_named}
 use Rattle.ml_front.specs.declared.logic.Logic.{Logic}
 use Rattle.ml_gen.specs.FamilyRanges.{family_named, is_in_range}
 use Rattle.ml_gen.specs.declared.family.Family.{Family}
 use Rattle.ml_driver.specs.declared.command.Command.{Command}
-use Rattle.ml_driver.specs.declared.command.Command.TheVariants.{Decide, Valid, Find, Prove, CheckModel, CheckRefutation, Migrate, Quotient, SolveGame, CheckGame, Path, CheckMachine, Determinise, Automaton, Realize, Make, Gen, Bench}
+use Rattle.ml_driver.specs.declared.command.Command.TheVariants.{Decide, Valid, Find, Prove, CheckModel, CheckRefutation, Migrate, Quotient, SolveGame, CheckGame, Path, CheckMachine, Determinise, Automaton, Realize, Make, Ask, Gen, Bench}
 use Rattle.ml_driver.specs.Games.{engine_named}
 use Rattle.ml_driver.specs.declared.command.TheConstants.{DEFAULT_LIMIT, GREATEST_LIMIT, LONGEST_NUMBER}
 
@@ -127,6 +129,14 @@ realized_by limit = option_map Realize (limit_named limit)
 abbrev pub made_by : Option Word → Option Command
 made_by limit = option_map Make (limit_named limit)
 
+-- `ask` and `ask files`
+abbrev pub told_by : Option Word → Option Command
+told_by limit = option_map (Ask Lines) (limit_named limit)
+
+abbrev pub filed_by : Word → Option Word → Option Command
+filed_by subject limit =
+    if bytes_eq subject (codes "files") then option_map (Ask Files) (limit_named limit) else None
+
 -- a command that stands alone, and no limit
 abbrev pub unlimited : Word → Option Word → Option Command
 unlimited w None = bare_by w
@@ -138,7 +148,8 @@ alone w limit =
     if bytes_eq w (codes "determinise") then determinised_by limit
     else (if bytes_eq w (codes "realize") then realized_by limit
     else (if bytes_eq w (codes "automaton") then translated_by limit
-    else (if bytes_eq w (codes "make") then made_by limit else unlimited w limit)))
+    else (if bytes_eq w (codes "make") then made_by limit
+    else (if bytes_eq w (codes "ask") then told_by limit else unlimited w limit))))
 
 -- a command with an engine, and no limit
 abbrev pub solved_by : Word → Option Word → Option Command
@@ -151,7 +162,9 @@ asked_by w subject limit =
 
 -- a command with a logic or an engine
 abbrev pub about : Word → Word → Option Word → Option Command
-about w subject limit = if bytes_eq w (codes "solve-game") then solved_by subject limit else asked_by w subject limit
+about w subject limit =
+    if bytes_eq w (codes "solve-game") then solved_by subject limit
+    else (if bytes_eq w (codes "ask") then filed_by subject limit else asked_by w subject limit)
 
 abbrev pub row_of : Option Word → Option Word → Option Word → Option Word → Option Command
 row_of (Some w) (Some subject) None limit = about w subject limit

@@ -16,6 +16,7 @@ ghost use Rattle.ml_driver.specs.private.UsualNumbers.{HasUsualNumbers};
 use crate::Engine;
 use clap::error::ErrorKind;
 use clap::{Arg, ArgMatches, Error};
+use ml_ask_text::Form;
 use ml_base::NoMemory;
 use ml_front::Logic;
 use ml_gen::Family;
@@ -62,6 +63,9 @@ pub enum Command {
     /// `realize`: a machine that realizes the task on the input, or an environment that defeats it. The game may have as many
     /// positions as the limit.
     Realize { limit: u32 },
+    /// `ask`, `ask files`: the answers to the questions of the file of requirements on the input, as lines, or with a document for
+    /// each. The decision game of a problem may have as many positions as the limit.
+    Ask { form: Form, limit: u32 },
     /// `gen FAMILY N`: the text of the family's formula for the number. Nothing is read.
     Gen { family: Family, n: u32 },
     /// `bench FAMILY N`: the size of this formula, of its graph and of its decision game, and is it satisfiable? Nothing is
@@ -96,7 +100,8 @@ impl Command {
             | Command::Valid { .. }
             | Command::Find { .. }
             | Command::Prove { .. }
-            | Command::Automaton { .. } => Some(LONGEST_TEXT),
+            | Command::Automaton { .. }
+            | Command::Ask { .. } => Some(LONGEST_TEXT),
             Command::CheckModel
             | Command::CheckRefutation
             | Command::Migrate
@@ -210,6 +215,8 @@ fn about(command: &str, subject: &str, limit: Option<&str>) -> Option<Command>
 {
     if command == "solve-game" {
         solved_by(subject, limit)
+    } else if command == "ask" {
+        filed_by(subject, limit)
     } else {
         asked_by(command, subject, limit)
     }
@@ -227,6 +234,8 @@ fn alone(command: &str, limit: Option<&str>) -> Option<Command>
         translated_by(limit)
     } else if command == "make" {
         made_by(limit)
+    } else if command == "ask" {
+        told_by(limit)
     } else {
         unlimited(command, limit)
     }
@@ -262,6 +271,33 @@ fn made_by(limit: Option<&str>) -> Option<Command>
 {
     let limit = limit_named(limit)?;
     Some(Command::Make { limit })
+}
+
+fn told_by(limit: Option<&str>) -> Option<Command>
+    ensures command { result ≡ command_line.told_by (option_map (λ s. s.now) limit.entry) }
+    ensures usual { IfSome result HasUsualNumbers }
+{
+    let limit = limit_named(limit)?;
+    Some(Command::Ask {
+        form: Form::Lines,
+        limit,
+    })
+}
+
+// `ask files`
+fn filed_by(subject: &str, limit: Option<&str>) -> Option<Command>
+    ensures command { result ≡ command_line.filed_by subject.now (option_map (λ s. s.now) limit.entry) }
+    ensures usual { IfSome result HasUsualNumbers }
+{
+    if subject == "files" {
+        let limit = limit_named(limit)?;
+        Some(Command::Ask {
+            form: Form::Files,
+            limit,
+        })
+    } else {
+        None
+    }
 }
 
 fn unlimited(command: &str, limit: Option<&str>) -> Option<Command>

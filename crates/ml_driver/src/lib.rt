@@ -7,7 +7,8 @@
 // `specs/Quotients.antt`, what `solve-game` answers in `specs/Games.antt`, what `check-game` answers in
 // `specs/CheckedGames.antt`, what `determinise` answers in `specs/Automata.antt`, what `automaton` answers in
 // `specs/Translations.antt`, what `path` answers in `specs/Paths.antt`, what `check-machine` answers in
-// `specs/CheckedMachines.antt`, what `realize` answers in `specs/Tasks.antt`, and what `make` answers in
+// `specs/CheckedMachines.antt`, what `realize` answers in `specs/Tasks.antt`, what `ask` answers in
+// `specs/Asked.antt`, and what `make` answers in
 // `specs/MadeTasks.antt`. `Status::code` is the number with which the
 // program ends. `laws` says that some status is due for all words and each input, and one alone but for `find` and `prove`;
 // that answers are exact; and that what is written is found to be right.
@@ -15,6 +16,7 @@
 // Below stand all crates that it calls; above stands only the program `mlsolver`.
 #![tactic(auto)]
 
+mod asking;
 mod bench;
 mod check;
 mod checking_games;

@@ -6,6 +6,7 @@ ghost use Rattle.ml_driver.specs.Run as answers;
 ghost use Rattle.ml_driver.specs.Run.{Ended, IsAnswer, IsWhole, Wrote};
 ghost use Rattle.ml_driver.specs.private.UsualNumbers.{HasUsualNumbers};
 
+use crate::asking::ask;
 use crate::bench::{generate, measure};
 use crate::check::{check_model, check_refutation, migrate};
 use crate::checking_games::check_game;
@@ -44,6 +45,7 @@ use std::alloc::Global;
 /// | `check-game` | the solution behind the game is right | it isn't |
 /// | `realize`, `make` | a machine that realizes the task | an environment that defeats it |
 /// | `check-machine` | the machine realizes its task, or the environment defeats it | it doesn't, with a word that shows it |
+/// | `ask` | all requirements and questions are as their writer means them | some answer says no |
 /// | `bench` | the family's formula is satisfiable, with its occurrences, nodes and positions | it isn't |
 /// | `migrate` | the document of the same refutation in version 2 | never |
 /// | `quotient` | the document of the same problem with the quotient of the structure | never |
@@ -61,6 +63,7 @@ use std::alloc::Global;
 /// - of `determinise` exactly where the deterministic automaton has more states than the limit;
 /// - of `automaton` exactly where the graph of the word automaton has too many nodes, or the word automaton more places than
 ///   the limit;
+/// - of `ask` only where some answer stays open, which comes only where the decision game of the joined problem passes the limit;
 /// - of `realize` exactly where the graph of the word automaton has too many nodes, or the game of the task passes the limit;
 ///   of `make` only there.
 ///
@@ -138,6 +141,7 @@ fn outcome(alloc: Global, command: Command, text: &[u8]) -> Result<Output, NoMem
         Command::CheckMachine => check_machine(alloc, text),
         Command::Make { limit } => make_text(alloc, limit, text),
         Command::Realize { limit } => realize_text(alloc, limit, text),
+        Command::Ask { form, limit } => ask(alloc, form, limit, text),
         Command::Gen { family, n } => generate(alloc, family, n),
         Command::Bench { family, n } => measure(alloc, family, n),
     }
