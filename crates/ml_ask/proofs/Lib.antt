@@ -1,0 +1,4 @@
+-- requirements that are taken
+pub mod Taken
+-- answers in order
+pub mod AnswersInOrder

@@ -121,7 +121,7 @@ fn seek_few(
     ensures taken { length taken.new.items ≡ length specification.now.items.items }
 {
     for _ in 0..=taken.len() {
-        match step(
+        match search_taken(
             alloc,
             specification,
             question,
@@ -138,7 +138,7 @@ fn seek_few(
 }
 
 // a search with the requirements that are taken, and what follows from it
-fn step(
+fn search_taken(
     alloc: Global,
     specification: &Specification,
     question: Question,
@@ -154,7 +154,7 @@ fn step(
     ensures { IfOk result (IsStep specification.now.logic specification.now.items.items question (is_in taken.now)) }
 {
     match decide_on(alloc, specification, taken, question, limit) {
-        Ok(Decision::Satisfiable(model)) => step_by(
+        Ok(Decision::Satisfiable(model)) => judge(
             alloc,
             specification,
             question,
@@ -169,7 +169,7 @@ fn step(
 }
 
 // what follows from a structure for the requirements that are taken
-fn step_by(
+fn judge(
     alloc: Global,
     specification: &Specification,
     question: Question,
