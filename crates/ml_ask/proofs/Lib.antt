@@ -2,3 +2,5 @@
 pub mod Taken
 -- answers in order
 pub mod AnswersInOrder
+-- what an answer says of requirements and structures
+pub mod RightAnswers

@@ -8,9 +8,9 @@
 --   numbers_more, next_taken, next_left, next_left_out == the numbers of requirements, with one item more
 --   refuted_less    == requirements that are refuted without one are refuted
 --   all_more        == what holds of all and of one more
-use Rattle.std.proofs.Common.{◌≡◌, ℕ, zero, suc, ◌+◌, ◌-◌, ◌<◌, ◌≤◌, ◌⊎◌, ◌==◌, Option, None, Some, slice_get, inl, inr, Bool, true, false, not, ◌&&◌, cond, List, [], ◌∷◌, ◌++◌, get_or, length, map, replicate, set, sum_by, take, refl, sym, ap, subst, ◌∙◌, arith, length-set, length-take}
+use Rattle.std.proofs.Common.{◌≡◌, ℕ, zero, suc, ◌+◌, ◌<◌, ◌≤◌, ◌⊎◌, ◌==◌, None, Some, slice_get, inl, inr, Bool, true, false, not, ◌&&◌, cond, List, [], ◌∷◌, ◌++◌, get_or, length, replicate, set, sum_by, take, refl, sym, ap, subst, ◌∙◌, arith, length-set, length-take}
 use Rattle.std.specs.List.{AllByRecursion}
-use Rattle.std.proofs.lemmas.List.{append-nil, get_or-replicate, get_or-set_other, get_or-set_same, map-append, take_more}
+use Rattle.std.proofs.lemmas.List.{append-nil, get_or-replicate, get_or-set_other, get_or-set_same, take_more}
 use Rattle.std.proofs.lemmas.Bool.{eqb-false, eqb-true}
 use Rattle.std.proofs.lemmas.List.Sums.{sum_by-set}
 use Rattle.std.proofs.lemmas.Option.{slice_get_cases}
@@ -18,11 +18,10 @@ use Rattle.ml_front.specs.Logics.{logic_of}
 use Rattle.ml_front.specs.declared.logic.Logic.{Logic}
 use Rattle.ml_spec.specs.Joined.{joined, requirements}
 use Rattle.ml_spec.specs.Kinds.{is_requirement}
-use Rattle.ml_spec.specs.Questions.{asked_by, chosen, chosen_from, is_in, joined_of, parts_of, IsQuestion}
+use Rattle.ml_spec.specs.Questions.{asked_by, chosen_from, is_in, joined_of, parts_of, IsQuestion}
 use Rattle.ml_spec.specs.Specification.{IsSpecified}
 use Rattle.ml_spec.specs.declared.question.Question.{Question}
 use Rattle.ml_spec.specs.declared.specification.Item.{Item}
-
 use Rattle.ml_spec.proofs.ChosenItems.{parts_in}
 use Rattle.ml_spec.proofs.JoinedTexts.{joined_logic}
 use Rattle.ml_refutation.specs.declared.refutation.Refutation.{Refutation}

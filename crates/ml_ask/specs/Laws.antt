@@ -1,19 +1,18 @@
 -- What holds of answers by their definitions.
 --
 --   YesIsMet   == where the answer is yes, all requirements can be met where the question is asked
---   NoIsRefuted == where it is no, its requirements can't be met together where the question is asked; without one that a structure
---                stands beside, they can
-use Rattle.std.specs.Prelude.{ℕ, ◌≡◌, List}
+--   NoIsRefuted == where it is no, its requirements can't be met together where the question is asked
+--   NeededOnesAre == without one beside which a structure stands, the others can
+use Rattle.std.specs.Prelude.{ℕ, List}
 use Rattle.ml_front.specs.declared.logic.Logic.{Logic}
 use Rattle.ml_kripke.specs.declared.model.Model.{Model}
 use Rattle.ml_spec.specs.Questions.{is_in}
 use Rattle.ml_spec.specs.declared.question.Question.{Question}
 use Rattle.ml_spec.specs.declared.specification.Item.{Item}
-use Rattle.ml_ask.specs.Answers.{IsAnswerOf, IsCoreOf, IsWithout}
+use Rattle.ml_ask.specs.Answers.{IsAnswerOf, IsWithout}
 use Rattle.ml_ask.specs.Meeting.{everything, without, CanMeet}
 use Rattle.ml_ask.specs.declared.answer.Answer.TheVariants.{Yes, No}
 use Rattle.ml_ask.specs.declared.answer.Core.{Core}
-use Rattle.ml_ask.specs.declared.answer.Part.{Part}
 use Rattle.ml_ask.specs.declared.answer.Without.TheVariants as rest
 
 abbrev pub YesIsMet : Type 0

@@ -94,7 +94,14 @@ fn leave_one(
     requires number { number < length specification.now.items.items }
     ensures { IsRefuted specification.now.logic specification.now.items.items question refuted.new }
 {
-    match look_without(alloc, specification, question, limit, &refuted.taken, number) {
+    match look_without(
+        alloc,
+        specification,
+        question,
+        limit,
+        &refuted.taken,
+        number,
+    ) {
         Ok(Look::Drop(refutation)) => {
             drop_one(refuted, number, refutation);
             Ok(())

@@ -16,6 +16,7 @@
 mod answer;
 mod asking;
 mod deciding;
+pub mod laws;
 mod leaving;
 mod seeking;
 

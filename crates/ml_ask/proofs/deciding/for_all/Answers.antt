@@ -1,4 +1,4 @@
-use Rattle.std.proofs.Common.{◌≡◌, ◌++◌, [], ◌∷◌, ap, ◌∙◌}
+use Rattle.std.proofs.Common.{◌++◌, [], ◌∷◌, ap, ◌∙◌}
 use Rattle.ml_ask.proofs.Taken.{filled}
 use Rattle.ml_ask.proofs.deciding.for_all.Goals as goal
 

@@ -1,8 +1,7 @@
-use Rattle.std.proofs.Common.{◌≡◌, ap, subst, sym, ◌∙◌}
+use Rattle.std.proofs.Common.{ap, subst, ◌∙◌}
 use Rattle.ml_front.specs.Logics.{logic_of}
 use Rattle.ml_front.specs.Problems.{HoldsAt, IsAdmitted}
 use Rattle.ml_spec.specs.Questions.{is_in}
-use Rattle.ml_ask.specs.Meeting.{problem_of}
 use Rattle.ml_ask.proofs.Taken.{joined_in}
 use Rattle.ml_ask.proofs.deciding.holds_on.Goals as goal
 

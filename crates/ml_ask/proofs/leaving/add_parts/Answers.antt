@@ -1,4 +1,4 @@
-use Rattle.std.proofs.Common.{◌≡◌, ◌<◌, ap, subst, sym, ◌∙◌, arith}
+use Rattle.std.proofs.Common.{◌<◌, subst, sym, arith}
 use Rattle.ml_spec.specs.Questions.{is_in}
 use Rattle.ml_ask.specs.private.Steps.{IsSmaller}
 use Rattle.ml_ask.proofs.Taken.{refuted_less, taken_count, taken_fewer}

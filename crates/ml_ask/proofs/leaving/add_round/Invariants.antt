@@ -9,5 +9,5 @@ abbrev pub invariant-loop-number : goal.invariant-loop-number
 invariant-loop-number l = record {
   are_parts : map (λ p. p.requirement) l.parts.items ≡ numbers_in (is_in l.taken) (take l.number l.specification.items.items);
   are_so : AllByRecursion
-    (IsWithout l.specification.logic l.specification.items.items l.question l.limit (is_in l.taken)) l.parts.items;
+      (IsWithout l.specification.logic l.specification.items.items l.question l.limit (is_in l.taken)) l.parts.items;
 }

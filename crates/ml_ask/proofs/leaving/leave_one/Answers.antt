@@ -1,4 +1,4 @@
-use Rattle.std.proofs.Common.{◌≡◌, ◌<◌, subst, sym, ◌∙◌, arith}
+use Rattle.std.proofs.Common.{subst, arith}
 use Rattle.ml_spec.specs.Questions.{is_in}
 use Rattle.ml_ask.specs.Meeting.{without}
 use Rattle.ml_ask.specs.private.Steps.{IsRefutedIn}

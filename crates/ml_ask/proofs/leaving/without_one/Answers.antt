@@ -1,4 +1,4 @@
-use Rattle.std.proofs.Common.{◌≡◌, ap, subst, ◌∙◌}
+use Rattle.std.proofs.Common.{ap, subst, ◌∙◌}
 use Rattle.std.proofs.lemmas.Result.{IfOk-weaker}
 use Rattle.ml_decide.specs.Decision.{IsDecided}
 use Rattle.ml_decide.specs.declared.way.Way.TheVariants.{Search}

@@ -1,4 +1,4 @@
-use Rattle.std.proofs.Common.{◌≡◌, subst, sym}
+use Rattle.std.proofs.Common.{subst, sym}
 use Rattle.ml_front.specs.Problems.{IsAdmitted}
 use Rattle.ml_ask.specs.Meeting.{everything}
 use Rattle.ml_ask.proofs.Taken.{joined_in}

@@ -1,4 +1,4 @@
-use Rattle.std.proofs.Common.{◌≡◌, subst}
+use Rattle.std.proofs.Common.{subst}
 use Rattle.ml_front.specs.Problems.{HoldsAt}
 use Rattle.ml_ask.proofs.Taken.{all_taken}
 use Rattle.ml_ask.proofs.seeking.next_step.Goals as goal

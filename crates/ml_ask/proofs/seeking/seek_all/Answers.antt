@@ -1,4 +1,4 @@
-use Rattle.std.proofs.Common.{◌≡◌, subst, sym, ap, ◌∙◌}
+use Rattle.std.proofs.Common.{subst, ◌∙◌}
 use Rattle.ml_decide.specs.Decision.{IsMetBy}
 use Rattle.ml_decide.specs.Limits.{StaysOpen}
 use Rattle.ml_ask.proofs.Taken.{all_taken}
