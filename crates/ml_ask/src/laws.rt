@@ -1,0 +1,12 @@
+// Laws over answers: no caller runs these functions, their contracts are the theorems.
+ghost use Rattle.ml_ask.specs.Laws.{NeededOnesAre, NoIsRefuted, YesIsMet};
+
+/// What an answer says of requirements and structures: where it is yes, all requirements can be met where the question is asked;
+/// where it is no, its requirements can't be, and without one beside which a structure stands the others can.
+///
+/// Does nothing when called.
+pub fn answers_are_right()
+    ensures yes { YesIsMet }
+    ensures no { NoIsRefuted }
+    ensures needed { NeededOnesAre }
+{}
