@@ -33,7 +33,7 @@ use std::fs;
 use std::io::Print;
 use std::rt::Files;
 
-const FILES: [&str; 47] = [
+const FILES: [&str; 49] = [
     "examples",
     "specifications",
     "patterns",
@@ -81,9 +81,18 @@ const FILES: [&str; 47] = [
     "made_tasks",
     "small_tasks_made",
     "literature_tasks",
+    "requirements",
+    "asked_specifications",
 ];
 
-const PAGES: [&str; 5] = ["GUIDE", "DOCUMENTS", "GAMES", "AUTOMATA", "REALIZE"];
+const PAGES: [&str; 6] = [
+    "GUIDE",
+    "REQUIREMENTS",
+    "DOCUMENTS",
+    "GAMES",
+    "AUTOMATA",
+    "REALIZE",
+];
 
 fn text_of<R: Files + AllocGlobal>(rt: &R, name: &str) -> Result<String, Failure> {
     let path = format!(in rt.alloc(); "rows/{name}.rows")?;

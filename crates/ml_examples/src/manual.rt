@@ -9,11 +9,12 @@ use std::fs;
 use std::io::Print;
 use std::rt::Files;
 
-const COMMANDS: [&str; 18] = [
+const COMMANDS: [&str; 19] = [
     "decide",
     "valid",
     "find",
     "prove",
+    "ask",
     "check-model",
     "check-refutation",
     "migrate",

@@ -3,11 +3,12 @@
 use std::io;
 
 // each command with its further words, and what it is for
-const CALLS: [&str; 18] = [
+const CALLS: [&str; 19] = [
     "find LOGIC [--limit N]    is the formula satisfiable?",
     "prove LOGIC [--limit N]   is the formula valid?",
     "decide LOGIC [--limit N]  as find, without a search",
     "valid LOGIC [--limit N]   as prove, without a search",
+    "ask [files] [--limit N]   the questions of a file of requirements",
     "check-model               does the document's problem hold at its start?",
     "check-refutation          is the document's refutation right?",
     "path                      a path of the document's structure that shows its formula",
