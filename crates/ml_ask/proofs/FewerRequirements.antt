@@ -144,12 +144,12 @@ one_kept : (P : AnyFormula → Type 0) (x : Item) (xs ys : List Item)
 one_kept P x xs ys go all =
     by (is_requirement x.kind) (filter (λ y. is_requirement y.kind) xs) (filter (λ y. is_requirement y.kind) ys) go all
   where
-    by : (c : Bool) (as bs : List Item)
-        → (AllByRecursion P (map (λ y. y.formula) as) → AllByRecursion P (map (λ y. y.formula) bs))
-        → AllByRecursion P (map (λ y. y.formula) (cond c (x ∷ as) as))
-        → AllByRecursion P (map (λ y. y.formula) (cond c (x ∷ bs) bs))
-    by true as bs go each = (each.0, go each.1)
-    by false as bs go each = go each
+    by : (c : Bool) (many few : List Item)
+        → (AllByRecursion P (map (λ y. y.formula) many) → AllByRecursion P (map (λ y. y.formula) few))
+        → AllByRecursion P (map (λ y. y.formula) (cond c (x ∷ many) many))
+        → AllByRecursion P (map (λ y. y.formula) (cond c (x ∷ few) few))
+    by true many few go each = (each.0, go each.1)
+    by false many few go each = go each
 
 fewer_from : (P : AnyFormula → Type 0) (S T : ℕ → Bool) (n : ℕ) (xs : List Item)
     → ((k : ℕ) → T k ≡ true → S k ≡ true)
@@ -205,6 +205,6 @@ fewer_met l xs q S T specified is fewer (m, admitted, (s, below, holds)) =
     )
 
 pub never_both : NeverBoth
-never_both l xs q n k m c specified is yes no =
-    no_is_refuted l xs q k c no
-    (fewer_met l xs q everything _ specified is (λ j here. refl) (yes_is_met l xs q n m yes))
+never_both l xs q n k m c specified is met refuted =
+    no_is_refuted l xs q k c refuted
+    (fewer_met l xs q everything _ specified is (λ j here. refl) (yes_is_met l xs q n m met))
