@@ -5,7 +5,7 @@
 --   all_truth, all_parts == joined formulas are true where each of them is
 --   fewer_chosen    == what holds of all requirements that are chosen by a set holds of those that fewer choose
 --   fewer_met       == fewer requirements can be met wherever more can
-use Rattle.std.proofs.Common.{◌≡◌, ℕ, ◌+◌, ◌<◌, Bool, true, false, ◌&&◌, cond, List, [], ◌∷◌, ◌++◌, filter, map, refl, sym, ap, subst, ◌∙◌}
+use Rattle.std.proofs.Common.{◌≡◌, ℕ, ◌+◌, ◌<◌, Bool, true, false, ◌&&◌, cond, List, [], ◌∷◌, ◌++◌, filter, map, refl, sym, subst, ◌∙◌}
 use Rattle.std.specs.List.{AllByRecursion}
 use Rattle.std.proofs.lemmas.Bool.{and_from, and_parts}
 use Rattle.ml_base.specs.Structure.{Structure, is_member}
@@ -25,15 +25,12 @@ use Rattle.ml_front.specs.declared.problem.AnyFormula.{AnyFormula}
 use Rattle.ml_front.specs.declared.problem.AnyFormula.TheVariants.{Mu, Pdl, Ctl, Ltl, Word}
 use Rattle.ml_spec.specs.Joined.{all_of, both, joined, requirements, truth}
 use Rattle.ml_spec.specs.Kinds.{is_requirement}
-use Rattle.ml_spec.specs.Questions.{asked_by, chosen, chosen_from, joined_of, parts_of, IsQuestion}
-use Rattle.ml_spec.specs.Specification.{IsSpecified}
-use Rattle.ml_spec.specs.declared.question.Question.{Question}
+use Rattle.ml_spec.specs.Questions.{asked_by, chosen, chosen_from, joined_of, parts_of}
 use Rattle.ml_spec.specs.declared.specification.Item.{Item}
 use Rattle.ml_spec.proofs.ChosenItems.{parts_in}
 use Rattle.ml_spec.proofs.JoinedSizes.{both_logic, AreOf}
-use Rattle.ml_ask.specs.Answers.{IsAnswerOf}
 use Rattle.ml_ask.specs.Laws.{FewerAreMet, NeverBoth}
-use Rattle.ml_ask.specs.Meeting.{everything, problem_of, CanMeet}
+use Rattle.ml_ask.specs.Meeting.{everything}
 use Rattle.ml_ask.proofs.RightAnswers.{no_is_refuted, yes_is_met}
 use Rattle.ml_ask.proofs.Taken.{joined_in}
 
@@ -197,8 +194,7 @@ fewer_met l xs q S T specified is fewer (m, admitted, (s, below, holds)) =
     (joined_parts m s below p l (parts_of S xs q) (parts_in l S xs specified q is) here) in
     joined_truth m s below p l (parts_of T xs q) (parts_in l T xs specified q is)
     (all_append (Truth m s below p) (requirements (chosen T xs)) (asked_by xs q)
-    (fewer_from (Truth m s below p) S T 0 xs fewer parts.0) parts.1) in
-    (
+    (fewer_from (Truth m s below p) S T 0 xs fewer parts.0) parts.1) in (
       m,
       subst (λ k. IsAdmitted k m) (f_of ∙ sym g_of) admitted,
       (s, below, carried m s below f g (f_of ∙ sym g_of) go holds),
