@@ -4,3 +4,5 @@ pub mod Taken
 pub mod AnswersInOrder
 -- what an answer says of requirements and structures
 pub mod RightAnswers
+-- fewer requirements can be met wherever more can
+pub mod FewerRequirements

@@ -8,7 +8,8 @@
 --   numbers_more, next_taken, next_left, next_left_out == the numbers of requirements, with one item more
 --   refuted_less    == requirements that are refuted without one are refuted
 --   all_more        == what holds of all and of one more
-use Rattle.std.proofs.Common.{◌≡◌, ℕ, zero, suc, ◌+◌, ◌<◌, ◌≤◌, ◌⊎◌, ◌==◌, None, Some, slice_get, inl, inr, Bool, true, false, not, ◌&&◌, cond, List, [], ◌∷◌, ◌++◌, get_or, length, replicate, set, sum_by, take, refl, sym, ap, subst, ◌∙◌, arith, length-set, length-take}
+use Rattle.std.proofs.Common.{◌≡◌, ℕ, zero, suc, ◌+◌, ◌<◌, ◌≤◌, ◌⊎◌, ◌==◌, None, Some, slice_get, inl, inr, Bool, true, false, not, ◌&&◌}
+use Rattle.std.proofs.Common.{cond, List, [], ◌∷◌, ◌++◌, get_or, length, replicate, set, sum_by, take, refl, sym, ap, subst, ◌∙◌, arith, length-set, length-take}
 use Rattle.std.specs.List.{AllByRecursion}
 use Rattle.std.proofs.lemmas.List.{append-nil, get_or-replicate, get_or-set_other, get_or-set_same, take_more}
 use Rattle.std.proofs.lemmas.Bool.{eqb-false, eqb-true}

@@ -9,7 +9,8 @@ use Rattle.ml_ask.specs.Meeting.{numbers_in}
 use Rattle.ml_ask.specs.declared.answer.Part.{Part}
 use Rattle.ml_ask.proofs.Taken.{all_more, next_left, next_left_out, next_taken}
 use Rattle.ml_ask.proofs.leaving.add_round.Goals as goal
-use Rattle.ml_ask.proofs.leaving.add_round.Goals.{then-taken-number+then-is_requirement+in_ok-without+in-Keep+in_ok-push-in-Keep, else-taken-number, else-taken-number-via-then-taken-number+else-is_requirement, else-taken-number-via-else-taken-number}
+use Rattle.ml_ask.proofs.leaving.add_round.Goals.{then-taken-number+then-is_requirement+in_ok-without+in-Keep+in_ok-push-in-Keep, else-taken-number}
+use Rattle.ml_ask.proofs.leaving.add_round.Goals.{else-taken-number-via-then-taken-number+else-is_requirement, else-taken-number-via-else-taken-number}
 
 pub loop-number-preserved : goal.loop-number-preserved
 loop-number-preserved c =
