@@ -1,0 +1,2 @@
+-- what is known while an answer is sought
+pub mod Steps
