@@ -50,12 +50,24 @@ fn add_answers(
     ensures { OnOk result (AreAnswers specification.now.logic specification.now.items.items limit answers.new.items) }
 {
     if has_requirements(&specification.items) {
-        let answered = question_answered(alloc, specification, Question::Consistent, limit)?;
+        let answered = question_answered(
+            alloc,
+            specification,
+            Question::Consistent,
+            limit,
+            answers,
+        )?;
         answers.push(answered)?;
     }
     for number in 0..specification.items.len() {
         if !specification.items[number].kind.is_requirement() {
-            let answered = question_answered(alloc, specification, Question::Asks(number), limit)?;
+            let answered = question_answered(
+                alloc,
+                specification,
+                Question::Asks(number),
+                limit,
+                answers,
+            )?;
             answers.push(answered)?;
         }
     }
@@ -74,6 +86,7 @@ fn question_answered(
     specification: &Specification,
     question: Question,
     limit: u32,
+    earlier: &[Answered],
 ) -> Result<Answered, NoMemory>
     requires specified { IsSpecified specification.now.logic specification.now.items.items }
     requires question { IsQuestion specification.now.items.items question }
@@ -81,7 +94,7 @@ fn question_answered(
     ensures question { IfOk result (λ a. a.question ≡ question) }
     ensures answer { IfOk result (λ a. IsAnswerOf specification.now.logic specification.now.items.items limit question a.answer) }
 {
-    let answer = answer_to(alloc, specification, question, limit)?;
+    let answer = answer_to(alloc, specification, question, limit, earlier)?;
     Ok(Answered { question, answer })
 }
 
@@ -90,13 +103,14 @@ fn answer_to(
     specification: &Specification,
     question: Question,
     limit: u32,
+    earlier: &[Answered],
 ) -> Result<Answer, NoMemory>
     requires specified { IsSpecified specification.now.logic specification.now.items.items }
     requires question { IsQuestion specification.now.items.items question }
     requires some { 1 ≤ limit }
     ensures { IfOk result (IsAnswerOf specification.now.logic specification.now.items.items limit question) }
 {
-    match seek(alloc, specification, question, limit)? {
+    match seek(alloc, specification, question, limit, earlier)? {
         Sought::Met(model) => Ok(Answer::Yes(model)),
         Sought::None(refuted) => {
             let core = needed(alloc, specification, question, limit, refuted)?;

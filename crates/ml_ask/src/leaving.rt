@@ -2,13 +2,13 @@
 //
 // Of requirements that can't be met together one is left out at a time, and stays out where the others can't be met together
 // either. Once none can be left out any more, each has a structure for the others, or that stays open.
-ghost use Rattle.std.specs.Prelude.{◌≡◌, ◌<◌, ◌≤◌, length, IfOk, MatchOption, OnOk};
+ghost use Rattle.std.specs.Prelude.{◌≡◌, ◌<◌, ◌≤◌, false, length, slice_set, IfOk, MatchOption, OnOk};
 ghost use Rattle.ml_decide.specs.Decision.{IsDecided};
 ghost use Rattle.ml_spec.specs.Questions.{is_in, IsQuestion};
 ghost use Rattle.ml_spec.specs.Specification.{IsSpecified};
 ghost use Rattle.ml_ask.specs.Answers.{IsCoreOf};
 ghost use Rattle.ml_ask.specs.Meeting.{problem_of, without};
-ghost use Rattle.ml_ask.specs.private.Steps.{ArePartsOf, IsRefuted, IsSmaller};
+ghost use Rattle.ml_ask.specs.private.Steps.{ArePartsOf, IsLook, IsRefuted, IsSmaller};
 
 use crate::answer::{Core, Part, Without};
 use crate::deciding::{decide_on, left_out};
@@ -72,23 +72,87 @@ fn leave_out(
 {
     for number in 0..specification.items.len() {
         if refuted.taken[number] && specification.items[number].kind.is_requirement() {
-            match without_one(
-                alloc,
-                specification,
-                question,
-                limit,
-                &refuted.taken,
-                number,
-            )? {
-                Decision::Unsatisfiable(refutation) => {
-                    refuted.taken[number] = false;
-                    refuted.refutation = refutation;
-                }
-                Decision::Satisfiable(_) | Decision::Undecided(_) => {}
-            }
+            leave_one(alloc, specification, question, limit, refuted, number)?;
         }
     }
     Ok(())
+}
+
+// leaves out a requirement, where the others have no structure
+fn leave_one(
+    alloc: Global,
+    specification: &Specification,
+    question: Question,
+    limit: u32,
+    refuted: &mut Refuted,
+    number: usize,
+) -> Result<(), NoMemory>
+    requires specified { IsSpecified specification.now.logic specification.now.items.items }
+    requires question { IsQuestion specification.now.items.items question }
+    requires some { 1 ≤ limit }
+    requires refuted { IsRefuted specification.now.logic specification.now.items.items question refuted.old }
+    requires number { number < length specification.now.items.items }
+    ensures { IsRefuted specification.now.logic specification.now.items.items question refuted.new }
+{
+    match look_without(
+        alloc,
+        specification,
+        question,
+        limit,
+        &refuted.taken,
+        number,
+    ) {
+        Ok(Look::Drop(refutation)) => {
+            drop_one(refuted, number, refutation);
+            Ok(())
+        }
+        Ok(Look::Keep(_)) => Ok(()),
+        Err(NoMemory) => Err(NoMemory),
+    }
+}
+
+// leaves out the requirement with this number, where this refutes the others
+fn drop_one(refuted: &mut Refuted, number: usize, refutation: Refutation)
+    requires { number < length refuted.old.taken.items }
+    ensures taken { refuted.new.taken.items ≡ slice_set refuted.old.taken.items number false }
+    ensures refutation { refuted.new.refutation ≡ refutation }
+{
+    refuted.taken[number] = false;
+    refuted.refutation = refutation;
+}
+
+// What is found without a requirement.
+#[derive(Drop)]
+enum Look {
+    // it is needed, as far as is known
+    Keep(Without),
+    // the others have no structure either
+    Drop(Refutation),
+}
+
+// what is found of these requirements without one
+fn look_without(
+    alloc: Global,
+    specification: &Specification,
+    question: Question,
+    limit: u32,
+    taken: &[bool],
+    number: usize,
+) -> Result<Look, NoMemory>
+    requires specified { IsSpecified specification.now.logic specification.now.items.items }
+    requires question { IsQuestion specification.now.items.items question }
+    requires some { 1 ≤ limit }
+    requires taken { length taken.now ≡ length specification.now.items.items }
+    requires number { number < length taken.now }
+    ensures { IfOk result (IsLook specification.now.logic specification.now.items.items question limit
+        (without (is_in taken.now) number)) }
+{
+    match without_one(alloc, specification, question, limit, taken, number) {
+        Ok(Decision::Satisfiable(model)) => Ok(Look::Keep(Without::Met(model))),
+        Ok(Decision::Undecided(cause)) => Ok(Look::Keep(Without::Open(cause))),
+        Ok(Decision::Unsatisfiable(refutation)) => Ok(Look::Drop(refutation)),
+        Err(NoMemory) => Err(NoMemory),
+    }
 }
 
 // what is decided of these requirements without one
@@ -137,8 +201,7 @@ fn add_parts(
         &refuted.taken,
         parts,
     )? {
-        refuted.taken[number] = false;
-        refuted.refutation = refutation;
+        drop_one(refuted, number, refutation);
     }
     Ok(())
 }
@@ -163,15 +226,13 @@ fn add_round(
     parts.clear();
     for number in 0..specification.items.len() {
         if taken[number] && specification.items[number].kind.is_requirement() {
-            let without = match without_one(alloc, specification, question, limit, taken, number)? {
-                Decision::Satisfiable(model) => Without::Met(model),
-                Decision::Undecided(cause) => Without::Open(cause),
-                Decision::Unsatisfiable(refutation) => return Ok(Some((number, refutation))),
-            };
-            parts.push(Part {
-                requirement: number,
-                without,
-            })?;
+            match look_without(alloc, specification, question, limit, taken, number)? {
+                Look::Keep(without) => parts.push(Part {
+                    requirement: number,
+                    without,
+                })?,
+                Look::Drop(refutation) => return Ok(Some((number, refutation))),
+            }
         }
     }
     Ok(None)

@@ -1,6 +1,6 @@
 // A structure for all requirements, or some that have none.
 //
-// Few requirements are tried first. A structure for those that are taken is checked for all; where it isn't one, a requirement is
+// Few requirements are tried first, and those with which structures of earlier answers are at odds. A structure for those that are taken is checked for all; where it isn't one, a requirement is
 // taken that it doesn't meet beside them, the smallest. Where that leads no further, all are tried.
 ghost use Rattle.std.specs.Prelude.{◌≡◌, ◌<◌, ◌≤◌, true, length, replicate, IfOk, IfSome, MatchOption};
 ghost use Rattle.ml_spec.specs.Questions.{is_in, IsQuestion};
@@ -9,6 +9,7 @@ ghost use Rattle.ml_decide.specs.Decision.{IsMetBy};
 ghost use Rattle.ml_ask.specs.Meeting.{everything, problem_of};
 ghost use Rattle.ml_ask.specs.private.Steps.{HoldsIn, IsSought, IsStep};
 
+use crate::answer::{Answer, Answered};
 use crate::deciding::{decide_on, for_all, holds_on};
 use ml_base::NoMemory;
 use ml_decide::{Cause, Decision};
@@ -63,6 +64,7 @@ pub(crate) fn seek(
     specification: &Specification,
     question: Question,
     limit: u32,
+    earlier: &[Answered],
 ) -> Result<Sought, NoMemory>
     requires specified { IsSpecified specification.now.logic specification.now.items.items }
     requires question { IsQuestion specification.now.items.items question }
@@ -71,11 +73,54 @@ pub(crate) fn seek(
 {
     let all = for_all(alloc, specification.items.len(), true)?;
     let mut taken = for_all(alloc, specification.items.len(), false)?;
+    take_by_earlier(alloc, specification, question, &mut taken, earlier)?;
     match seek_few(alloc, specification, question, limit, &all, &mut taken)? {
         Step::Met(model) => Ok(Sought::Met(model)),
         Step::None(refutation) => Ok(Sought::None(Refuted { taken, refutation })),
         Step::Take(_) | Step::GiveUp => seek_all(alloc, specification, question, limit, all),
     }
+}
+
+// Takes requirements that structures of earlier answers don't meet beside those that are taken.
+fn take_by_earlier(
+    alloc: Global,
+    specification: &Specification,
+    question: Question,
+    taken: &mut Vec<bool>,
+    earlier: &[Answered],
+) -> Result<(), NoMemory>
+    requires specified { IsSpecified specification.now.logic specification.now.items.items }
+    requires question { IsQuestion specification.now.items.items question }
+    requires taken { length taken.old.items ≡ length specification.now.items.items }
+    ensures { length taken.new.items ≡ length specification.now.items.items }
+{
+    for answered in earlier {
+        if let Answer::Yes(model) = &answered.answer {
+            take_by(alloc, specification, question, taken, model)?;
+        }
+    }
+    Ok(())
+}
+
+// Takes a requirement that the model doesn't meet beside those that are taken, if it meets these.
+fn take_by(
+    alloc: Global,
+    specification: &Specification,
+    question: Question,
+    taken: &mut Vec<bool>,
+    model: &Model,
+) -> Result<(), NoMemory>
+    requires specified { IsSpecified specification.now.logic specification.now.items.items }
+    requires question { IsQuestion specification.now.items.items question }
+    requires taken { length taken.old.items ≡ length specification.now.items.items }
+    ensures { length taken.new.items ≡ length specification.now.items.items }
+{
+    if holds_on(alloc, specification, taken, question, model)? {
+        if let Some(number) = smallest_unmet(alloc, specification, question, taken, model)? {
+            taken[number] = true;
+        }
+    }
+    Ok(())
 }
 
 // by a search with all requirements
@@ -103,7 +148,7 @@ fn seek_all(
     }
 }
 
-// by searches with few requirements, of which none is taken at first
+// by searches with few requirements, which go on from those that are taken
 fn seek_few(
     alloc: Global,
     specification: &Specification,
@@ -121,7 +166,7 @@ fn seek_few(
     ensures taken { length taken.new.items ≡ length specification.now.items.items }
 {
     for _ in 0..=taken.len() {
-        match step(
+        match search_taken(
             alloc,
             specification,
             question,
@@ -138,7 +183,7 @@ fn seek_few(
 }
 
 // a search with the requirements that are taken, and what follows from it
-fn step(
+fn search_taken(
     alloc: Global,
     specification: &Specification,
     question: Question,
@@ -154,7 +199,7 @@ fn step(
     ensures { IfOk result (IsStep specification.now.logic specification.now.items.items question (is_in taken.now)) }
 {
     match decide_on(alloc, specification, taken, question, limit) {
-        Ok(Decision::Satisfiable(model)) => step_by(
+        Ok(Decision::Satisfiable(model)) => judge(
             alloc,
             specification,
             question,
@@ -169,7 +214,7 @@ fn step(
 }
 
 // what follows from a structure for the requirements that are taken
-fn step_by(
+fn judge(
     alloc: Global,
     specification: &Specification,
     question: Question,

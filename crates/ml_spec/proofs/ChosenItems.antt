@@ -6,7 +6,8 @@
 --   chosen_total   == their requirements' total is no larger than that of all
 --   all_total      == which is small
 --   parts_in, parts_small == what is joined for a question is of the logic, and small
-use Rattle.std.proofs.Common.{◌≡◌, ℕ, suc, ◌+◌, ◌<◌, ◌≤◌, ◌⊎◌, inl, inr, Bool, true, false, ◌&&◌, cond, List, [], ◌∷◌, ◌++◌, drop, filter, get_or, length, map, take, None, Some, slice_get, refl, sym, ap, subst, ◌∙◌, arith, append_assoc, length-take}
+use Rattle.std.proofs.Common.{◌≡◌, ℕ, suc, ◌+◌, ◌<◌, ◌≤◌, ◌⊎◌, inl, inr, Bool, true, false, ◌&&◌, cond, List, [], ◌∷◌}
+use Rattle.std.proofs.Common.{◌++◌, drop, filter, get_or, length, map, take, None, Some, slice_get, refl, sym, ap, subst, ◌∙◌, arith, append_assoc, length-take}
 use Rattle.std.proofs.lemmas.List.{append-nil, drop_more, map-append, take-append-drop, take_more}
 use Rattle.std.proofs.lemmas.List.Elements.{filter-append}
 use Rattle.std.proofs.lemmas.List.Sums.{sum_by-cons}

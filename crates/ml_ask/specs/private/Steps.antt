@@ -4,6 +4,7 @@
 --   IsRefuted l xs q r   == the requirements of r can't be met together where q is asked
 --   IsSought l xs q n s  == s is what was sought: a structure for all requirements, requirements that have none, or open
 --   IsStep l xs q S s    == what one step comes to, where the requirements in S were taken so far
+--   IsLook l xs q n S k  == what is found of the requirements in S: a structure, or they stay open; or a refutation
 --   ArePartsOf l xs q n S ps == the parts are the requirements in S, in order, and what each says is so
 --   IsSmaller l xs q S r == of the requirements in S one may be left out: the others can't be met together either
 use Rattle.std.specs.Prelude.{ℕ, ◌≡◌, ◌<◌, ⊤, Bool, true, List, length, map}
@@ -18,9 +19,11 @@ use Rattle.ml_refutation.specs.declared.refutation.Refutation.{Refutation}
 use Rattle.ml_spec.specs.Questions.{is_in}
 use Rattle.ml_spec.specs.declared.question.Question.{Question}
 use Rattle.ml_spec.specs.declared.specification.Item.{Item}
-use Rattle.ml_ask.specs.Answers.{IsWithout}
+use Rattle.ml_ask.specs.Answers.{IsWithout, IsWithoutBy}
 use Rattle.ml_ask.specs.Meeting.{everything, numbers_in, problem_of, without}
 use Rattle.ml_ask.specs.declared.answer.Part.{Part}
+use Rattle.ml_ask.specs.declared.leaving.Look.{Look}
+use Rattle.ml_ask.specs.declared.leaving.Look.TheVariants as look
 use Rattle.ml_ask.specs.declared.seeking.Refuted.{Refuted}
 use Rattle.ml_ask.specs.declared.seeking.Sought.{Sought}
 use Rattle.ml_ask.specs.declared.seeking.Sought.TheVariants as sought
@@ -48,6 +51,10 @@ IsStep l xs q S (step.Met m) = IsMetBy (problem_of l xs everything q) m.structur
 IsStep l xs q S (step.None r) = IsRefutedIn l xs S q r
 IsStep l xs q S (step.Take k) = k < length xs
 IsStep l xs q S step.GiveUp = ⊤
+
+abbrev pub IsLook : Logic → List Item → Question → ℕ → (ℕ → Bool) → Look → Type 0
+IsLook l xs q n S (look.Keep w) = IsWithoutBy l xs q n S w
+IsLook l xs q n S (look.Drop r) = IsRefutedIn l xs S q r
 
 pub record IsSmaller (l : Logic) (xs : List Item) (q : Question) (S : ℕ → Bool) (k : ℕ) (r : Refutation) : Type 0 where
   pub within : k < length xs
