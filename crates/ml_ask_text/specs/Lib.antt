@@ -1,0 +1,12 @@
+-- answers as plain values
+pub mod Replies
+-- their lines
+pub mod Lines
+-- their documents
+pub mod Files
+-- what is told of a text
+pub mod Told
+-- what is true of it
+pub mod Laws
+-- what only private contracts cite
+pub mod private

@@ -1,0 +1,27 @@
+// Laws over the definitions alone: no caller runs these functions, their contracts are the theorems.
+ghost use Rattle.ml_ask_text.specs.Laws.{FilesAreConfirmed, SomeTold, ToldAlike};
+
+/// Something is told of each text, in each form and for each limit of 32 bits: so `ask_text` may always answer, but for want of
+/// memory.
+///
+/// Does nothing when called.
+pub fn something_told()
+    ensures { SomeTold }
+{}
+
+/// Of two things that are told of one text both are refusals, by the same rule at the same line and column; or both are answers, and
+/// never does one say that all is as it is meant and the other that something is against it. So `ask_text` answers and refuses
+/// exactly where it is said to.
+///
+/// Does nothing when called.
+pub fn told_alike()
+    ensures { ToldAlike }
+{}
+
+/// Of the documents that are told in files each with a structure is answered `Holds` by `ml_model_check::check_document`, and each
+/// with a refutation `Accepted` by `ml_refute_check::check`, unless the closure of its problem is too large to be checked.
+///
+/// Does nothing when called.
+pub fn files_are_confirmed()
+    ensures { FilesAreConfirmed }
+{}

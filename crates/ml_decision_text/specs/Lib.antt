@@ -1,0 +1,2 @@
+-- documents of decisions
+pub mod Documents
