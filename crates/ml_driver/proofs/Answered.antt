@@ -19,7 +19,7 @@ use Rattle.ml_decide.specs.declared.deciding.Decision.{Decision}
 use Rattle.ml_decide.specs.declared.deciding.Decision.TheVariants as decision
 use Rattle.ml_model_check.specs.WrittenDocument.{satisfiable_document}
 use Rattle.ml_driver.specs.Decision.{IsAnswered, IsProblem, LeftOpen, Refuted, Satisfied, if_open, if_refuted, if_satisfied}
-use Rattle.ml_driver.specs.Documents.{undecided_document}
+use Rattle.ml_decision_text.specs.Documents.{undecided_document}
 use Rattle.ml_driver.specs.declared.question.Question.{Question}
 use Rattle.ml_driver.specs.private.Decisions.{IsDocumentFor, status_in}
 

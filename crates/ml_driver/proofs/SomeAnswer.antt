@@ -19,7 +19,7 @@ use Rattle.ml_decide.proofs.SomeDecision.{some_decision}
 use Rattle.ml_decide.specs.Laws.{HasAnswer, by_refutation, by_structure, left_open}
 use Rattle.ml_model_check.specs.WrittenDocument.{satisfiable_document}
 use Rattle.ml_driver.specs.Decision.{IsAnswered, IsProblem, if_open, if_refused, if_refuted, if_satisfied}
-use Rattle.ml_driver.specs.Documents.{undecided_document}
+use Rattle.ml_decision_text.specs.Documents.{undecided_document}
 use Rattle.ml_driver.specs.Statuses.{refusal_line}
 use Rattle.ml_driver.specs.declared.question.Question.{Question}
 use Rattle.ml_driver.specs.declared.status.Status.{Status}

@@ -31,7 +31,7 @@ use Rattle.ml_model_check.specs.WrittenDocument.{satisfiable_document}
 use Rattle.ml_driver.specs.declared.question.Question.{Question}
 use Rattle.ml_driver.specs.declared.status.Status.{Status}
 use Rattle.ml_driver.specs.declared.status.Status.TheVariants.{Yes, No, Undecided, Text}
-use Rattle.ml_driver.specs.Documents.{undecided_document}
+use Rattle.ml_decision_text.specs.Documents.{undecided_document}
 use Rattle.ml_driver.specs.Statuses.{refusal_line}
 
 pub record IsProblem (q : Question) (text : List ℕ) (p : Problem) : Type 0 where

@@ -2,8 +2,6 @@
 pub mod Codes
 -- the words of the command line
 pub mod Words
--- documents
-pub mod Documents
 -- the exit statuses
 pub mod Statuses
 -- documents with a structure made smaller

@@ -1,18 +1,12 @@
 // The documents that are written.
-ghost use Rattle.std.specs.Prelude.{◌≡◌, ◌++◌, IfOk, OnOk};
-ghost use Rattle.ml_lines.specs.Lines.{line_text};
-ghost use Rattle.ml_refutation.specs.Views.{of_parts};
-ghost use Rattle.ml_refute_check.specs.WrittenDocument.{document_of};
-ghost use Rattle.ml_driver.specs.Documents as documents;
+ghost use Rattle.std.specs.Prelude.{IfOk};
 ghost use Rattle.ml_driver.specs.private.Decisions.{IsDocumentFor};
 
-use ml_base::{NoMemory, Version};
-use ml_decide::{Cause, Decision};
-use ml_front::{Answer, MOST_NODES, Problem, append_head};
-use ml_lines::{end_line, write_next_number, write_next_word, write_word};
+use ml_base::NoMemory;
+use ml_decide::Decision;
+use ml_decision_text::{write_refuted, write_undecided};
+use ml_front::Problem;
 use ml_model_check::write_document;
-use ml_refutation::Refutation;
-use ml_refutation_text::append_refutation;
 use std::alloc::Global;
 
 // the document of a decision
@@ -25,50 +19,7 @@ pub(crate) fn document(
 {
     match decision {
         Decision::Satisfiable(model) => write_document(alloc, problem, model),
-        Decision::Unsatisfiable(refutation) => unsatisfiable(alloc, problem, refutation),
-        Decision::Undecided(cause) => undecided(alloc, problem, *cause),
+        Decision::Unsatisfiable(refutation) => write_refuted(alloc, problem, refutation),
+        Decision::Undecided(cause) => write_undecided(alloc, problem, *cause),
     }
-}
-
-// the one with a refutation
-fn unsatisfiable(
-    alloc: Global,
-    problem: &Problem,
-    refutation: &Refutation,
-) -> Result<Vec<u8>, NoMemory>
-    ensures { IfOk result (λ output.
-        output.items ≡ document_of problem.now (of_parts refutation.now.names refutation.now.sequents refutation.now.stacks refutation.now.entries)) }
-{
-    let mut output = Vec::new(alloc);
-    append_head(&mut output, problem, Answer::Unsatisfiable)?;
-    append_refutation(alloc, &mut output, refutation, Version::Two)?;
-    Ok(output)
-}
-
-fn undecided(alloc: Global, problem: &Problem, cause: Cause) -> Result<Vec<u8>, NoMemory>
-    ensures { IfOk result (λ output. output.items ≡ documents.undecided_document problem.now cause) }
-{
-    let mut output = Vec::new(alloc);
-    append_head(&mut output, problem, Answer::Undecided)?;
-    append_cause(&mut output, cause)?;
-    write_word(&mut output, b"end")?;
-    end_line(&mut output)?;
-    Ok(output)
-}
-
-fn append_cause(output: &mut Vec<u8>, cause: Cause) -> Result<(), NoMemory>
-    ensures { OnOk result (output.new.items ≡ output.old.items ++ line_text (documents.cause_line cause)) }
-{
-    write_word(output, b"cause")?;
-    match cause {
-        Cause::Positions(limit) => {
-            write_next_word(output, b"positions")?;
-            write_next_number(output, u64::from(limit))?;
-        }
-        Cause::Closure => {
-            write_next_word(output, b"closure")?;
-            write_next_number(output, u64::from(MOST_NODES))?;
-        }
-    }
-    end_line(output)
 }

@@ -13,7 +13,7 @@ use Rattle.ml_decide.specs.declared.deciding.Decision.TheVariants as decision
 use Rattle.ml_model_check.specs.WrittenDocument.{satisfiable_document}
 use Rattle.ml_driver.specs.declared.status.Status.{Status}
 use Rattle.ml_driver.specs.declared.status.Status.TheVariants as status
-use Rattle.ml_driver.specs.Documents.{undecided_document}
+use Rattle.ml_decision_text.specs.Documents.{undecided_document}
 
 abbrev pub IsDocumentFor : Problem → Decision → List ℕ → Type 0
 IsDocumentFor p (decision.Satisfiable m) out =
