@@ -37,7 +37,7 @@ use Rattle.ml_driver.proofs.MadeAnswers.{calm_made}
 use Rattle.ml_driver.proofs.PathAnswers.{calm_path}
 use Rattle.ml_driver.specs.Codes.{code_of}
 use Rattle.ml_driver.specs.Run.{asked, input_limit, GaveUpTo, IsAnswer, IsCalm, IsDue, LackedMemory}
-use Rattle.ml_driver.specs.Run.{World, WasGiven, IsWhole, Answered, FailedToWrite, Ended, Wrote}
+use Rattle.ml_driver.specs.Run.{World, IsWithin, WasGiven, IsWhole, Answered, FailedToWrite, Ended, Wrote}
 
 -- ---- statuses
 
@@ -183,6 +183,26 @@ pub given_past : (c : Command) (k : ℕ) (before after : Option (List ℕ)) (tex
     → WasGiven (longest_input c) before after text
 given_past c k before after text is gave long =
     subst (λ o. WasGiven o before after text) (sym is) (gave, inr long)
+
+gave_within : (o : Option ℕ) (before after : Option (List ℕ)) (text : List ℕ)
+    → WasGiven o before after text
+    → IfSome o (λ n. length text ≤ n)
+    → GaveUpTo o before after
+gave_within None before after text given fits = given.0
+gave_within (Some n) before after text given fits = (text, given.0, fits)
+
+-- what was read is gone where memory is wanting behind it
+pub lacking : (c : Command) (w : World) (text : List ℕ)
+    → WasGiven (longest_input c) w.left_before w.left_after text
+    → IsWithin c text
+    → w.taken_after ≡ w.taken_before
+    → IsCalm w
+    → LackedMemory (Some c) w
+lacking c w text given fits nothing calm = record {
+  gave_at_most = gave_within (longest_input c) w.left_before w.left_after text given fits;
+  nothing_taken = nothing;
+  is_calm = calm;
+}
 
 -- ---- where nothing is read
 

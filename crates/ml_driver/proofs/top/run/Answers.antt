@@ -3,7 +3,8 @@ use Rattle.std.proofs.Common.{◌<◌, [], None, Some, inl, refl, sym, ◌∙◌
 use Rattle.ml_lines.specs.Lines.{line_text}
 use Rattle.ml_driver.specs.Statuses.{length_refused, words_refused}
 use Rattle.ml_driver.specs.Run.{IsAnswer, IsWhole, Wrote}
-use Rattle.ml_driver.proofs.Endings.{ended_written, ended_with, given_past, too_long_due, unread}
+use Rattle.ml_driver.proofs.Endings.{ended_written, ended_with, given_past, lacking, too_long_due, unread}
+use Rattle.ml_driver.specs.declared.status.Status.TheVariants as status
 use Rattle.ml_driver.proofs.top.run.Goals as goal
 
 pub returns-in-Ok-None : goal.returns-in-Ok-None
@@ -45,3 +46,10 @@ returns-in-Ok-outcome g c =
 
 pub returns-in-Err : goal.returns-in-Err
 returns-in-Err g c = unread _ _ refl refl (record { source_is_calm = refl; sink_is_calm = refl })
+
+pub returns : goal.returns
+returns g c =
+    let command = c.in-Ok-Some.command in
+    ended_with (Some command) _ _ status.NoMemory (sym c.in-Ok-Some.ensures.command ∙ c.in-Ok-Some.field-0-is)
+    (lacking command _ c.in-Ok.text.items c.in-Ok.ensures.given c.in-Ok.ensures.fits refl
+    (record { source_is_calm = c.in-Ok.ensures.calm; sink_is_calm = refl }))
