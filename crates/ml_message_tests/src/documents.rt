@@ -18,7 +18,7 @@ const ROWS: [(&str, &[u8], &[u8], &str); 20] = [
         "check-model",
         b"mlsolver 2\nanswer satisfiable\nlogic mu\nsense plain\nformula p &\nstates 1\n",
         b"refused document line 5 rule 2\n",
-        "line 5, column 12: the formula isn't whole; expected: a proposition, a variable, `tt`, `ff`, `!`, `(`, `<`, `[`, `mu`, `nu`",
+        "line 5, column 12: the formula ends too soon; expected: a proposition, a variable, `tt`, `ff`, `!`, `(`, `<`, `[`, `mu`, `nu`",
     ),
     (
         "check-model",
@@ -30,7 +30,7 @@ const ROWS: [(&str, &[u8], &[u8], &str); 20] = [
         "check-model",
         b"mlsolver 2\nanswer satisfiable\nlogic mu\nsense plain\nformula p\nstates 1\nstart 1\n",
         b"refused document line 7 rule 14\n",
-        "line 7: `start 1`: the start isn't below the number of states",
+        "line 7: `start 1`: states are numbered from 0, so the start has to be below their number",
     ),
     (
         "check-model",
@@ -84,13 +84,13 @@ const ROWS: [(&str, &[u8], &[u8], &str); 20] = [
         "realize",
         b"inputs r\noutputs g\nformula G(r -> \n",
         b"refused document line 3 rule 45\n",
-        "line 3, column 16: the formula isn't whole; expected: a proposition, `tt`, `ff`, `!`, `(`, `X`, `F`, `G`",
+        "line 3, column 16: the formula ends too soon; expected: a proposition, `tt`, `ff`, `!`, `(`, `X`, `F`, `G`",
     ),
     (
         "realize",
         b"inputs r\n",
         b"refused document line 2 rule 41\n",
-        "line 2 is missing, or has no line end: expected: `outputs` and names, each behind one blank",
+        "line 2 is missing, or has no line end: expected: `outputs` and names, with one blank in front of each",
     ),
     (
         "solve-game",
@@ -108,19 +108,19 @@ const ROWS: [(&str, &[u8], &[u8], &str); 20] = [
         "check-game",
         b"0 0 0 0; paritysol; 0 0;",
         b"rejected vertex 0 rule 1\n",
-        "its winner owns it, and its entry has no move",
+        "the winner of this vertex owns it, so its entry needs a move",
     ),
     (
         "determinise",
         b"HOA: v2",
         b"refused automaton rule 1 at 5\n",
-        "line 1, column 6: `v2` isn't expected here",
+        "line 1, column 6: `v2` isn't expected here; docs/AUTOMATA.md says which part of HOA is read",
     ),
     (
         "ask",
         b"logic ltl\nrequire a p\n",
         b"refused line 2 column 11 rule 64\n",
-        "line 2, column 11: a colon is missing behind the name",
+        "line 2, column 11: a colon belongs here, between the name and the formula",
     ),
     (
         "find",

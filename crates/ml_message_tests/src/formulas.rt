@@ -31,7 +31,7 @@ const ROWS: [(&str, &[u8], &[u8], &str); 14] = [
         "word",
         b"G(p",
         b"refused text rule 1 at 3\n",
-        "line 1, column 4: the formula isn't whole; expected: `)`, `&`, `|`, `->`, `<->`, `U`, `R`, `W`",
+        "line 1, column 4: the formula ends too soon; expected: `)`, `&`, `|`, `->`, `<->`, `U`, `R`, `W`",
     ),
     (
         "ctl",
@@ -43,7 +43,7 @@ const ROWS: [(&str, &[u8], &[u8], &str); 14] = [
         "mu",
         b"<p",
         b"refused text rule 1 at 2\n",
-        "line 1, column 3: the formula isn't whole; expected: `>`",
+        "line 1, column 3: the formula ends too soon; expected: `>`",
     ),
     (
         "mu",
@@ -79,19 +79,19 @@ const ROWS: [(&str, &[u8], &[u8], &str); 14] = [
         "mu",
         b"mu X. !X",
         b"refused text rule 3 at 7\n",
-        "line 1, column 8: the variable `X` stands under an odd number of negations, or beside `<->`, within its `mu` or `nu`",
+        "line 1, column 8: between the variable `X` and its `mu` or `nu` there is a `<->`, or an odd number of negations (the left side of `->` counts as one)",
     ),
     (
         "mu",
         b"p & q",
         b"refused text rule 4 at 4\n",
-        "line 1, column 5: here the formula passes 1,000 occurrences",
+        "line 1, column 5: here the formula passes 1,000 occurrences of operators and names (`<->` counts as three)",
     ),
     (
         "mu",
         b"((p))",
         b"refused text rule 5 at 1\n",
-        "line 1, column 2: here 1,001 parentheses are open at a time",
+        "line 1, column 2: here more than 1,000 parentheses are open",
     ),
     (
         "mu",

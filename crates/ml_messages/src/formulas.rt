@@ -27,10 +27,13 @@ pub(crate) fn formula_fault(
         1 => syntax_fault(alloc, logic, front, found),
         2 => format!(in alloc; "the variable {name} has no `mu` or `nu` around it"),
         3 => format!(in alloc;
-            "the variable {name} stands under an odd number of negations, or beside `<->`, within its `mu` or `nu`"
+            "between the variable {name} and its `mu` or `nu` there is a `<->`, or an odd number of negations (the left side of `->` counts as one)"
         ),
-        4 => String::from_str(alloc, "here the formula passes 1,000 occurrences"),
-        5 => String::from_str(alloc, "here 1,001 parentheses are open at a time"),
+        4 => String::from_str(
+            alloc,
+            "here the formula passes 1,000 occurrences of operators and names (`<->` counts as three)",
+        ),
+        5 => String::from_str(alloc, "here more than 1,000 parentheses are open"),
         _ => String::from_str(alloc, "this name has more than 64 bytes"),
     }
 }
@@ -47,7 +50,7 @@ fn syntax_fault(
         String::new(alloc)
     };
     let cause = if found.is_empty() {
-        String::from_str(alloc, "the formula isn't whole")?
+        String::from_str(alloc, "the formula ends too soon")?
     } else {
         let name = shown(alloc, found)?;
         format!(in alloc; "{name} isn't expected here")?

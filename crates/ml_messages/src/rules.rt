@@ -16,11 +16,12 @@ pub(crate) enum Shape {
 /// How the text of a game, with or without a solution, breaks the rule.
 pub(crate) fn of_game(rule: u32) -> &'static str {
     match rule {
-        1 => "isn't expected here",
-        2 => "is a vertex that came before",
+        1 =>
+            "isn't expected here; a vertex looks like `3 5 0 1,2;` (id, priority, owner, successors), and an entry of a solution like `3 0 1;` (id, winner, move)",
+        2 => "is the id of an earlier vertex or entry",
         3 => "is no vertex of the game",
         4 =>
-            "is one vertex or successor too many: a game has at most 200,000 vertices and 2,000,000 successors",
+            "is one too many: a game has at most 200,000 vertices and 2,000,000 successors, and a solution at most 200,000 entries",
         _ => "is above 4,294,967,294",
     }
 }
@@ -28,35 +29,39 @@ pub(crate) fn of_game(rule: u32) -> &'static str {
 /// How the text of an automaton breaks the rule.
 pub(crate) fn of_automaton(rule: u32) -> &'static str {
     match rule {
-        1 => "isn't expected here",
-        2 => "is out of range, or is a state that came before",
+        1 => "isn't expected here; docs/AUTOMATA.md says which part of HOA is read",
+        2 => "is out of range (numbers begin at 0), or is a state that came before",
         _ =>
-            "passes a limit: an automaton has at most 1,000 states, 8 propositions and 100,000 edges",
+            "passes a limit: an automaton has at most 1,000 states, 8 propositions and 100,000 edges, and a label at most 1,000 operators and 1,000 open parentheses",
     }
 }
 
 /// How an entry of a solution breaks the rule.
 pub(crate) fn of_solution(rule: u32) -> &'static str {
     match rule {
-        1 => "its winner owns it, and its entry has no move",
-        2 => "its winner owns it, and the move of its entry is none of its successors",
-        3 => "a way leads from it to a vertex without an entry for the same winner",
+        1 => "the winner of this vertex owns it, so its entry needs a move",
+        2 =>
+            "the winner of this vertex owns it, and the move of its entry leads to none of its successors",
+        3 => "from this vertex a play may go on to one that has no entry for the same winner",
         _ =>
-            "it lies on a cycle of ways among entries of its winner, whose highest priority, its own, is bad for the winner",
+            "a play may go round a cycle through this vertex for ever, and its priority, the highest on the cycle, is bad for its winner",
     }
 }
 
 /// How an item of a file of requirements breaks the rule.
 pub(crate) fn of_requirements(rule: u32) -> &'static str {
     match rule {
-        61 => "the first item has to be `logic` and the word of a logic, at the front of a line",
-        62 => "an item begins with `require`, `possible` or `follows`",
+        61 =>
+            "the first item has to be `logic` and one of `mu`, `pdl`, `ctl`, `ltl` and `word`, at the front of a line",
+        62 =>
+            "an item begins with `require`, `possible` or `follows`; a line that continues an item begins with a blank",
         63 =>
-            "a name is missing: a letter, then letters, digits, `_`, `-` and `.`, at most 64 bytes",
-        64 => "a colon is missing behind the name",
-        65 => "an item with this name came before",
-        66 => "this is the 257th requirement or question",
-        _ => "here the requirements, or all of them with this question, pass 1,000 occurrences",
+            "a name belongs here: a letter, and then letters, digits, `_`, `-` and `.`, at most 64 bytes in all",
+        64 => "a colon belongs here, between the name and the formula",
+        65 => "an earlier item has this name",
+        66 => "this is the 257th requirement or question, and a file has at most 256",
+        _ =>
+            "with this item the formula that joins the requirements and a question passes 1,000 occurrences of operators and names",
     }
 }
 
@@ -71,7 +76,7 @@ pub(crate) fn of_document(shape: Shape, line: usize, rule: u32) -> &'static str 
             _ => "this command reads documents with `answer satisfiable`",
         },
         4 =>
-            "the formula isn't one of a path: in `ctl` it has to be `E f` or `A f` with no further `E` and `A`, and the other logics are `ltl` and `word`",
+            "`path` reads any formula in `ltl` and `word`, and in `ctl` `E f` or `A f` where f has no `E` and no `A`",
         11..=17 => of_structure(line, rule),
         21..=31 => of_refutation(rule),
         41..=46 => of_task(line, rule),
@@ -103,57 +108,63 @@ fn of_structure(line: usize, rule: u32) -> &'static str {
             6 => "expected: `states` and a number",
             7 => "expected: `start` and a number",
             _ =>
-                "expected: the next `state` line, an `edge` line with a state, an action and a state, or `end` and nothing behind it",
+                "expected: a `state` line for each state, then `edge` lines with a state, an action and a state, then `end` and nothing behind it",
         },
-        12 => "a number isn't decimal without leading zeros, or is above 4,294,967,295",
-        13 => "there is no state",
-        14 => "the start isn't below the number of states",
-        15 => "it isn't the line of the next state",
-        16 => "a label isn't a name, or the labels aren't in ascending order, each once",
+        12 => "a number has to be decimal, without leading zeros, and at most 4,294,967,295",
+        13 => "a structure has at least one state",
+        14 => "states are numbered from 0, so the start has to be below their number",
+        15 => "states come in the order 0, 1, 2 and so on",
+        16 =>
+            "the propositions of a state have to be names, in ascending order of their bytes, each once",
         _ =>
-            "a state is out of range, the action is no name, or the edges aren't in ascending order, each once",
+            "an edge has a state, an action and a state of this structure, and edges come in ascending order, each once",
     }
 }
 
 fn of_refutation(rule: u32) -> &'static str {
     match rule {
-        21 => "the line isn't of the kind that belongs here, or something stands behind `end`",
-        22 => "a number isn't decimal without leading zeros, or is above 4,294,967,295",
-        23 => "there is no entry",
-        24 => "it isn't the line of the next entry",
-        25 => "the nodes aren't in ascending order, each once",
-        26 => "`live` is above `names`",
-        27 => "items or names aren't in ascending order, or a name isn't in use",
+        21 =>
+            "expected: the lines in the order that docs/DOCUMENTS.md shows, with single blanks between their words, and nothing behind `end`",
+        22 => "a number has to be decimal, without leading zeros, and at most 4,294,967,295",
+        23 => "a refutation has at least one entry",
+        24 => "entries come in the order 0, 1, 2 and so on",
+        25 => "the nodes of a sequent have to be in ascending order, each once",
+        26 => "`live` has to be at most the number behind `names`",
+        27 =>
+            "items and the names of each have to be in ascending order, each once, and every name has to be in use",
         28 => "there has to be one height more than there are names",
-        29 => "the entry or the name is out of range",
-        30 => "it lies inside 4,096 other splits",
-        _ => "the number of a sequent or of a stack is out of range",
+        29 => "the entry has to be below the number of entries, and the name below that of names",
+        30 => "this split lies inside 4,096 others, and that is too deep",
+        _ => "the table of sequents, or of stacks, has no line with this number",
     }
 }
 
 fn of_task(line: usize, rule: u32) -> &'static str {
     match rule {
         41 => match line % 4 {
-            1 => "expected: `inputs` and names, each behind one blank",
-            2 => "expected: `outputs` and names, each behind one blank",
+            1 => "expected: `inputs` and names, with one blank in front of each",
+            2 => "expected: `outputs` and names, with one blank in front of each",
             3 => "expected: `formula`, one blank and a formula",
-            _ => "nothing may stand behind the formula's line",
+            _ => "expected: the end of the task, since its formula is one line, and the last",
         },
-        42 => "a word is no proposition of LTL, or has more than 64 bytes",
-        43 => "a name comes twice",
-        44 => "there are more than 8 names",
+        42 =>
+            "a name has to begin with a lower-case letter and go on with letters, digits and `_`, at most 64 bytes in all; `tt`, `true`, `ff` and `false` are reserved",
+        43 => "each name may come only once among the inputs and outputs",
+        44 => "there are more than 8 inputs and outputs",
         _ => "the formula has a proposition that is neither an input nor an output",
     }
 }
 
 fn of_machine(rule: u32) -> &'static str {
     match rule {
-        51 => "the line isn't of the kind that belongs here, or something stands behind `end`",
-        52 => "a number isn't decimal without leading zeros, or is above 4,294,967,295",
-        53 => "there is no state",
-        54 => "it isn't the line of the next state",
-        55 => "a set isn't `-`, and isn't names of its line in that line's order, each once",
-        _ => "the state behind `goto` isn't below the number of states",
+        51 =>
+            "expected: `states` and a number; then for each state its `state` line, in an environment a `play` line, and one `on` line for each set in ascending order; then `end` and nothing behind it",
+        52 => "a number has to be decimal, without leading zeros, and at most 4,294,967,295",
+        53 => "a machine or an environment has at least one state",
+        54 => "states come in the order 0, 1, 2 and so on",
+        55 =>
+            "the empty set is `-`; any other is written by its inputs or outputs, in the order of the task, each once",
+        _ => "states are numbered from 0, so the state behind `goto` has to be below their number",
     }
 }
 
@@ -166,10 +177,10 @@ pub(crate) fn of_acceptance(rule: u32) -> &'static str {
         4 =>
             "the node of the item isn't in the sequent, or its guess isn't an odd priority of the graph",
         5 => "the node isn't an or-node of the spread, or is decided already",
-        6 => "the clash isn't one of the spread",
+        6 => "the line names no contradiction among the nodes of the spread",
         7 => "the node isn't a diamond of the spread",
         8 => "the sequent of the entry isn't within the targets of the diamond",
-        9 => "the condition on names fails",
-        _ => "a height rises that must not, or doesn't fall where it has to",
+        9 => "the condition on names fails (docs/DOCUMENTS.md states it)",
+        _ => "a height rises where it must not, or doesn't fall where it has to",
     }
 }
