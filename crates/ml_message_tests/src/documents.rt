@@ -13,7 +13,7 @@ fn told(alloc: Global, command: &str, input: &[u8], output: &[u8]) -> Result<Str
     }
 }
 
-const ROWS: [(&str, &[u8], &[u8], &str); 20] = [
+const ROWS: [(&str, &[u8], &[u8], &str); 23] = [
     (
         "check-model",
         b"mlsolver 2\nanswer satisfiable\nlogic mu\nsense plain\nformula p &\nstates 1\n",
@@ -121,6 +121,24 @@ const ROWS: [(&str, &[u8], &[u8], &str); 20] = [
         b"logic ltl\nrequire a p\n",
         b"refused line 2 column 11 rule 64\n",
         "line 2, column 11: a colon belongs here, between the name and the formula",
+    ),
+    (
+        "ask",
+        b"logic word\nrequire a: G(p -> # so\n  ) & q\nrequire b: p\n",
+        b"refused line 3 column 3 rule 1\n",
+        "line 3, column 3: `)` isn't expected here; expected: a proposition, `tt`, `ff`, `!`, `(`, `X`, `F`, `G`",
+    ),
+    (
+        "ask",
+        b"logic mu\nrequire a: p &\nrequire b: p\n",
+        b"refused line 2 column 15 rule 1\n",
+        "line 2, column 15: the formula ends too soon; expected: a proposition, a variable, `tt`, `ff`, `!`, `(`, `<`, `[`, `mu`, `nu`",
+    ),
+    (
+        "make",
+        b"inputs a\noutputs f\nformula G(a -> F grnt)",
+        b"refused document line 3 rule 46\n",
+        "line 3: the formula has the proposition `grnt`, which is neither an input nor an output",
     ),
     (
         "find",

@@ -3,7 +3,7 @@
 use crate::formulas::{formula_fault, refusal_of};
 use crate::names::unknown_name;
 use crate::rules::{Shape, of_acceptance, of_document};
-use crate::shown::{behind, line_of, shown};
+use crate::shown::{behind, last_line, line_of, shown};
 use ml_front::Logic;
 use std::alloc::{AllocError, Global};
 
@@ -15,7 +15,7 @@ pub(crate) fn document_fault(
     line: usize,
     rule: u32,
 ) -> Result<String, AllocError> {
-    let Some(text) = line_of(input, line) else {
+    let Some(text) = line_read(shape, input, line) else {
         let cause = of_document(shape, kind_of_line(shape, line), rule);
         return format!(in alloc; "line {line} is missing, or has no line end: {cause}");
     };
@@ -29,9 +29,20 @@ pub(crate) fn document_fault(
             return unknown_fault(alloc, line, name);
         }
     }
-    let found = shown(alloc, text)?;
     let cause = of_document(shape, kind_of_line(shape, line), rule);
+    if text.is_empty() {
+        return format!(in alloc; "line {line} is empty: {cause}");
+    }
+    let found = shown(alloc, text)?;
     format!(in alloc; "line {line}: {found}: {cause}")
+}
+
+// the last line of a task may be without its end
+fn line_read(shape: Shape, input: &[u8], line: usize) -> Option<&[u8]> {
+    match shape {
+        Shape::Task => line_of(input, line).or(last_line(input, line)),
+        Shape::Model | Shape::Refutation | Shape::Machine => line_of(input, line),
+    }
 }
 
 fn unknown_fault(alloc: Global, line: usize, name: &[u8]) -> Result<String, AllocError> {

@@ -2,7 +2,8 @@
 
 use crate::documents::{checked_problem, document_fault, rejection};
 use crate::formulas::formula_fault;
-use crate::rules::{Shape, of_automaton, of_game, of_requirements, of_solution};
+use crate::requirements::requirements_fault;
+use crate::rules::{Shape, of_automaton, of_game, of_solution};
 use crate::shown::{shown, token};
 use crate::told::{Told, told_by};
 use ml_front::Logic;
@@ -38,7 +39,7 @@ pub fn explanation(
             document_fault(alloc, shape_of(command), input, line, rule)?
         }
         Told::Requirements { line, column, rule } => {
-            requirements_fault(alloc, line, column, rule)?
+            requirements_fault(alloc, input, line, column, rule)?
         }
         Told::RejectedLine { line, rule } => rejection(alloc, input, line, rule)?,
         Told::RejectedVertex { rule } => String::from_str(alloc, of_solution(rule))?,
@@ -104,22 +105,4 @@ fn token_fault(alloc: Global, input: &[u8], at: usize, cause: &str) -> Result<St
     let found = shown(alloc, found)?;
     let cause = format!(in alloc; "{found} {cause}")?;
     placed(alloc, input, at, &cause)
-}
-
-fn requirements_fault(
-    alloc: Global,
-    line: usize,
-    column: usize,
-    rule: u32,
-) -> Result<String, AllocError> {
-    let cause = match rule {
-        1 => "the formula isn't one of the logic from here on",
-        2 => "the variable has no `mu` or `nu` around it",
-        3 => "the variable stands under an odd number of negations",
-        4 => "here the formula passes 1,000 occurrences",
-        5 => "here 1,001 parentheses are open at a time",
-        6 => "this name has more than 64 bytes",
-        _ => of_requirements(rule),
-    };
-    format!(in alloc; "line {line}, column {column}: {cause}")
 }

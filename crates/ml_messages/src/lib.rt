@@ -15,6 +15,7 @@ mod expected;
 mod explaining;
 mod formulas;
 mod names;
+mod requirements;
 mod rules;
 mod shown;
 mod told;

@@ -17,8 +17,38 @@ pub(crate) fn shown(alloc: Global, bytes: &[u8]) -> Result<String, AllocError> {
         None => bytes,
     };
     let more = if front.len() < bytes.len() { " .." } else { "" };
-    let text = String::from_utf8_lossy(alloc, front)?;
+    let escaped = escaped(alloc, front)?;
+    let text = String::from_utf8_lossy(alloc, &escaped)?;
     format!(in alloc; "`{text}{more}`")
+}
+
+// The bytes with those that control a terminal spelt out, and a byte order mark.
+fn escaped(alloc: Global, bytes: &[u8]) -> Result<Vec<u8>, AllocError> {
+    let mut text = Vec::new(alloc);
+    let rest = match bytes.strip_prefix(b"\xef\xbb\xbf") {
+        Some(rest) => {
+            text.extend_from_slice(b"(byte order mark)")?;
+            rest
+        }
+        None => bytes,
+    };
+    for byte in rest {
+        add_escaped(alloc, &mut text, *byte)?;
+    }
+    Ok(text)
+}
+
+fn add_escaped(alloc: Global, text: &mut Vec<u8>, byte: u8) -> Result<(), AllocError> {
+    match byte {
+        b'\r' => text.extend_from_slice(b"\\r")?,
+        b'\t' => text.extend_from_slice(b"\\t")?,
+        0..=31 | 127 => {
+            let code = format!(in alloc; "\\x{byte:02x}")?;
+            text.extend_from_slice(code.as_bytes())?;
+        }
+        _ => text.push(byte)?,
+    }
+    Ok(())
 }
 
 fn is_printable(byte: u8) -> bool {
@@ -33,6 +63,18 @@ pub(crate) fn line_of(text: &[u8], number: usize) -> Option<&[u8]> {
     }
     let (line, _) = split_line(rest)?;
     Some(line)
+}
+
+/// The line with this number, if it is the last one and has no end.
+pub(crate) fn last_line(text: &[u8], number: usize) -> Option<&[u8]> {
+    let mut rest = text;
+    for _ in 1..number {
+        (_, rest) = split_line(rest)?;
+    }
+    match split_line(rest) {
+        None if !rest.is_empty() => Some(rest),
+        _ => None,
+    }
 }
 
 /// What stands behind this front of a line.
