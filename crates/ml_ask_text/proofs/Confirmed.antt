@@ -15,7 +15,7 @@ use Rattle.ml_model_check.proofs.ReadBack as structures
 use Rattle.ml_refutation.specs.Refutation.{Refutation}
 use Rattle.ml_refute_check.proofs.Accepted as refutations
 use Rattle.ml_refute_check.specs.WrittenDocument.{document_of}
-use Rattle.ml_spec.specs.Questions.{is_in, joined_of, questions, IsQuestion}
+use Rattle.ml_spec.specs.Questions.{is_in, joined_of, IsQuestion}
 use Rattle.ml_spec.specs.declared.question.Question.{Question}
 use Rattle.ml_spec.specs.declared.specification.Item.{Item}
 use Rattle.ml_ask.specs.Meeting.{everything, problem_of, without}

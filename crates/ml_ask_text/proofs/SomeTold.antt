@@ -29,7 +29,7 @@ use Rattle.ml_spec.proofs.OneAnswer.{some_reading}
 use Rattle.ml_ask.specs.Meeting.{everything, numbers_from, numbers_in, problem_of, without}
 use Rattle.ml_ask.proofs.Taken.{all_taken, left_same, taken_count, taken_fewer}
 use Rattle.ml_ask_text.specs.Laws.{SomeTold}
-use Rattle.ml_ask_text.specs.Replies.{AreReplies, Core, IsCore, IsPart, IsReply, LeftOpen, Met, Part, Replied, Reply, StillMet, StillOpen, Unmet}
+use Rattle.ml_ask_text.specs.Replies.{Core, IsCore, IsPart, IsReply, LeftOpen, Met, Part, Replied, Reply, StillMet, StillOpen, Unmet}
 use Rattle.ml_ask_text.specs.Told.{AreShown, IsPartShown, IsRepliedShown, IsReplyShown, IsToldOf, verdict_of, written}
 use Rattle.ml_ask_text.specs.declared.told.Form.{Form}
 use Rattle.ml_ask_text.specs.declared.told.Form.TheVariants.{Lines, Files}
@@ -66,7 +66,6 @@ numbers_within S xs = numbers_within_from S 0 (length xs) xs (omega arith)
 
 module _ (l : Logic) (xs : List Item) (n : ℕ) (small : n < 2 ^ 32)
     (well : (S : ℕ → Bool) (q : Question) → IsQuestion xs q → IsWellFormed (joined_of l S xs q)) where
-
   -- ---- one question
 
   module _ (q : Question) (is_question : IsQuestion xs q) where
@@ -196,8 +195,7 @@ some_told f text n small = by (some_reading text)
         → (t : Told) × IsToldOf f text n t
     by (inl (l, xs, is)) =
         let found = some_replies l xs n small (joined_well text l xs is) (questions xs) (all_asked xs) in
-        let rs = found.replies in
-        (
+        let rs = found.replies in (
           Answered (verdict_of xs rs) (written f l xs rs),
           record {
             logic = l;
