@@ -4,7 +4,7 @@
 --   all_agree      == so it is of answers to the same questions
 --   never_against  == of two verdicts of a text it isn't so that one is as it is meant and the other against it
 --   told_alike     == the law
-use Rattle.std.proofs.Common.{◌≡◌, ℕ, ◌⊎◌, ◌||◌, Bool, true, false, not, cond, List, [], ◌∷◌, map, inl, inr, refl, sym, ap, subst, ◌∙◌}
+use Rattle.std.proofs.Common.{◌≡◌, ℕ, ◌⊎◌, ◌||◌, Bool, true, false, cond, List, [], ◌∷◌, map, inl, inr, refl, sym, ap, subst, ◌∙◌}
 use Rattle.std.specs.List.{AllByRecursion, list_any}
 use Rattle.ml_base.specs.Structure.{Structure}
 use Rattle.ml_front.specs.declared.logic.Logic.{Logic}
@@ -17,13 +17,12 @@ use Rattle.ml_spec.proofs.Readings.{specified}
 use Rattle.ml_decide.specs.Decision.{IsMetBy}
 use Rattle.ml_ask.proofs.FewerRequirements.{fewer_met}
 use Rattle.ml_ask.specs.Meeting.{everything, problem_of, CanMeet}
-use Rattle.ml_ask_text.specs.Laws.{NeverAgainst, ToldAlike}
+use Rattle.ml_ask_text.specs.Laws.{ToldAlike}
 use Rattle.ml_ask_text.specs.Lines.{wants_structure}
 use Rattle.ml_ask_text.specs.Replies.{AreReplies, IsReply, LeftOpen, Met, Replied, Reply, Unmet}
 use Rattle.ml_ask_text.specs.Told.{is_against, is_left_open, says_no, stays_open, verdict_of, IsAnswered}
 use Rattle.ml_ask_text.specs.declared.told.Form.{Form}
 use Rattle.ml_ask_text.specs.declared.told.Told.TheVariants.{Answered, Refused}
-use Rattle.ml_ask_text.specs.declared.told.Verdict.{Verdict}
 use Rattle.ml_ask_text.specs.declared.told.Verdict.TheVariants.{AsMeant, Against, Open}
 use Rattle.ml_ask_text.proofs.WellFormedJoins.{all_asked}
 
@@ -56,9 +55,9 @@ module _ (l : Logic) (xs : List Item) (given : IsSpecified l xs) (n k : ℕ) whe
       → says_no wants o ≡ true
       → ⊥
   clash q (Met m s) (Unmet c) is_question met unmet wants yes_said settled no_said =
-      unmet.is_refuted.is_unsatisfiable (met_less (is_in c.taken) q is_question m s met)
+      unmet.is_refuted.is_unsatisfiable (met_less (is_in c.taken) q is_question m s met.1)
   clash q (Unmet c) (Met m s) is_question unmet met wants yes_said settled no_said =
-      unmet.is_refuted.is_unsatisfiable (met_less (is_in c.taken) q is_question m s met)
+      unmet.is_refuted.is_unsatisfiable (met_less (is_in c.taken) q is_question m s met.1)
   clash q (Met m s) (Met j t) is_question met other wants yes_said settled no_said =
       let wrong : true ≡ false = sym no_said ∙ yes_said in absurd (cc)
   clash q (Unmet c) (Unmet d) is_question unmet other wants yes_said settled no_said =

@@ -11,22 +11,21 @@ use Rattle.std.proofs.lemmas.List.{get_or_past}
 use Rattle.ml_front.specs.declared.logic.Logic.{Logic}
 use Rattle.ml_refutation.specs.Refutation.{Refutation}
 use Rattle.ml_refute_check.specs.WrittenDocument.{document_of}
-use Rattle.ml_spec.specs.Questions.{is_in, joined_of, questions, IsQuestion}
+use Rattle.ml_spec.specs.Questions.{is_in, IsQuestion}
 use Rattle.ml_spec.specs.declared.question.Question.{Question}
 use Rattle.ml_spec.specs.declared.specification.Item.{Item}
-use Rattle.ml_ask.specs.Answers.{AreAnswers, IsAnswerOf, IsCoreOf, IsWithout}
+use Rattle.ml_ask.specs.Answers.{AreAnswers, IsAnswerOf, IsWithout}
 use Rattle.ml_ask.specs.Meeting.{problem_of, without}
 use Rattle.ml_ask.specs.declared.answer.Answer.{Answer}
 use Rattle.ml_ask.specs.declared.answer.Answer.TheVariants as answer
 use Rattle.ml_ask.specs.declared.answer.Answered as asked
-use Rattle.ml_ask.specs.declared.answer.Core as asked_core
 use Rattle.ml_ask.specs.declared.answer.Part as asked_part
 use Rattle.ml_ask.specs.declared.answer.Without.{Without}
 use Rattle.ml_ask.specs.declared.answer.Without.TheVariants as rest
 use Rattle.ml_ask_text.specs.Files.{rest_text}
-use Rattle.ml_ask_text.specs.Replies.{AreReplies, IsCore, IsPart, IsReply, IsRest}
+use Rattle.ml_ask_text.specs.Replies.{AreReplies, IsPart, IsReply, IsRest}
 use Rattle.ml_ask_text.specs.private.Fits.{FitsItems, IsTellable}
-use Rattle.ml_ask_text.specs.private.Plain.{core_of, part_of, replied_of, reply_of, rest_of}
+use Rattle.ml_ask_text.specs.private.Plain.{part_of, replied_of, reply_of, rest_of}
 use Rattle.ml_ask_text.proofs.WellFormedJoins.{all_asked}
 
 pub left_past : (bs : List Bool) (k : ℕ) → length bs ≤ k → is_in bs ≡ without (is_in bs) k
@@ -96,6 +95,7 @@ module _ (l : Logic) (xs : List Item) (n : ℕ) where
   plain_reply q (answer.Open c) is = is
   plain_reply q (answer.No c) is = record {
     are_told = is.are_told;
+    is_small = is.is_small;
     is_refuted = is.is_refuted;
     are_parts = same_numbers c.parts.items ∙ is.are_parts;
     are_so = plain_parts q (is_in c.taken.items) c.parts.items is.are_so;

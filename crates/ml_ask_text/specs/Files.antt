@@ -14,7 +14,6 @@
 --   files_of l xs rs      == all that is written: the first line, the lines of the answers, their documents, and the last line
 use Rattle.std.specs.Prelude.{ℕ, Bool, List, [], ◌∷◌, ◌++◌, codes}
 use Rattle.std.specs.List.{flat_map}
-use Rattle.ml_base.specs.Structure.{Structure}
 use Rattle.ml_lines.specs.Lines.{Line, line_text}
 use Rattle.ml_decision_text.specs.Documents.{undecided_document}
 use Rattle.ml_front.specs.declared.logic.Logic.{Logic}

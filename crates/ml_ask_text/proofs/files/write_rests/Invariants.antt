@@ -9,7 +9,7 @@ use Rattle.ml_ask_text.proofs.files.write_rests.Given as goal
 abbrev pub invariant-loop-part : goal.invariant-loop-part
 invariant-loop-part l = record {
   text : l.out.items ≡ l.fn.out.items
-    ++ flat_map (rest_text l.specification.logic l.specification.items.items l.question (is_in l.taken))
-    (map part_of (take l.part-index l.parts));
+      ++ flat_map (rest_text l.specification.logic l.specification.items.items l.question (is_in l.taken))
+      (map part_of (take l.part-index l.parts));
   shown : AllByRecursion IsPartShown (map part_of (take l.part-index l.parts));
 }
