@@ -11,10 +11,10 @@ met : (p : Problem) (m : Structure) (s : ℕ) → IsMetBy p m s → IsSatisfiabl
 met p m s is = (m, is.is_admitted, (s, is.is_state, is.holds))
 
 pub yes_is_met : YesIsMet
-yes_is_met l xs q n m is = met _ m.structure m.start is
+yes_is_met l xs q n m is = met _ m.structure m.start is.1
 
 pub no_is_refuted : NoIsRefuted
 no_is_refuted l xs q n c is = is.is_refuted.is_unsatisfiable
 
 pub needed_ones_are : NeededOnesAre
-needed_ones_are l xs q n c k m is = met _ m.structure m.start is
+needed_ones_are l xs q n c k m is = met _ m.structure m.start is.1

@@ -5,13 +5,16 @@
 --   everything         == the set of all numbers
 --   without S k        == the set S without k
 --   problem_of l xs S q == the plain problem of the joined formula of the requirements in S and the question q
+--   IsSmall p          == the closure of the problem p has no more nodes than are decided and checked
 --   CanMeet l xs S q   == the requirements in S can be met together where q is asked: their joined formula holds at some state of
 --                         some structure of which the logic speaks
 --   numbers_in S xs    == the numbers of the requirements in S, ascending
 use Rattle.std.specs.Prelude.{ℕ, ◌+◌, ◌==◌, ◌&&◌, Bool, true, false, not, if◌then◌else◌, List, [], ◌∷◌}
+use Rattle.ml_front.specs.Graphs.{HasLargeClosure}
 use Rattle.ml_front.specs.Problems.{IsSatisfiable}
 use Rattle.ml_front.specs.declared.logic.Logic.{Logic}
 use Rattle.ml_front.specs.declared.problem.Problem.{Problem}
+use Rattle.ml_front.specs.declared.problem.TheConstants.{MOST_NODES}
 use Rattle.ml_spec.specs.Kinds.{is_requirement}
 use Rattle.ml_spec.specs.Questions.{joined_of}
 use Rattle.ml_spec.specs.declared.question.Question.{Question}
@@ -25,6 +28,9 @@ without S k n = S n && not (n == k)
 
 abbrev pub problem_of : Logic → List Item → (ℕ → Bool) → Question → Problem
 problem_of l xs S q = record { formula = joined_of l S xs q; negated = false }
+
+abbrev pub IsSmall : Problem → Type 0
+IsSmall p = ¬ (HasLargeClosure p MOST_NODES)
 
 abbrev pub CanMeet : Logic → List Item → (ℕ → Bool) → Question → Type 0
 CanMeet l xs S q = IsSatisfiable (problem_of l xs S q)

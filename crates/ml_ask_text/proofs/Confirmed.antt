@@ -1,7 +1,7 @@
 -- Whoever checks the documents of answers confirms them.
 --
---   met_confirmed   == a document with a structure holds, unless its problem's closure is too large
---   unmet_confirmed == one with a refutation is accepted, unless it is too large
+--   met_confirmed   == a document with a structure holds
+--   unmet_confirmed == one with a refutation is accepted
 --   files_confirmed == the law
 use Rattle.std.proofs.Common.{ℕ, Bool, List, [], ◌∷◌, map, subst, sym}
 use Rattle.std.specs.List.{AllByRecursion}
@@ -18,22 +18,26 @@ use Rattle.ml_refute_check.specs.WrittenDocument.{document_of}
 use Rattle.ml_spec.specs.Questions.{is_in, joined_of, IsQuestion}
 use Rattle.ml_spec.specs.declared.question.Question.{Question}
 use Rattle.ml_spec.specs.declared.specification.Item.{Item}
-use Rattle.ml_ask.specs.Meeting.{everything, problem_of, without}
-use Rattle.ml_ask_text.specs.Laws.{AcceptedIfSmall, AreConfirmed, FilesAreConfirmed, HoldsIfSmall, IsPartConfirmed, IsRestConfirmed}
+use Rattle.ml_ask.specs.Meeting.{everything, problem_of, without, IsSmall}
+use Rattle.ml_ask_text.specs.Laws.{AreConfirmed, FilesAreConfirmed, HoldsByCheck, IsAcceptedByCheck, IsPartConfirmed, IsRestConfirmed}
 use Rattle.ml_ask_text.specs.Replies.{IsPart, IsReply, IsRest, LeftOpen, Met, Part, Replied, Reply, Rest, StillMet, StillOpen, Unmet}
 use Rattle.ml_ask_text.specs.Told.{IsPartShown, IsRepliedShown, IsReplyShown, IsRestShown, IsShown}
 use Rattle.ml_ask_text.proofs.WellFormedJoins.{all_asked, joined_well}
 
 met_confirmed : (p : Problem) (m : Structure) (s : ℕ)
     → IsWellFormed p.formula
-    → IsMetBy p m s
+    → IsSmall p × IsMetBy p m s
     → IsShown m s
-    → HoldsIfSmall p m s
-met_confirmed p m s well met shown fits =
-    (p, m, s, structures.documents_read_back Two p m s well shown.0 shown.1, (met.is_admitted, fits, met.holds))
+    → HoldsByCheck p m s
+met_confirmed p m s well (small, met) shown =
+    (p, m, s, structures.documents_read_back Two p m s well shown.0 shown.1, (met.is_admitted, small, met.holds))
 
-unmet_confirmed : (p : Problem) (r : Refutation) → IsWellFormed p.formula → IsRefutedBy p r → AcceptedIfSmall p r
-unmet_confirmed p r well is fits =
+unmet_confirmed : (p : Problem) (r : Refutation)
+    → IsWellFormed p.formula
+    → IsSmall p
+    → IsRefutedBy p r
+    → IsAcceptedByCheck p r
+unmet_confirmed p r well small is =
     let text = document_of p r in
     let shown = refutations.documents_read_back p r text well is.is_refutation (refutations.some_document p r is.is_refutation) in
     record {
@@ -41,7 +45,7 @@ unmet_confirmed p r well is fits =
       problem = p;
       body = shown.0;
       has_head = shown.1;
-      holds = (r, shown.2, shown.3, (fits, is.is_accepted));
+      holds = (r, shown.2, shown.3, (small, is.is_accepted));
     }
 
 module _ (l : Logic) (xs : List Item) (n : ℕ)
@@ -62,7 +66,8 @@ module _ (l : Logic) (xs : List Item) (n : ℕ)
     reply_confirmed : (r : Reply) → IsReply l xs n q r → IsReplyShown r → AreConfirmed l xs q r
     reply_confirmed (Met m s) met shown = met_confirmed (problem_of l xs everything q) m s (well everything q is_question) met shown
     reply_confirmed (Unmet c) is shown = (
-      unmet_confirmed (problem_of l xs (is_in c.taken) q) c.refutation (well (is_in c.taken) q is_question) is.is_refuted,
+      unmet_confirmed (problem_of l xs (is_in c.taken) q) c.refutation (well (is_in c.taken) q is_question)
+          is.is_small is.is_refuted,
       parts_confirmed (is_in c.taken) c.parts is.are_so shown,
     )
     reply_confirmed (LeftOpen c) stays shown = tt

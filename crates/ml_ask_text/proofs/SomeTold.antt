@@ -17,6 +17,7 @@ use Rattle.ml_decide.specs.Laws.{HasAnswer, by_refutation, by_structure, left_op
 use Rattle.ml_decide.specs.declared.way.Way.TheVariants.{Search}
 use Rattle.ml_front.specs.Logics.{IsWellFormed}
 use Rattle.ml_front.specs.declared.logic.Logic.{Logic}
+use Rattle.ml_front.specs.declared.problem.Problem.{Problem}
 use Rattle.ml_refutation.specs.Refutation.{Refutation}
 use Rattle.ml_spec.specs.Faults.{IsRefused}
 use Rattle.ml_spec.specs.Kinds.{is_requirement}
@@ -26,7 +27,7 @@ use Rattle.ml_spec.specs.declared.question.Question.{Question}
 use Rattle.ml_spec.specs.declared.rule.SpecRule.{SpecRule}
 use Rattle.ml_spec.specs.declared.specification.Item.{Item}
 use Rattle.ml_spec.proofs.OneAnswer.{some_reading}
-use Rattle.ml_ask.specs.Meeting.{everything, numbers_from, numbers_in, problem_of, without}
+use Rattle.ml_ask.specs.Meeting.{everything, numbers_from, numbers_in, problem_of, without, IsSmall}
 use Rattle.ml_ask.proofs.Taken.{all_taken, left_same, taken_count, taken_fewer}
 use Rattle.ml_ask_text.specs.Laws.{SomeTold}
 use Rattle.ml_ask_text.specs.Replies.{Core, IsCore, IsPart, IsReply, LeftOpen, Met, Part, Replied, Reply, StillMet, StillOpen, Unmet}
@@ -64,6 +65,10 @@ numbers_within_from S n m (x ∷ xs) sum = by (S n) refl (is_requirement x.kind)
 numbers_within : (S : ℕ → Bool) (xs : List Item) → AllByRecursion (IsTaken S (length xs)) (numbers_in S xs)
 numbers_within S xs = numbers_within_from S 0 (length xs) xs (omega arith)
 
+-- a small problem with a refutation
+abbrev IsSmallRefuted : Problem → Refutation → Type 0
+IsSmallRefuted p r = IsSmall p × IsRefutedBy p r
+
 module _ (l : Logic) (xs : List Item) (n : ℕ) (small : n < 2 ^ 32)
     (well : (S : ℕ → Bool) (q : Question) → IsQuestion xs q → IsWellFormed (joined_of l S xs q)) where
   -- ---- one question
@@ -82,7 +87,7 @@ module _ (l : Logic) (xs : List Item) (n : ℕ) (small : n < 2 ^ 32)
       number : ℕ
       is_taken : IsTaken S (length xs) number
       refutation : Refutation
-      is_refuted : IsRefutedBy (problem_of l xs (without S number) q) refutation
+      is_refuted : IsSmallRefuted (problem_of l xs (without S number) q) refutation
 
     parts_or_less : (S : ℕ → Bool) (ks : List ℕ) → AllByRecursion (IsTaken S (length xs)) ks → Parts S ks ⊎ Less S
     parts_or_less S [] are = inl (record { parts = []; are_parts = refl; are_so = tt; are_shown = tt })
@@ -90,13 +95,13 @@ module _ (l : Logic) (xs : List Item) (n : ℕ) (small : n < 2 ^ 32)
       where
         by : HasAnswer Search n (problem_of l xs (without S k) q) → Parts S ks ⊎ Less S → Parts S (k ∷ ks) ⊎ Less S
         by (by_refutation is_closed r is) rest =
-            inr (record { number = k; is_taken = are.0; refutation = r; is_refuted = is })
+            inr (record { number = k; is_taken = are.0; refutation = r; is_refuted = (is_closed, is) })
         by (by_structure is_closed m s met can_be_written is_ordered) (inr less) = inr less
         by (by_structure is_closed m s met can_be_written is_ordered) (inl rest) =
             inl (record {
               parts = record { requirement = k; rest = StillMet m s } ∷ rest.parts;
               are_parts = ap (λ js. k ∷ js) rest.are_parts;
-              are_so = (met, rest.are_so);
+              are_so = ((is_closed, met), rest.are_so);
               are_shown = ((can_be_written, is_ordered), rest.are_shown);
             })
         by (left_open c stays) (inr less) = inr less
@@ -116,11 +121,11 @@ module _ (l : Logic) (xs : List Item) (n : ℕ) (small : n < 2 ^ 32)
     -- where a requirement can be left out, there are fewer
     step : (bs : List Bool) (r : Refutation)
         → length bs ≡ length xs
-        → IsRefutedBy (problem_of l xs (is_in bs) q) r
+        → IsSmallRefuted (problem_of l xs (is_in bs) q) r
         → ((cs : List Bool) (s : Refutation)
         → length cs ≡ length xs
         → taken_count cs < taken_count bs
-        → IsRefutedBy (problem_of l xs (is_in cs) q) s
+        → IsSmallRefuted (problem_of l xs (is_in cs) q) s
         → SomeCore)
         → SomeCore
     step bs r told is again = by (parts_or_less (is_in bs) (numbers_in (is_in bs) xs) (numbers_within (is_in bs) xs))
@@ -128,7 +133,7 @@ module _ (l : Logic) (xs : List Item) (n : ℕ) (small : n < 2 ^ 32)
         by : Parts (is_in bs) (numbers_in (is_in bs) xs) ⊎ Less (is_in bs) → SomeCore
         by (inl found) = record {
           core = record { taken = bs; parts = found.parts; refutation = r };
-          is_core = record { are_told = told; is_refuted = is; are_parts = found.are_parts; are_so = found.are_so };
+          is_core = record { are_told = told; is_small = is.0; is_refuted = is.1; are_parts = found.are_parts; are_so = found.are_so };
           are_shown = found.are_shown;
         }
         by (inr less) =
@@ -136,29 +141,29 @@ module _ (l : Logic) (xs : List Item) (n : ℕ) (small : n < 2 ^ 32)
             let within : k < length bs = omega (arith, told, less.is_taken.0) in
             again (set bs k false) less.refutation (length-set bs k false ∙ told)
             (taken_fewer bs k within less.is_taken.1)
-            (subst (λ S. IsRefutedBy (problem_of l xs S q) less.refutation) (sym (left_same bs k within)) less.is_refuted)
+            (subst (λ S. IsSmallRefuted (problem_of l xs S q) less.refutation) (sym (left_same bs k within)) less.is_refuted)
 
     some_core_by : (fuel : ℕ) (bs : List Bool) (r : Refutation)
         → length bs ≡ length xs
         → taken_count bs ≤ fuel
-        → IsRefutedBy (problem_of l xs (is_in bs) q) r
+        → IsSmallRefuted (problem_of l xs (is_in bs) q) r
         → SomeCore
     some_core_by zero bs r told few is = step bs r told is (λ cs s tells less i. absurd (omega (arith, few, less)))
     some_core_by (suc fuel) bs r told few is =
         step bs r told is (λ cs s tells less i. some_core_by fuel cs s tells (omega (arith, few, less)) i)
 
-    some_core : (r : Refutation) → IsRefutedBy (problem_of l xs everything q) r → SomeCore
+    some_core : (r : Refutation) → IsSmallRefuted (problem_of l xs everything q) r → SomeCore
     some_core r is =
         let all = replicate (length xs) true in
         some_core_by (taken_count all) all r (length-replicate (length xs) true) (omega arith)
-        (subst (λ p. IsRefutedBy p r) (sym (all_taken l xs q all refl)) is)
+        (subst (λ p. IsSmallRefuted p r) (sym (all_taken l xs q all refl)) is)
 
     some_reply : (r : Reply) × IsReply l xs n q r × IsReplyShown r
     some_reply = by (decided everything)
       where
         by : HasAnswer Search n (problem_of l xs everything q) → (r : Reply) × IsReply l xs n q r × IsReplyShown r
-        by (by_structure is_closed m s met can_be_written is_ordered) = (Met m s, met, (can_be_written, is_ordered))
-        by (by_refutation is_closed r is) = let found = some_core r is in (Unmet found.core, found.is_core, found.are_shown)
+        by (by_structure is_closed m s met can_be_written is_ordered) = (Met m s, (is_closed, met), (can_be_written, is_ordered))
+        by (by_refutation is_closed r is) = let found = some_core r (is_closed, is) in (Unmet found.core, found.is_core, found.are_shown)
         by (left_open c stays) = (LeftOpen c, stays, tt)
 
   -- ---- all questions

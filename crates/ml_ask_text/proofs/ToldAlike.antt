@@ -55,9 +55,9 @@ module _ (l : Logic) (xs : List Item) (given : IsSpecified l xs) (n k : ℕ) whe
       → says_no wants o ≡ true
       → ⊥
   clash q (Met m s) (Unmet c) is_question met unmet wants yes_said settled no_said =
-      unmet.is_refuted.is_unsatisfiable (met_less (is_in c.taken) q is_question m s met)
+      unmet.is_refuted.is_unsatisfiable (met_less (is_in c.taken) q is_question m s met.1)
   clash q (Unmet c) (Met m s) is_question unmet met wants yes_said settled no_said =
-      unmet.is_refuted.is_unsatisfiable (met_less (is_in c.taken) q is_question m s met)
+      unmet.is_refuted.is_unsatisfiable (met_less (is_in c.taken) q is_question m s met.1)
   clash q (Met m s) (Met j t) is_question met other wants yes_said settled no_said =
       let wrong : true ≡ false = sym no_said ∙ yes_said in absurd (cc)
   clash q (Unmet c) (Unmet d) is_question unmet other wants yes_said settled no_said =

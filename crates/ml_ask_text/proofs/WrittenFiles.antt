@@ -95,6 +95,7 @@ module _ (l : Logic) (xs : List Item) (n : ℕ) where
   plain_reply q (answer.Open c) is = is
   plain_reply q (answer.No c) is = record {
     are_told = is.are_told;
+    is_small = is.is_small;
     is_refuted = is.is_refuted;
     are_parts = same_numbers c.parts.items ∙ is.are_parts;
     are_so = plain_parts q (is_in c.taken.items) c.parts.items is.are_so;

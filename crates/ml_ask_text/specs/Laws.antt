@@ -5,18 +5,15 @@
 --   AreAlike t u == both are refusals by the same rule at the same place, or both are answers, and never is one as it is meant and
 --                   the other against it
 --   ToldAlike    == so are two things that are told of one text, in whichever forms, and for whichever limits
---   HoldsIfSmall p m s == whoever checks documents finds that the document of p with m and s holds, unless the closure of p is too
---                   large to be checked
---   AcceptedIfSmall p r == that the document of p with the refutation r is accepted, unless it is too large
+--   HoldsByCheck p m s == whoever checks documents finds that the document of p with m and s holds
+--   IsAcceptedByCheck p r == that the document of p with the refutation r is accepted
 --   AreConfirmed l xs q r == so it is of each document of the answer r to q
 --   FilesAreConfirmed == so it is of each document of each answer that is told
 use Rattle.std.specs.Prelude.{ℕ, ◌≡◌, ◌<◌, ◌^◌, Bool, List}
 use Rattle.std.specs.List.{AllByRecursion}
 use Rattle.ml_base.specs.Structure.{Structure}
-use Rattle.ml_front.specs.Graphs.{HasLargeClosure}
 use Rattle.ml_front.specs.declared.logic.Logic.{Logic}
 use Rattle.ml_front.specs.declared.problem.Problem.{Problem}
-use Rattle.ml_front.specs.declared.problem.TheConstants.{MOST_NODES}
 use Rattle.ml_model_check.specs.Checked.{IsCheckedAs}
 use Rattle.ml_model_check.specs.WrittenDocument.{satisfiable_document}
 use Rattle.ml_model_check.specs.declared.checked.Checked.TheVariants.{Holds}
@@ -57,23 +54,23 @@ ToldAlike = (f g : Form) (text : List ℕ) (n k : ℕ) (t u : Told) → IsToldOf
 
 -- ---- documents
 
-abbrev pub HoldsIfSmall : Problem → Structure → ℕ → Type 0
-HoldsIfSmall p m s = ¬ (HasLargeClosure p MOST_NODES) → IsCheckedAs (satisfiable_document p m s) Holds
+abbrev pub HoldsByCheck : Problem → Structure → ℕ → Type 0
+HoldsByCheck p m s = IsCheckedAs (satisfiable_document p m s) Holds
 
-abbrev pub AcceptedIfSmall : Problem → Refutation → Type 0
-AcceptedIfSmall p r = ¬ (HasLargeClosure p MOST_NODES) → IsVerdict (document_of p r) Accepted
+abbrev pub IsAcceptedByCheck : Problem → Refutation → Type 0
+IsAcceptedByCheck p r = IsVerdict (document_of p r) Accepted
 
 abbrev pub IsRestConfirmed : Logic → List Item → Question → (ℕ → Bool) → Rest → Type 0
-IsRestConfirmed l xs q S (StillMet m s) = HoldsIfSmall (problem_of l xs S q) m s
+IsRestConfirmed l xs q S (StillMet m s) = HoldsByCheck (problem_of l xs S q) m s
 IsRestConfirmed l xs q S (StillOpen c) = Unit {0}
 
 abbrev pub IsPartConfirmed : Logic → List Item → Question → (ℕ → Bool) → Part → Type 0
 IsPartConfirmed l xs q S p = IsRestConfirmed l xs q (without S p.requirement) p.rest
 
 abbrev pub AreConfirmed : Logic → List Item → Question → Reply → Type 0
-AreConfirmed l xs q (Met m s) = HoldsIfSmall (problem_of l xs everything q) m s
+AreConfirmed l xs q (Met m s) = HoldsByCheck (problem_of l xs everything q) m s
 AreConfirmed l xs q (Unmet c) =
-    AcceptedIfSmall (problem_of l xs (is_in c.taken) q) c.refutation
+    IsAcceptedByCheck (problem_of l xs (is_in c.taken) q) c.refutation
     × AllByRecursion (IsPartConfirmed l xs q (is_in c.taken)) c.parts
 AreConfirmed l xs q (LeftOpen c) = Unit {0}
 

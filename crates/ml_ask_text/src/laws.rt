@@ -19,7 +19,7 @@ pub fn told_alike()
 {}
 
 /// Of the documents that are told in files each with a structure is answered `Holds` by `ml_model_check::check_document`, and each
-/// with a refutation `Accepted` by `ml_refute_check::check`, unless the closure of its problem is too large to be checked.
+/// with a refutation `Accepted` by `ml_refute_check::check`.
 ///
 /// Does nothing when called.
 pub fn files_are_confirmed()

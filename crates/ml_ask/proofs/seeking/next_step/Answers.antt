@@ -1,5 +1,6 @@
 use Rattle.std.proofs.Common.{subst}
 use Rattle.ml_front.specs.Problems.{HoldsAt}
+use Rattle.ml_ask.specs.Meeting.{IsSmall}
 use Rattle.ml_ask.proofs.Taken.{all_taken}
 use Rattle.ml_ask.proofs.seeking.next_step.Goals as goal
 
@@ -9,7 +10,9 @@ returns-then-branch c =
     let xs = c.args.specification.now.items.items in
     let m = c.args.model.now in
     let here = c.in_ok-holds_on.ensures c.if-branch.true in
+    let same = all_taken l xs c.args.question c.args.all.now c.requires.all in
     record {
+      is_small = subst IsSmall same here.is_small;
       is_admitted = here.is_admitted;
-      holds = subst (HoldsAt m.structure m.start) (all_taken l xs c.args.question c.args.all.now c.requires.all) here.holds;
+      holds = subst (HoldsAt m.structure m.start) same here.holds;
     }
