@@ -1,12 +1,13 @@
 // Answers to tasks: a candidate that is confirmed, or else what the whole game finds.
 ghost use Rattle.std.specs.Prelude.{◌≤◌, IfOk, IfSome, IsErrOf, IsTrue};
-ghost use Rattle.ml_make.specs.Making.{IsAnswer, IsConfirmed};
+ghost use Rattle.ml_make.specs.Making.{IsAnswer, IsConfirmed, IsNumbered};
 ghost use Rattle.ml_realize.specs.Realizing.{IsRight};
 ghost use Rattle.ml_realize.specs.TaskGame.{IsLarge, PassesLimit};
 ghost use Rattle.ml_realize.specs.declared.refusals.RealizeRefusal.TheVariants as refusal;
 ghost use Rattle.ml_task.specs.Task.{task_of};
 
 use crate::fitting::fits;
+use crate::numbering::is_numbered;
 use ml_base::NoMemory;
 use ml_machine_check::{Checked, check};
 use ml_make_engine::candidate;
@@ -15,12 +16,12 @@ use ml_synthesis::Outcome;
 use ml_task::Task;
 use std::alloc::Global;
 
-// does the check say that it holds?
+// are its states numbered breadth first, and does the check say that it holds?
 fn is_confirmed(alloc: Global, task: &Task, outcome: &Outcome) -> Result<bool, NoMemory>
     ensures { IfOk result (λ holds. IsTrue holds
         → IsConfirmed (task_of task.now.inputs.items task.now.outputs.items task.now.formula) outcome.now) }
 {
-    if !fits(task, outcome) {
+    if !fits(task, outcome) || !is_numbered(outcome) {
         return Ok(false);
     }
     match check(alloc, task, outcome)? {
@@ -50,6 +51,7 @@ fn confirmed(alloc: Global, task: &Task, limit: u32) -> Result<Option<Outcome>, 
 ///
 /// Back comes the machine, each of whose words satisfies the formula, or the environment, none of whose words does. Either
 /// `ml_machine_check::check` says that it holds, or it is one that `ml_realize::realize` may give for the same task and limit.
+/// Its states are numbered breadth first from 0, sets ascending, so that each of them is reached.
 ///
 /// # Errors
 /// Those of `realize` for the same task and limit, and only where it refuses so: `ClosureTooLarge`, where the graph of the
@@ -62,6 +64,7 @@ fn confirmed(alloc: Global, task: &Task, limit: u32) -> Result<Option<Outcome>, 
 pub fn make(alloc: Global, task: &Task, limit: u32) -> Result<Outcome, RealizeRefusal>
     requires { 1 ≤ limit }
     ensures right { IfOk result (IsRight (task_of task.now.inputs.items task.now.outputs.items task.now.formula)) }
+    ensures numbered { IfOk result IsNumbered }
     ensures answer { IfOk result (IsAnswer (task_of task.now.inputs.items task.now.outputs.items task.now.formula) limit) }
     ensures passed { IsErrOf result refusal.Passed
         → PassesLimit (task_of task.now.inputs.items task.now.outputs.items task.now.formula) limit }
