@@ -131,13 +131,16 @@ module _ (text : List ℕ) (i : ℕ) (word : word_in text ≡ Some i) (from : �
               (subst (λ rs. AreRowClaims ids rs cs) (sym are_rows ∙ w.rows) are));
         }
 
-        pub entries_unknown : RowsHaveStranger ids rows → (at : ℕ) → at ≡ stranger_from ids (length text) 1 (signs_from text from)
+        pub entries_unknown : RowsHaveStranger ids rows
+            → (at : ℕ)
+            → at ≡ stranger_from ids (length text) 1 (signs_from text from)
             → ComesLast text at
         entries_unknown strange at is =
             let there = entry_stranger named.ids w.draft.entries (signs_of solution) w.references
             (subst (λ xs. RowsHaveStranger xs (map entry_row w.draft.entries)) are_ids
             (subst (RowsHaveStranger ids) (sym are_rows ∙ w.rows) strange)) in
-            let found = first_stranger named.ids (length text) solution (small_entry_number (signs_of solution) w.faultless) there in
+            let small = small_entry_number (signs_of solution) w.faultless in
+            let found = first_stranger named.ids (length text) solution small there in
             let from_front : stranger_from ids (length text) 1 (signs_from text from)
             ≡ stranger_from named.ids (length text) 1 (signs_in solution) =
             ap (λ xs. stranger_from xs (length text) 1 (signs_from text from)) are_ids

@@ -271,11 +271,15 @@ one_last text at to x y = by x.1 y.1
     Here : ℕ → Type 0
     Here n = (named : NamedGame) × IsReadAs (game_part text) named × ComesBehind text (IsFirstStranger named.ids) n
 
-    not_read : (n : ℕ) → IsRefusedBy (game_part text) (refusal.Unknown n) → (named : NamedGame) → IsReadAs (game_part text) named
+    not_read : (n : ℕ)
+        → IsRefusedBy (game_part text) (refusal.Unknown n)
+        → (named : NamedGame)
+        → IsReadAs (game_part text) named
         → ⊥
     not_read n refused named game = unknown_told n (never_both (game_part text) named (refusal.Unknown n) game refused)
 
-    by : IsRefusedBy (game_part text) (refusal.Unknown at) ⊎ Here at → IsRefusedBy (game_part text) (refusal.Unknown to) ⊎ Here to
+    by : IsRefusedBy (game_part text) (refusal.Unknown at) ⊎ Here at
+        → IsRefusedBy (game_part text) (refusal.Unknown to) ⊎ Here to
         → Foreign at ≡ Foreign to
     by (inl a) (inl b) =
         ap kind (one_refusal (game_part text) (refusal.Unknown at) (refusal.Unknown to) (unknown_told at) (unknown_told to) a b)

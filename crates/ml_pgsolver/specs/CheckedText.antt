@@ -1,10 +1,10 @@
 -- The text of a game with a solution behind it: which claims it stands for, and where it is refused.
 --
--- The solution begins at the first token of the text that is the word `paritysol`, so it never begins within a name. What stands
--- before is the text of a game. Of the causes of a refusal but `Unknown` the one at the first token is answered: a fault of the
--- game's text, at the latest where the word stands; else a fault of the solution, which has no token where the word is missing, so
--- that its fault is the text's end. Only where none of these comes, the first successor that is no id, and else the first id of an
--- entry that is none.
+-- The solution begins at the first token of the text that is the word `paritysol`, so it never begins within a name. What
+-- stands before is the text of a game. Of the causes of a refusal but `Unknown` the one at the first token is answered: a
+-- fault of the game's text, at the latest where the word stands; else a fault of the solution, which has no token where the
+-- word is missing, so that its fault is the text's end. Only where none of these comes, the first successor that is no id, and
+-- else the first id of an entry that is none.
 --
 --   word_in text              == the byte at which the word stands, if it does
 --   game_part text            == what stands before it

@@ -1,8 +1,8 @@
 -- The word `paritysol`, sought byte by byte outside of names, as the program does it.
 --
 --   inside_name b rest  == how many bytes behind this one belong to a name that begins here
---   word_from k i text  == the byte at which the word stands in a text whose first byte stands at the place i, where its first k
---                          bytes belong to a name
+--   word_from k i text  == the byte at which the word stands in a text whose first byte stands at the place i, where its
+--                          first k bytes belong to a name
 --   word_sought text    == that of a whole text
 use Rattle.std.specs.Prelude.{ℕ, zero, suc, ◌+◌, ◌-◌, ◌==◌, nat_eq, List, [], ◌∷◌, length, Option, Some, None, if◌then◌else◌, codes}
 use Rattle.std.specs.List.{starts_with}
