@@ -13,7 +13,7 @@ fn told(alloc: Global, command: &str, input: &[u8], output: &[u8]) -> Result<Str
     }
 }
 
-const ROWS: [(&str, &[u8], &[u8], &str); 23] = [
+const ROWS: [(&str, &[u8], &[u8], &str); 29] = [
     (
         "check-model",
         b"mlsolver 2\nanswer satisfiable\nlogic mu\nsense plain\nformula p &\nstates 1\n",
@@ -43,6 +43,12 @@ const ROWS: [(&str, &[u8], &[u8], &str); 23] = [
         b"mlsolver 2\nanswer satisfiable\nlogic ctl\nsense negated\nformula E F p\n",
         b"holds\n",
         "holds: the negation of E F p, logic ctl",
+    ),
+    (
+        "check-model",
+        b"mlsolver 2\nanswer satisfiable\nlogic mu\nsense plain\nformula p10 & p11 & p12 & p13 & p14 & p15 & p16 & p17 & p18 & p19 & p20 & p21 & p22 & p23 & p24 & p25 & p26 & p27 & p28 & p29 & p30 & p31 & p32 & p33 & p34 & p35 & p36 & p37 & p38 & p39 & p40 & p41 & p42 & p43 & p44 & p45 & p46 & p47 & p48 & p49 & p50 & p51 & p52 & p53 & p54 & p55 & p56 & p57 & p58 & p59\n",
+        b"holds\n",
+        "holds: p10 & p11 & p12 & p13 & p14 & p15 & p16 & p17 & p18 & p19 & p20 & p21 & p22 & p23 & p24 & p25 & p26 & p27 & p28 & p29 & p30 & p31 & p32 & p33 & p34 & p35 & p36 & p37 & p38 & p39 & p40 & p41 & p42 & p4 .., logic mu",
     ),
     (
         "check-refutation",
@@ -133,6 +139,36 @@ const ROWS: [(&str, &[u8], &[u8], &str); 23] = [
         b"logic mu\nrequire a: p &\nrequire b: p\n",
         b"refused line 2 column 15 rule 1\n",
         "line 2, column 15: the formula ends too soon; expected: a proposition, a variable, `tt`, `ff`, `!`, `(`, `<`, `[`, `mu`, `nu`",
+    ),
+    (
+        "ask",
+        b"logic ltl\n require a: p\n",
+        b"refused line 1 column 1 rule 61\n",
+        "line 1, column 1: an item begins in column 1; line 2 begins with a blank, so it continues the item before it",
+    ),
+    (
+        "ask",
+        b" logic ltl\nrequire a: p\n",
+        b"refused line 1 column 2 rule 61\n",
+        "line 1, column 2: an item begins in column 1; line 1 begins with a blank, so it continues the item before it",
+    ),
+    (
+        "ask",
+        b"logic ltl\nrequire a: G p\n possible b: q # so\n",
+        b"refused line 3 column 2 rule 1\n",
+        "line 3, column 2: an item begins in column 1; line 3 begins with a blank, so it continues the item before it",
+    ),
+    (
+        "ask",
+        b"logic ltl\nrequire a: G p &\n  follows U )\n",
+        b"refused line 3 column 13 rule 1\n",
+        "line 3, column 13: `)` isn't expected here; expected: a proposition, `tt`, `ff`, `!`, `(`, `X`, `F`, `G`",
+    ),
+    (
+        "ask",
+        b"logic word\nrequire a: G(mode = 3)\n",
+        b"refused line 2 column 19 rule 1\n",
+        "line 2, column 19: `=` isn't expected here; expected: `)`, `&`, `|`, `->`, `<->`, `U`, `R`, `W`; there are no numbers to compare: take a proposition like `mode_3` for `mode = 3` (docs/FORMULAS.md)",
     ),
     (
         "make",

@@ -14,7 +14,7 @@ fn told(alloc: Global, logic: &str, text: &[u8], output: &[u8]) -> Result<String
     }
 }
 
-const ROWS: [(&str, &[u8], &[u8], &str); 14] = [
+const ROWS: [(&str, &[u8], &[u8], &str); 22] = [
     (
         "mu",
         b"p q",
@@ -68,6 +68,54 @@ const ROWS: [(&str, &[u8], &[u8], &str); 14] = [
         b"p \xe2\x88\xa7 q",
         b"refused text rule 1 at 2\n",
         "line 1, column 3: `\u{2227}` isn't expected here; expected: `&`, `|`, `->`, `<->`, `U`, `R`, `W`, the end of the formula",
+    ),
+    (
+        "ltl",
+        b"F[0,3] p",
+        b"refused text rule 1 at 1\n",
+        "line 1, column 2: `[` isn't expected here; expected: a proposition, `tt`, `ff`, `!`, `(`, `X`, `F`, `G`; operators have no bounds: write `X X p` for `X[2] p` (docs/FORMULAS.md)",
+    ),
+    (
+        "ctl",
+        b"A X [2] p",
+        b"refused text rule 1 at 4\n",
+        "line 1, column 5: `[` isn't expected here; expected: a proposition, `tt`, `ff`, `!`, `(`, `E`, `A`, `X`, `F`, `G`; operators have no bounds: write `X X p` for `X[2] p` (docs/FORMULAS.md)",
+    ),
+    (
+        "word",
+        b"G(x <= 3)",
+        b"refused text rule 1 at 4\n",
+        "line 1, column 5: `<` isn't expected here; expected: `)`, `&`, `|`, `->`, `<->`, `U`, `R`, `W`; there are no numbers to compare: take a proposition like `mode_3` for `mode = 3` (docs/FORMULAS.md)",
+    ),
+    (
+        "mu",
+        b"mode != 3",
+        b"refused text rule 1 at 5\n",
+        "line 1, column 6: `!` isn't expected here; expected: `&`, `|`, `->`, `<->`, the end of the formula; there are no numbers to compare: take a proposition like `mode_3` for `mode = 3` (docs/FORMULAS.md)",
+    ),
+    (
+        "word",
+        b"G(Request -> q)",
+        b"refused text rule 1 at 2\n",
+        "line 1, column 3: `R` isn't expected here; expected: a proposition, `tt`, `ff`, `!`, `(`, `X`, `F`, `G`; a proposition begins with a lower-case letter (docs/FORMULAS.md)",
+    ),
+    (
+        "ltl",
+        b"F(P & q)",
+        b"refused text rule 1 at 2\n",
+        "line 1, column 3: `P` isn't expected here; expected: a proposition, `tt`, `ff`, `!`, `(`, `X`, `F`, `G`; a proposition begins with a lower-case letter (docs/FORMULAS.md)",
+    ),
+    (
+        "pdl",
+        b"<a>Open",
+        b"refused text rule 1 at 3\n",
+        "line 1, column 4: `Open` isn't expected here; expected: a proposition, `tt`, `ff`, `!`, `(`, `<`, `[`, `repeat`; a proposition begins with a lower-case letter (docs/FORMULAS.md)",
+    ),
+    (
+        "mu",
+        b"<a>Open",
+        b"refused text rule 2 at 3\n",
+        "line 1, column 4: the variable `Open` has no `mu` or `nu` around it; a proposition begins with a lower-case letter (docs/FORMULAS.md)",
     ),
     (
         "mu",

@@ -3,9 +3,12 @@
 //
 //   formulas    where formulas are refused, and what may follow there
 //   documents   where documents, tasks, games, automata and requirements are refused, and of which problem a document speaks
+//   words       why words are no command
 #![tactic(auto)]
 
 #[cfg(test)]
 mod documents;
 #[cfg(test)]
 mod formulas;
+#[cfg(test)]
+mod words;

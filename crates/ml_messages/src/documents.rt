@@ -3,9 +3,12 @@
 use crate::formulas::{formula_fault, refusal_of};
 use crate::names::unknown_name;
 use crate::rules::{Shape, of_acceptance, of_document};
-use crate::shown::{behind, last_line, line_of, shown};
+use crate::shown::{behind, cut, last_line, line_of, shown};
 use ml_front::Logic;
 use std::alloc::{AllocError, Global};
+
+/// How many bytes of a formula are shown at most.
+const LONGEST_FORMULA: usize = 200;
 
 /// Why a document or a task is refused at this line.
 pub(crate) fn document_fault(
@@ -117,7 +120,7 @@ pub(crate) fn checked_problem(
         return Ok(None);
     };
     let logic = String::from_utf8_lossy(alloc, logic)?;
-    let formula = String::from_utf8_lossy(alloc, formula)?;
+    let formula = cut(alloc, formula, LONGEST_FORMULA)?;
     let negation = if sense == b"sense negated".as_slice() {
         "the negation of "
     } else {

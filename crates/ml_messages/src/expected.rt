@@ -197,13 +197,22 @@ fn add_names(
     if may_follow(alloc, logic, front, b"_")? {
         return add(list, "an action");
     }
-    if may_follow(alloc, logic, front, b"p")? {
+    if may_be_proposition(alloc, logic, front)? {
         add(list, "a proposition")?;
     }
     if matches!(logic, Logic::Mu) && may_follow(alloc, logic, front, b"X")? {
         add(list, "a variable")?;
     }
     Ok(())
+}
+
+/// May a proposition follow the front?
+pub(crate) fn may_be_proposition(
+    alloc: Global,
+    logic: Logic,
+    front: &[u8],
+) -> Result<bool, AllocError> {
+    may_follow(alloc, logic, front, b"p")
 }
 
 fn add(list: &mut String, told: &str) -> Result<(), AllocError> {

@@ -1,6 +1,7 @@
 // Why the text of a formula is refused.
 
-use crate::expected::expected;
+use crate::expected::{expected, may_be_proposition};
+use crate::hints::{LOWER_CASE, hint, is_capitalised};
 use crate::shown::{shown, token};
 use ml_base::ParseRefusal;
 use ml_front::{Logic, read};
@@ -24,8 +25,12 @@ pub(crate) fn formula_fault(
     let found = token(rest, matches!(logic, Logic::Ctl | Logic::Ltl | Logic::Word));
     let name = shown(alloc, found)?;
     match rule {
-        1 => syntax_fault(alloc, logic, front, found),
-        2 => format!(in alloc; "the variable {name} has no `mu` or `nu` around it"),
+        1 => syntax_fault(alloc, logic, front, rest, found),
+        2 => {
+            let cause = format!(in alloc; "the variable {name} has no `mu` or `nu` around it")?;
+            let note = if is_capitalised(rest) { LOWER_CASE } else { "" };
+            with_more(alloc, cause, note)
+        }
         3 => format!(in alloc;
             "between the variable {name} and its `mu` or `nu` there is a `<->`, or an odd number of negations (the left side of `->` counts as one)"
         ),
@@ -42,23 +47,34 @@ fn syntax_fault(
     alloc: Global,
     logic: Logic,
     front: &[u8],
+    rest: &[u8],
     found: &[u8],
 ) -> Result<String, AllocError> {
-    let list = if front.len() <= LONGEST_FRONT {
-        expected(alloc, logic, front, found)?
-    } else {
-        String::new(alloc)
-    };
     let cause = if found.is_empty() {
         String::from_str(alloc, "the formula ends too soon")?
     } else {
         let name = shown(alloc, found)?;
         format!(in alloc; "{name} isn't expected here")?
     };
-    if list.is_empty() {
+    if front.len() > LONGEST_FRONT {
         return Ok(cause);
     }
-    format!(in alloc; "{cause}; expected: {list}")
+    let list = expected(alloc, logic, front, found)?;
+    let note = hint(logic, front, rest, may_be_proposition(alloc, logic, front)?);
+    let cause = if list.is_empty() {
+        cause
+    } else {
+        format!(in alloc; "{cause}; expected: {list}")?
+    };
+    with_more(alloc, cause, note.unwrap_or(""))
+}
+
+// the sentence with another one behind it, if there is one
+fn with_more(alloc: Global, sentence: String, more: &str) -> Result<String, AllocError> {
+    if more.is_empty() {
+        return Ok(sentence);
+    }
+    format!(in alloc; "{sentence}; {more}")
 }
 
 /// The rule and the byte by which the parser refuses the text, if it does.

@@ -2,7 +2,8 @@
 //
 // `explanation` takes the words of a call, its input and its output, and tells in a sentence what the output tells by numbers:
 // the line and the column of a formula's fault, the word that is found there and what may follow in its place; the line of a
-// document that is at fault, and what its rule asks; and, where a document is checked, which formula it speaks of.
+// document that is at fault, and what its rule asks; and, where a document is checked, which formula it speaks of. `words_fault`
+// takes words that are no command, and tells which of them is at fault.
 //
 // No contract speaks of these sentences. The output and the status of a call are those of `ml_driver::run`, whatever is told
 // here.
@@ -14,10 +15,13 @@ mod documents;
 mod expected;
 mod explaining;
 mod formulas;
+mod hints;
 mod names;
 mod requirements;
 mod rules;
 mod shown;
 mod told;
+mod words;
 
 pub use explaining::explanation;
+pub use words::words_fault;

@@ -2,13 +2,20 @@
 
 use crate::formulas::formula_fault;
 use crate::rules::of_requirements;
+use crate::shown::{last_line, line_of};
 use ml_front::Logic;
 use ml_lines::split_line;
-use ml_spec::{behind_colon, next_item, split_name, split_word, uncommented};
+use ml_spec::{behind_colon, kind_named, next_item, split_name, split_word, uncommented};
 use std::alloc::{AllocError, Global};
 
 /// The last rule of formulas.
 const LAST_OF_FORMULAS: u32 = 6;
+
+/// The rule of the first item.
+const FIRST_ITEM: u32 = 61;
+
+/// The last rule of what stands in front of a formula.
+const LAST_OF_HEADS: u32 = 64;
 
 /// Why a file of requirements is refused by this rule at this line and column.
 pub(crate) fn requirements_fault(
@@ -29,13 +36,51 @@ fn requirements_cause(
     column: usize,
     rule: u32,
 ) -> Result<String, AllocError> {
+    if rule > LAST_OF_HEADS {
+        return String::from_str(alloc, of_requirements(rule));
+    }
+    let text = uncommented(alloc, input).map_err(|_| AllocError)?;
+    if let Some(indented) = indented_item(&text, line, rule) {
+        return format!(in alloc;
+            "an item begins in column 1; line {indented} begins with a blank, so it continues the item before it"
+        );
+    }
     if rule <= LAST_OF_FORMULAS {
-        let text = uncommented(alloc, input).map_err(|_| AllocError)?;
         if let Some(place) = place_in_formula(&text, line, column) {
             return formula_fault(alloc, place.logic, place.formula, rule, place.at);
         }
     }
     String::from_str(alloc, of_requirements(rule))
+}
+
+// The line that looks like an item, but for the blanks in front of it: that of the fault, or the one behind it, where the first
+// item is at fault, which begins with `logic`.
+fn indented_item(text: &[u8], line: usize, rule: u32) -> Option<usize> {
+    if looks_like_item(text, line) {
+        return Some(line);
+    }
+    let next = line.checked_add(1)?;
+    if rule == FIRST_ITEM && looks_like_item(text, next) {
+        return Some(next);
+    }
+    None
+}
+
+// does the line begin with blanks, and then with a kind, a name and a colon, or with `logic` and the word of a logic?
+fn looks_like_item(text: &[u8], line: usize) -> bool {
+    let Some(line) = line_of(text, line).or(last_line(text, line)) else {
+        return false;
+    };
+    let item = line.trim_ascii();
+    if line.len() == item.len() || line.starts_with(item) {
+        return false;
+    }
+    let (word, behind_word) = split_word(item);
+    if word == b"logic".as_slice() {
+        return Logic::named(behind_word).is_some();
+    }
+    let (_, behind_name) = split_name(behind_word);
+    kind_named(word).is_some() && behind_colon(behind_name).is_some()
 }
 
 /// A byte of the formula of an item.

@@ -12,14 +12,20 @@ pub(crate) fn shown(alloc: Global, bytes: &[u8]) -> Result<String, AllocError> {
         [byte] if !is_printable(*byte) => return format!(in alloc; "the byte {byte}"),
         _ => {}
     }
-    let front = match bytes.get(..LONGEST_SHOWN) {
+    let text = cut(alloc, bytes, LONGEST_SHOWN)?;
+    format!(in alloc; "`{text}`")
+}
+
+/// The bytes as a text, up to so many of them, with ` ..` behind it where there are more.
+pub(crate) fn cut(alloc: Global, bytes: &[u8], most: usize) -> Result<String, AllocError> {
+    let front = match bytes.get(..most) {
         Some(front) => front,
         None => bytes,
     };
     let more = if front.len() < bytes.len() { " .." } else { "" };
     let escaped = escaped(alloc, front)?;
     let text = String::from_utf8_lossy(alloc, &escaped)?;
-    format!(in alloc; "`{text}{more}`")
+    format!(in alloc; "{text}{more}")
 }
 
 // The bytes with those that control a terminal spelt out, and a byte order mark.

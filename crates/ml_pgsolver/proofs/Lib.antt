@@ -76,6 +76,8 @@ pub mod SomeChecked
 pub mod OneFound
 -- the word behind the text of a game
 pub mod WordsBehind
+-- the word among tokens
+mod WordTokens
 -- the text of a solution, sign by sign
 mod WrittenSigns
 -- what is written for a solution is accepted

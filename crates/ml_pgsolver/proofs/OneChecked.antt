@@ -3,9 +3,8 @@
 --   one_checked         == it stands for one game with one list of claims at most
 --   one_check_refusal   == it is refused in one way at most
 --   never_both_checked  == what is read is refused by nothing but want of memory
-use Rattle.std.proofs.Common.{◌≡◌, ◌≢◌, ℕ, ◌<◌, ◌≤◌, ◌⊎◌, List, [], ◌∷◌, ◌++◌, length, take, Option, Some, None, Ok, Err, refl, sym, ◌∙◌, ap, subst, arith, inl, inr}
+use Rattle.std.proofs.Common.{◌≡◌, ◌≢◌, ℕ, ◌<◌, ◌≤◌, ◌⊎◌, List, [], ◌∷◌, ◌++◌, length, Option, Some, None, Ok, Err, refl, sym, ◌∙◌, ap, subst, arith, inl, inr}
 use Rattle.std.specs.List.{flat_map}
-use Rattle.std.specs.Prelude.{MatchOption}
 use Rattle.std.proofs.lemmas.Bool.{cases_lt}
 use Rattle.std.proofs.lemmas.List.{ext_get_or}
 use Rattle.ml_game_check.specs.RightClaims.{Claims, claim_at}
@@ -14,9 +13,9 @@ use Rattle.ml_lists.specs.Ascending.{IsAscending}
 use Rattle.ml_lists.specs.Member.{IsMember}
 use Rattle.ml_lists.proofs.Ascending.{ascending-apart}
 use Rattle.ml_lists.proofs.Member.{member-append_left, member-append_right, member-flat_map_from, place-member}
-use Rattle.ml_pgsolver.specs.CheckedText.{AreClaimsOf, ComesLast, ComesLater, IsCheckRefusedBy, IsCheckedAs, IsClaimOf, IsFirstStranger, IsMoveOf, IsStranger, behind, game_part, part_before, word_in}
+use Rattle.ml_pgsolver.specs.CheckedText.{AreClaimsOf, ComesBehind, ComesLast, ComesLater, IsCheckRefusedBy, IsCheckedAs, IsClaimOf, IsFirstStranger, IsMoveOf, IsStranger, game_part, solution_part}
 use Rattle.ml_pgsolver.specs.GameText.{NamedGame, id_at}
-use Rattle.ml_pgsolver.specs.Refusals.{Cause, HasNoFault, HasNoFaultIn, IsFirstFaultIn, IsReadAs, IsRefusedBy, Repeated, Syntax, TooLarge, TooMany, next_place, offset_of, place_from, rank, roles_from}
+use Rattle.ml_pgsolver.specs.Refusals.{Cause, HasNoFault, HasNoFaultIn, IsReadAs, IsRefusedBy, Repeated, Syntax, TooLarge, TooMany, next_place, offset_of, place_from, rank, roles_from}
 use Rattle.ml_pgsolver.specs.SolutionGrammar.{Entry, SolutionDraft, reference_at_place, solution_form, solution_tokens}
 use Rattle.ml_pgsolver.specs.Tokens.{Placed, Token, signs_of, tokens}
 use Rattle.ml_pgsolver.specs.declared.refusal.GameTextRefusal.{GameTextRefusal}
@@ -84,17 +83,11 @@ one_draft : (ts : List Token) (d e : SolutionDraft) → ts ≡ solution_tokens d
 one_draft ts d e is_d is_e =
     let d_run = solution-ended ts d is_d in let e_run = solution-ended ts e is_e in cc
 
-one_word : (i j : ℕ) (o : Option ℕ) → o ≡ Some i → o ≡ Some j → i ≡ j
-one_word i j o is_i is_j = let e : Some i ≡ Some j = sym is_i ∙ is_j in cc
-
 pub one_checked : (text : List ℕ) (g h : NamedGame) (cs ds : Claims) → IsCheckedAs text g cs → IsCheckedAs text h ds
     → (g ≡ h) × (cs ≡ ds)
 one_checked text g h cs ds a b =
-    let word = one_word b.word a.word (word_in text) b.stands a.stands in
-    let b_game = subst (λ i. IsReadAs (take i text) h) word b.game in
-    let game = one_game_of_text (take a.word text) g h a.game.stands b_game.stands in
-    let b_spelled = subst (λ i. signs_of (behind text i) ≡ solution_tokens b.draft) word b.spelled in
-    let entries = one_draft (signs_of (behind text a.word)) b.draft a.draft b_spelled a.spelled in
+    let game = one_game_of_text (game_part text) g h a.game.stands b.game.stands in
+    let entries = one_draft (signs_of (solution_part text)) b.draft a.draft b.spelled a.spelled in
     let b_claims = subst (λ n. AreClaimsOf n.ids a.draft.entries ds) (sym game)
     (subst (λ es. AreClaimsOf h.ids es ds) entries b.claims) in
     (game, one_list g.ids a.game.stands.is_game.is_named.ascends a.draft.entries cs ds a.claims b_claims)
@@ -143,11 +136,11 @@ entry_known ids e v c is n (inl same) = subst (λ k. IsMember k ids) (is.vertex 
 entry_known ids e v c is n (inr member) = move_known ids e.move_to c.move_to n is.move_to member
 
 no_stranger_there : (text : List ℕ) (g : NamedGame) (cs : Claims) (a : IsCheckedAs text g cs) (k : ℕ)
-    → IsStranger g.ids (signs_of (behind text a.word)) k
+    → IsStranger g.ids (signs_of (solution_part text)) k
     → ⊥
 no_stranger_there text g cs a k (before, t, there, (n, role, none)) =
-    let ts = signs_of (behind text a.word) in
-    let w = (whole_tokens (behind text a.word) 0 a.faultless).1 in
+    let ts = signs_of (solution_part text) in
+    let w = (whole_tokens (solution_part text) 0 a.faultless).1 in
     let entries = one_draft ts w.draft a.draft w.spelled a.spelled in
     let listed = reference_listed ts before t there.behind n there.all role in
     let from = member-flat_map_from entry_references n a.draft.entries
@@ -155,51 +148,22 @@ no_stranger_there text g cs a k (before, t, there, (n, role, none)) =
     let claimed = a.claims.each from.from from.member in
     none (entry_known g.ids from.from claimed.0 claimed.1 claimed.3 n from.inside)
 
-later_in : (text : List ℕ) (o : Option ℕ) → word_in text ≡ o → (c : Cause) (at : ℕ) → ComesLater text c at
-    → HasNoFault (signs_of (tokens (part_before o text)))
-    × MatchOption o
-    ((c ≡ Syntax) × (at ≡ length text))
-    (λ i. (k : ℕ) × IsFirstFaultIn solution_form c (signs_of (behind text i)) k
-    × (at ≡ offset_of (length text) (behind text i) k))
-later_in text o is c at comes =
-    subst (λ w. HasNoFault (signs_of (tokens (part_before w text)))
-    × MatchOption w
-    ((c ≡ Syntax) × (at ≡ length text))
-    (λ i. (k : ℕ) × IsFirstFaultIn solution_form c (signs_of (behind text i)) k
-    × (at ≡ offset_of (length text) (behind text i) k))) is comes
+unknown_told : (at : ℕ) → refusal.Unknown at ≢ refusal.NoMemory
+unknown_told at e = cc
 
 module _ (text : List ℕ) (g : NamedGame) (cs : Claims) (a : IsCheckedAs text g cs) where
   not_front : (e : GameTextRefusal) → (e ≡ refusal.NoMemory → ⊥) → IsRefusedBy (game_part text) e → ⊥
-  not_front e other refused =
-      other (never_both (take a.word text) g e a.game (subst (λ w. IsRefusedBy (part_before w text) e) a.stands refused))
+  not_front e other refused = other (never_both (game_part text) g e a.game refused)
 
   not_later : (c : Cause) (at : ℕ) → ComesLater text c at → ⊥
-  not_later c at later =
-      let r = (later_in text (Some a.word) a.stands c at later).1 in a.faultless c r.0 r.1.comes
+  not_later c at (front, (k, first, is)) = a.faultless c k first.comes
 
   not_last : (at : ℕ) → ComesLast text at → ⊥
-  not_last at last = by last.comes
-    where
-      word : last.word ≡ a.word
-      word = one_word last.word a.word (word_in text) last.stands a.stands
-
-      by : IsRefusedBy (take last.word text) (refusal.Unknown at)
-          ⊎ ((named : NamedGame) × IsReadAs (take last.word text) named
-          × ((k : ℕ) × IsFirstStranger named.ids (signs_of (behind text last.word)) k
-          × (at ≡ offset_of (length text) (behind text last.word) k)))
-          → ⊥
-      by (inl refused) =
-          let wrong = never_both (take a.word text) g (refusal.Unknown at) a.game
-          (subst (λ i. IsRefusedBy (take i text) (refusal.Unknown at)) word refused) in absurd (unknown_no_memory at wrong)
-        where
-          unknown_no_memory : (n : ℕ) → refusal.Unknown n ≡ refusal.NoMemory → ⊥
-          unknown_no_memory n e = cc
-      by (inr (named, game, (k, stranger, is))) =
-          let same = one_game_of_text (take a.word text) named g
-          (subst (λ i. IsReadAs (take i text) named) word game).stands a.game.stands in
-          no_stranger_there text g cs a k
-          (subst (λ n. IsStranger n.ids (signs_of (behind text a.word)) k) same
-          (subst (λ i. IsStranger named.ids (signs_of (behind text i)) k) word stranger.comes))
+  not_last at (faultless, inl refused) = not_front (refusal.Unknown at) (unknown_told at) refused
+  not_last at (faultless, inr (named, game, (k, stranger, is))) =
+      let same = one_game_of_text (game_part text) named g game.stands a.game.stands in
+      no_stranger_there text g cs a k
+      (subst (λ n. IsStranger n.ids (signs_of (solution_part text)) k) same stranger.comes)
 
   split : (e : GameTextRefusal) (c : Cause) (at : ℕ) → (e ≡ refusal.NoMemory → ⊥)
       → IsRefusedBy (game_part text) e ⊎ ComesLater text c at
@@ -280,15 +244,8 @@ front_faulty text TooLarge at (k, x, is) faultless = faultless TooLarge k x.come
 
 -- where the last cause comes, the game's text has no fault
 last_faultless : (text : List ℕ) (at : ℕ) → ComesLast text at → HasNoFault (signs_of (tokens (game_part text)))
-last_faultless text at x = subst (λ w. HasNoFault (signs_of (tokens (part_before w text)))) (sym x.stands) (by x.comes)
-  where
-    by : IsRefusedBy (take x.word text) (refusal.Unknown at)
-        ⊎ ((named : NamedGame) × IsReadAs (take x.word text) named
-        × ((k : ℕ) × IsFirstStranger named.ids (signs_of (behind text x.word)) k
-        × (at ≡ offset_of (length text) (behind text x.word) k)))
-        → HasNoFault (signs_of (tokens (take x.word text)))
-    by (inl refused) = refused.1.faultless
-    by (inr (named, game, rest)) = game.faultless
+last_faultless text at (faultless, inl refused) = refused.1.faultless
+last_faultless text at (faultless, inr (named, game, rest)) = game.faultless
 
 kind_of_same : (c d : Cause) (at to : ℕ) → refusal_of (Fault c at) ≡ refusal_of (Fault d to) → Fault c at ≡ Fault d to
 kind_of_same c d at to is = sym (back c at) ∙ ap kind is ∙ back d to
@@ -300,63 +257,41 @@ kind_of_same c d at to is = sym (back c at) ∙ ap kind is ∙ back d to
     back TooLarge n = refl
 
 one_later : (text : List ℕ) (c d : Cause) (at to : ℕ) → ComesLater text c at → ComesLater text d to → Fault c at ≡ Fault d to
-one_later text c d at to x y = by (word_in text) refl
-  where
-    by : (o : Option ℕ) → word_in text ≡ o → Fault c at ≡ Fault d to
-    by None is =
-        let a = (later_in text None is c at x).1 in
-        let b = (later_in text None is d to y).1 in
-        let cause : c ≡ d = a.0 ∙ sym b.0 in
-        let place : at ≡ to = a.1 ∙ sym b.1 in cc
-    by (Some i) is =
-        let a = (later_in text (Some i) is c at x).1 in
-        let b = (later_in text (Some i) is d to y).1 in
-        let both = both_first a.0 b.0 (rank c) (rank d) (a.1.first d b.0 b.1.comes) (b.1.first c a.0 a.1.comes) in
-        let cause = one_cause c d both.1 in
-        let place : at ≡ to = a.2 ∙ ap (offset_of (length text) (behind text i)) both.0 ∙ sym b.2 in cc
+one_later text c d at to (x_front, (k, x, x_is)) (y_front, (j, y, y_is)) =
+    let both = both_first k j (rank c) (rank d) (x.first d j y.comes) (y.first c k x.comes) in
+    let cause = one_cause c d both.1 in
+    let place : at ≡ to = x_is ∙ ap (offset_of (length text) (solution_part text)) both.0 ∙ sym y_is in cc
 
 not_after_last : (text : List ℕ) (c : Cause) (at to : ℕ) → ComesLater text c at → ComesLast text to → ⊥
-not_after_last text c at to x y =
-    let r = (later_in text (Some y.word) y.stands c at x).1 in y.faultless c r.0 r.1.comes
+not_after_last text c at to (front, (k, first, is)) (faultless, comes) = faultless c k first.comes
 
 one_last : (text : List ℕ) (at to : ℕ) → ComesLast text at → ComesLast text to → Foreign at ≡ Foreign to
-one_last text at to x y = by x.comes y.comes
+one_last text at to x y = by x.1 y.1
   where
-    word : y.word ≡ x.word
-    word = one_word y.word x.word (word_in text) y.stands x.stands
+    Here : ℕ → Type 0
+    Here n = (named : NamedGame) × IsReadAs (game_part text) named × ComesBehind text (IsFirstStranger named.ids) n
 
-    Here : ℕ → ℕ → Type 0
-    Here i n =
-        (named : NamedGame) × IsReadAs (take i text) named
-        × ((k : ℕ) × IsFirstStranger named.ids (signs_of (behind text i)) k × (n ≡ offset_of (length text) (behind text i) k))
-
-    not_read : (n m : ℕ) → IsRefusedBy (take x.word text) (refusal.Unknown n) → (named : NamedGame)
-        → IsReadAs (take x.word text) named
+    not_read : (n : ℕ)
+        → IsRefusedBy (game_part text) (refusal.Unknown n)
+        → (named : NamedGame)
+        → IsReadAs (game_part text) named
         → ⊥
-    not_read n m refused named game =
-        let wrong = never_both (take x.word text) named (refusal.Unknown n) game refused in unknown_no_memory n wrong
-      where
-        unknown_no_memory : (j : ℕ) → refusal.Unknown j ≡ refusal.NoMemory → ⊥
-        unknown_no_memory j e = cc
+    not_read n refused named game = unknown_told n (never_both (game_part text) named (refusal.Unknown n) game refused)
 
-    by : IsRefusedBy (take x.word text) (refusal.Unknown at) ⊎ Here x.word at
-        → IsRefusedBy (take y.word text) (refusal.Unknown to) ⊎ Here y.word to
+    by : IsRefusedBy (game_part text) (refusal.Unknown at) ⊎ Here at
+        → IsRefusedBy (game_part text) (refusal.Unknown to) ⊎ Here to
         → Foreign at ≡ Foreign to
     by (inl a) (inl b) =
-        ap kind (one_refusal (take x.word text) (refusal.Unknown at) (refusal.Unknown to) (λ e. cc) (λ e. cc) a
-        (subst (λ i. IsRefusedBy (take i text) (refusal.Unknown to)) word b))
-    by (inl a) (inr (named, game, rest)) =
-        absurd (not_read at to a named (subst (λ i. IsReadAs (take i text) named) word game))
-    by (inr (named, game, rest)) (inl b) =
-        absurd (not_read to at (subst (λ i. IsRefusedBy (take i text) (refusal.Unknown to)) word b) named game)
-    by (inr (named, game, (k, first, is))) (inr other) =
-        let b = subst (λ i. Here i to) word other in
-        let same = one_game_of_text (take x.word text) b.0 named b.1.stands game.stands in
-        let b_first = subst (λ n. IsFirstStranger n.ids (signs_of (behind text x.word)) b.2.0) same b.2.1 in
-        let low = first.first b.2.0 b_first.comes in
+        ap kind (one_refusal (game_part text) (refusal.Unknown at) (refusal.Unknown to) (unknown_told at) (unknown_told to) a b)
+    by (inl a) (inr (named, game, rest)) = absurd (not_read at a named game)
+    by (inr (named, game, rest)) (inl b) = absurd (not_read to b named game)
+    by (inr (named, game, (k, first, is))) (inr (other, also, (j, also_first, also_is))) =
+        let same = one_game_of_text (game_part text) other named also.stands game.stands in
+        let b_first = subst (λ n. IsFirstStranger n.ids (signs_of (solution_part text)) j) same also_first in
+        let low = first.first j b_first.comes in
         let high = b_first.first k first.comes in
-        let place : k ≡ b.2.0 = omega arith in
-        ap Foreign (is ∙ ap (offset_of (length text) (behind text x.word)) place ∙ sym b.2.2)
+        let place : k ≡ j = omega arith in
+        ap Foreign (is ∙ ap (offset_of (length text) (solution_part text)) place ∙ sym also_is)
 
 one_kind : (text : List ℕ) (a b : Kind) → Comes text a → Comes text b → a ≡ b
 one_kind text _ _ (in_front c at c_other x) (in_front d to d_other y) =

@@ -2,16 +2,16 @@
 --
 --   word_here, word_later, word_none == it stands here; it is sought further on; no byte is left
 --   no_word_at                       == where another byte stands, the word doesn't
---   word_fits                        == where it stands, its nine bytes do
+--   sought_fits                      == where it stands, its nine bytes do
 use Rattle.std.proofs.Common.{◌≡◌, ℕ, zero, suc, ◌+◌, ◌-◌, ◌<◌, ◌≤◌, Bool, true, false, List, [], ◌∷◌, length, drop, take, get_or, Option, Some, None, refl, sym, ◌∙◌, ap, arith, ◌==◌, nat_eq, length-drop, drop-drop, codes}
 use Rattle.std.specs.List.{starts_with}
 use Rattle.std.proofs.lemmas.Bool.{cond-true, cond-false, cond_both}
 use Rattle.std.proofs.lemmas.List.{drop_more, drop_all}
 use Rattle.ml_lists.proofs.Entries.{same_head}
 use Rattle.ml_text.proofs.Signs.{starts_with-fits, starts_with-front}
-use Rattle.ml_pgsolver.specs.CheckedText.{inside_name, word_from, word_in}
 use Rattle.ml_pgsolver.specs.Tokens.{quoted, spelling}
 use Rattle.ml_pgsolver.specs.private.Claiming.{IsBehindName}
+use Rattle.ml_pgsolver.specs.private.WordSearch.{inside_name, word_from, word_sought}
 use Rattle.ml_pgsolver.proofs.FirstTokens.{quoted-within}
 
 abbrev pub word : List ℕ
@@ -105,5 +105,5 @@ fits_from zero i (b ∷ rest) =
     record { fits = λ j same. let e : i ≡ j = cc in omega arith })
     (λ other. record { fits = λ j is. let g = f.fits j is in omega arith })
 
-pub word_fits : (text : List ℕ) (i : ℕ) → word_in text ≡ Some i → i + 9 ≤ length text
-word_fits text i is = let f = (fits_from 0 0 text).fits i is in omega arith
+pub sought_fits : (text : List ℕ) (i : ℕ) → word_sought text ≡ Some i → i + 9 ≤ length text
+sought_fits text i is = let f = (fits_from 0 0 text).fits i is in omega arith

@@ -14,10 +14,10 @@ use Rattle.ml_lists.specs.Member.{IsMember}
 use Rattle.ml_lists.proofs.Member.{All-member, member-All}
 use Rattle.ml_text.specs.Bytes.{is_blank, is_digit}
 use Rattle.ml_text.proofs.Signs.{starts_with-front}
-use Rattle.ml_pgsolver.specs.CheckedText.{word_from, word_in}
 use Rattle.ml_pgsolver.specs.Grammar.{Draft, Vertex, draft_tokens, further, name_tokens, vertex_tokens, vertices_of}
 use Rattle.ml_pgsolver.specs.Longest.{IsProper}
 use Rattle.ml_pgsolver.specs.Tokens.{Token, Number, Name, Parity, Comma, Semicolon, Stray, front_token, is_inner, quoted, signs_of, spelling, tokens, tokens_at}
+use Rattle.ml_pgsolver.specs.private.WordSearch.{word_from, word_sought}
 use Rattle.ml_pgsolver.proofs.FirstTokens.{front_token-within, skipped, tokens_at-blank, tokens_at-token}
 use Rattle.ml_pgsolver.proofs.LongestTokens.{closed_name, front_is_longest, run_passes}
 use Rattle.ml_pgsolver.proofs.WordPlaces.{one_byte, passed, stands, word}
@@ -132,7 +132,7 @@ front_proper b rest =
 -- ---- bytes that are passed over
 
 -- neither the word nor a name begins with the byte
-abbrev IsCalm : ℕ → Type 0
+abbrev pub IsCalm : ℕ → Type 0
 IsCalm b = (b ≢ 112) × (b ≢ 34)
 
 not_standing : (b : ℕ) (rest : List ℕ) → b ≢ 112 → stands (b ∷ rest) ≡ false
@@ -152,7 +152,7 @@ not_quote b other = by (b == 34) refl
     by false is = refl
     by true is = absurd (other (eqb-true b 34 is))
 
-calm_byte : (j b : ℕ) (rest : List ℕ) → IsCalm b → word_from 0 j (b ∷ rest) ≡ word_from 0 (j + 1) rest
+pub calm_byte : (j b : ℕ) (rest : List ℕ) → IsCalm b → word_from 0 j (b ∷ rest) ≡ word_from 0 (j + 1) rest
 calm_byte j b rest calm =
     one_byte j b rest (not_standing b rest calm.0)
     ∙ ap (λ k. word_from k (j + 1) rest) (cond-false (b == 34) (length (spelling (quoted rest)) - 1) 0 (not_quote b calm.1))
@@ -166,13 +166,13 @@ calm_bytes j (b ∷ bs) rest calm =
     ∙ calm_bytes (j + 1) bs rest (λ c m. calm c (inr m))
     ∙ ap (λ k. word_from 0 k rest) e
 
-calm_digit : (b : ℕ) → is_digit b ≡ true → IsCalm b
+pub calm_digit : (b : ℕ) → is_digit b ≡ true → IsCalm b
 calm_digit b digit = (
   λ is. let wrong = sym (ap is_digit is) ∙ digit in absurd (cc),
   λ is. let wrong = sym (ap is_digit is) ∙ digit in absurd (cc),
 )
 
-calm_blank : (b : ℕ) → is_blank b ≡ true → IsCalm b
+pub calm_blank : (b : ℕ) → is_blank b ≡ true → IsCalm b
 calm_blank b blank = (
   λ is. let wrong = sym (ap is_blank is) ∙ blank in absurd (cc),
   λ is. let wrong = sym (ap is_blank is) ∙ blank in absurd (cc),
@@ -181,6 +181,14 @@ calm_blank b blank = (
 calm_one : (c b : ℕ) → IsCalm c → IsMember b (c ∷ []) → IsCalm b
 calm_one c b calm (inl same) = subst IsCalm (sym same) calm
 calm_one c b calm (inr none) = absurd none
+
+pub calm_arity : (b : ℕ) → IsMember b (codes "arity") → IsCalm b
+calm_arity b (inl is) = subst IsCalm (sym is) (λ e. absurd (omega arith), λ e. absurd (omega arith))
+calm_arity b (inr (inl is)) = subst IsCalm (sym is) (λ e. absurd (omega arith), λ e. absurd (omega arith))
+calm_arity b (inr (inr (inl is))) = subst IsCalm (sym is) (λ e. absurd (omega arith), λ e. absurd (omega arith))
+calm_arity b (inr (inr (inr (inl is)))) = subst IsCalm (sym is) (λ e. absurd (omega arith), λ e. absurd (omega arith))
+calm_arity b (inr (inr (inr (inr (inl is))))) = subst IsCalm (sym is) (λ e. absurd (omega arith), λ e. absurd (omega arith))
+calm_arity b (inr (inr (inr (inr (inr none))))) = absurd none
 
 name_passed : (j : ℕ) (inner rest : List ℕ) → All (λ b. is_inner b ≡ true) inner
     → word_from 0 j (34 ∷ (inner ++ 34 ∷ []) ++ rest) ≡ word_from 0 (j + length (spelling (Name inner))) rest
@@ -205,7 +213,7 @@ parity_passed : (j c : ℕ) (rest : List ℕ) → c ≢ 115
 parity_passed j c rest other =
     let e : j + 1 + 5 ≡ j + 6 = omega arith in
     one_byte j 112 (codes "arity" ++ c ∷ rest) (by (stands (codes "parity" ++ c ∷ rest)) refl)
-    ∙ calm_bytes (j + 1) (codes "arity") (c ∷ rest) calm
+    ∙ calm_bytes (j + 1) (codes "arity") (c ∷ rest) calm_arity
     ∙ ap (λ k. word_from 0 k (c ∷ rest)) e
   where
     by : (t : Bool) → stands (codes "parity" ++ c ∷ rest) ≡ t → t ≡ false
@@ -214,14 +222,6 @@ parity_passed j c rest other =
         let front = starts_with-front (codes "parity" ++ c ∷ rest) word is in
         let seventh : 115 ≡ c = ap (λ xs. get_or xs 6 0) front in
         absurd (other (sym seventh))
-
-    calm : (b : ℕ) → IsMember b (codes "arity") → IsCalm b
-    calm b (inl is) = subst IsCalm (sym is) (λ e. absurd (omega arith), λ e. absurd (omega arith))
-    calm b (inr (inl is)) = subst IsCalm (sym is) (λ e. absurd (omega arith), λ e. absurd (omega arith))
-    calm b (inr (inr (inl is))) = subst IsCalm (sym is) (λ e. absurd (omega arith), λ e. absurd (omega arith))
-    calm b (inr (inr (inr (inl is)))) = subst IsCalm (sym is) (λ e. absurd (omega arith), λ e. absurd (omega arith))
-    calm b (inr (inr (inr (inr (inl is))))) = subst IsCalm (sym is) (λ e. absurd (omega arith), λ e. absurd (omega arith))
-    calm b (inr (inr (inr (inr (inr none))))) = absurd none
 
 -- before a number stands no `s`
 number_begins : (i : ℕ) (r : List ℕ) → IsNumber (signs_of (tokens_at 0 i r))
@@ -315,7 +315,7 @@ module _ (out : List ℕ) (begins : (j : ℕ) → word_from 0 j out ≡ Some j) 
           by_front (inr (c, stray)) calm =
               absurd (subst (λ t. Quiet t (signs_of (tokens_at (length (spelling (front_token b rest)) - 1) (i + 1) rest))) stray calm.0)
 
-  pub word_behind : (text : List ℕ) → IsQuiet (signs_of (tokens text)) → word_in (text ++ out) ≡ Some (length text)
+  pub word_behind : (text : List ℕ) → IsQuiet (signs_of (tokens text)) → word_sought (text ++ out) ≡ Some (length text)
   unfolding tokens
   word_behind text quiet =
       let e : 0 + length text ≡ length text = omega arith in

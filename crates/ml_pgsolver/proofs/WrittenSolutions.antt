@@ -23,7 +23,7 @@ use Rattle.ml_parity.specs.declared.players.Player.{Player}
 use Rattle.ml_parity.specs.declared.players.Player.TheVariants.{Even, Odd}
 use Rattle.ml_parity.specs.Game.{ParityGame, IsGame, owner_of, size}
 use Rattle.ml_parity.specs.Solution.{GameSolution, IsSolution, choice_at, winner_at}
-use Rattle.ml_pgsolver.specs.CheckedText.{IsCheckedAs, word_from, word_in}
+use Rattle.ml_pgsolver.specs.CheckedText.{IsCheckedAs, word_in}
 use Rattle.ml_pgsolver.specs.GameText.{IsGameOf, NamedGame, Row, id_at, row_of as row_of_vertex}
 use Rattle.ml_pgsolver.specs.Grammar.{vertices_of}
 use Rattle.ml_pgsolver.specs.Laws.{IsWrittenRight, WrittenIsAccepted}
@@ -35,12 +35,14 @@ use Rattle.ml_pgsolver.specs.private.Claiming.{AreRowClaims, IsPlaceOf, IsRowCla
 use Rattle.ml_pgsolver.specs.private.EntryMachine.{EntryState, entries_come, start}
 use Rattle.ml_pgsolver.specs.private.Machine.{State, Step}
 use Rattle.ml_pgsolver.specs.private.Signs.{signs_from, signs_in}
+use Rattle.ml_pgsolver.specs.private.WordSearch.{word_from}
 use Rattle.ml_pgsolver.proofs.Answered.{answered_whole, outcome_of, refused_so}
 use Rattle.ml_pgsolver.proofs.CheckedAnswers.{checked}
 use Rattle.ml_pgsolver.proofs.Ended.{Whole}
 use Rattle.ml_pgsolver.proofs.OneAnswers.{never_both, one_draft}
 use Rattle.ml_pgsolver.proofs.SomeAnswers.{refused}
 use Rattle.ml_pgsolver.proofs.WordPlaces.{here_byte}
+use Rattle.ml_pgsolver.proofs.WordTokens.{word_in-sought}
 use Rattle.ml_pgsolver.proofs.WordsBehind.{IsQuiet, quiet_game, word_behind}
 use Rattle.ml_pgsolver.proofs.WrittenSigns.{Lines, at_vertex, row_of, written_comes}
 
@@ -192,7 +194,7 @@ module _ (text : List ℕ) (named : NamedGame) (s : GameSolution) (game : IsRead
   begins j = here_byte j 112 ((codes "aritysol" ++ next (number greatest) ++ line_end) ++ lines) refl
 
   stands : word_in all ≡ Some (length text)
-  stands = word_behind out begins text (quiet text named game)
+  stands = word_in-sought all ∙ word_behind out begins text (quiet text named game)
 
   left : drop (length text + 9) all ≡ 32 ∷ (number greatest ++ 59 ∷ 10 ∷ lines)
   left =

@@ -6,6 +6,8 @@ pub mod Signs
 pub mod Machine
 -- the steps of the reader of solutions
 pub mod EntryMachine
+-- the word between a game and its solution
+pub mod WordSearch
 -- what is made of the entries of a solution
 pub mod Claiming
 -- what the reader holds

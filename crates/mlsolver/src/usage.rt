@@ -1,5 +1,6 @@
 // How the program is called, for standard error.
 
+use ml_messages::words_fault;
 use std::io;
 
 // each command with its further words, and what it is for
@@ -27,15 +28,9 @@ const CALLS: [&str; 19] = [
 
 /// Tells on standard error what is wrong with words that are no command, as far as that is known, and how the program is
 /// called.
-pub(crate) fn explain(rt: &impl Eprint, words: &[String]) -> io::Result<()> {
-    match words.first() {
-        None => eprintln!(rt; "mlsolver: a command is missing")?,
-        Some(word) if is_command(word.as_str()) => {
-            eprintln!(rt; "mlsolver: {word} isn't called with these words")?;
-        }
-        // an option may come first, and words that are no texts are one empty word
-        Some(word) if word.is_empty() || word.starts_with('-') => {}
-        Some(word) => eprintln!(rt; "mlsolver: {word:?} is no command")?,
+pub(crate) fn explain(rt: &(impl Eprint + AllocGlobal), words: &[String]) -> io::Result<()> {
+    if let Ok(Some(fault)) = words_fault(rt.alloc(), words) {
+        eprintln!(rt; "mlsolver: {fault}")?;
     }
     for call in CALLS {
         eprintln!(rt; "  mlsolver {call}")?;
@@ -50,11 +45,4 @@ pub(crate) fn explain(rt: &impl Eprint, words: &[String]) -> io::Result<()> {
     )?;
     eprintln!(rt; "standard input fails, 6 where standard output fails, and 7 without memory.")?;
     eprintln!(rt; "See docs/GUIDE.md, or the manual: man docs/mlsolver.1")
-}
-
-// is this the first word of a call?
-fn is_command(word: &str) -> bool {
-    CALLS
-        .iter()
-        .any(|call| call.split(' ').next() == Some(word))
 }

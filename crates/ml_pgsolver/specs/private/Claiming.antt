@@ -17,11 +17,11 @@ use Rattle.ml_game_check.specs.RightClaims.{Claims, claim_at}
 use Rattle.ml_game_check.specs.declared.claims.Claim.{Claim}
 use Rattle.ml_game_check.specs.declared.verdict.Verdict.{Verdict}
 use Rattle.ml_game_check.specs.declared.verdict.Verdict.TheVariants as verdict
-use Rattle.ml_pgsolver.specs.CheckedText.{inside_name}
 use Rattle.ml_pgsolver.specs.GameText.{id_at}
 use Rattle.ml_pgsolver.specs.declared.entries.EntryRow.{EntryRow}
 use Rattle.ml_pgsolver.specs.declared.scan.Sign.{Sign}
 use Rattle.ml_pgsolver.specs.private.Assembled.{is_unknown, sign_place}
+use Rattle.ml_pgsolver.specs.private.WordSearch.{inside_name}
 
 -- the place of the move, if there is one
 abbrev pub IsPlaceOf : List ℕ → Option ℕ → Option ℕ → Type 0

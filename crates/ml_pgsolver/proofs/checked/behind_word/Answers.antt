@@ -1,6 +1,6 @@
 -- Its bytes do, too.
 use Rattle.std.proofs.Common.{arith}
-use Rattle.ml_pgsolver.proofs.WordPlaces.{word_fits}
+use Rattle.ml_pgsolver.proofs.WordTokens.{word_fits}
 use Rattle.ml_pgsolver.proofs.checked.behind_word.Goals as goal
 
 pub overflow_add-result : goal.overflow_add-result

@@ -1,6 +1,6 @@
 -- The word stands within the text.
 use Rattle.std.proofs.Common.{arith, length-take}
-use Rattle.ml_pgsolver.proofs.WordPlaces.{word_fits}
+use Rattle.ml_pgsolver.proofs.WordTokens.{word_fits}
 use Rattle.ml_pgsolver.proofs.checked.front.Goals as goal
 
 pub slice_bounds-result-end : goal.slice_bounds-result-end

@@ -1,0 +1,303 @@
+// Why words are no command.
+
+use crate::shown::{cut, shown};
+use ml_front::Logic;
+use std::alloc::{AllocError, Global};
+
+/// The greatest number that a limit may be.
+const GREATEST_LIMIT: u32 = 200_000;
+
+/// How many digits a number has at most.
+const LONGEST_NUMBER: usize = 6;
+
+/// How many bytes of the name of a file are shown at most.
+const LONGEST_FILE: usize = 200;
+
+/// The words of a call: those that are no option in their order, and what stands behind `--limit`.
+#[derive(Clone, Copy, Default)]
+struct Parts<'a> {
+    command: Option<&'a str>,
+    subject: Option<&'a str>,
+    count: Option<&'a str>,
+    more: Option<&'a str>,
+    limit: Option<&'a str>,
+    /// `--limit` is the last word.
+    lacks_limit: bool,
+    has_two_limits: bool,
+    /// The first option that is none.
+    unknown: Option<&'a str>,
+}
+
+impl<'a> Parts<'a> {
+    fn of(words: &'a [String]) -> Parts<'a> {
+        let mut parts = Parts::default();
+        for word in words {
+            parts.add(word.as_str());
+        }
+        parts
+    }
+
+    fn add(&mut self, word: &'a str) {
+        if self.lacks_limit {
+            self.lacks_limit = false;
+            self.add_limit(word);
+        } else if word == "--limit" {
+            self.lacks_limit = true;
+        } else if let Some(limit) = word.strip_prefix("--limit=") {
+            self.add_limit(limit);
+        } else if word.starts_with('-') {
+            self.unknown = self.unknown.or(Some(word));
+        } else if self.command.is_none() {
+            self.command = Some(word);
+        } else if self.subject.is_none() {
+            self.subject = Some(word);
+        } else if self.count.is_none() {
+            self.count = Some(word);
+        } else {
+            self.more = self.more.or(Some(word));
+        }
+    }
+
+    fn add_limit(&mut self, limit: &'a str) {
+        self.has_two_limits = self.limit.is_some();
+        self.limit = Some(limit);
+    }
+}
+
+/// What stands behind the first word of a command, but for its limit.
+#[derive(Clone, Copy)]
+enum Further {
+    Nothing,
+    Files,
+    Logic,
+    Engine,
+    Family,
+}
+
+fn further_of(command: &str) -> Option<Further> {
+    Some(match command {
+        "find" | "prove" | "decide" | "valid" => Further::Logic,
+        "ask" => Further::Files,
+        "solve-game" => Further::Engine,
+        "gen" | "bench" => Further::Family,
+        "check-model"
+        | "check-refutation"
+        | "path"
+        | "migrate"
+        | "quotient"
+        | "check-game"
+        | "determinise"
+        | "automaton"
+        | "make"
+        | "realize"
+        | "check-machine" => Further::Nothing,
+        _ => return None,
+    })
+}
+
+fn has_limit(command: &str) -> bool {
+    matches!(
+        command,
+        "find"
+            | "prove"
+            | "decide"
+            | "valid"
+            | "ask"
+            | "determinise"
+            | "automaton"
+            | "make"
+            | "realize"
+    )
+}
+
+/// Why these words, which come without the program's name, are no command, in one line without its end; `None` where that isn't
+/// known, or where they ask for help.
+///
+/// # Errors
+/// `AllocError` alone.
+///
+/// Cost: linear in the words.
+pub fn words_fault(alloc: Global, words: &[String]) -> Result<Option<String>, AllocError> {
+    let parts = Parts::of(words);
+    if let Some(option) = parts.unknown {
+        return option_fault(alloc, option);
+    }
+    let Some(command) = parts.command else {
+        return told(alloc, "a command is missing");
+    };
+    // words that are no texts are one empty word
+    if command.is_empty() {
+        return Ok(None);
+    }
+    let Some(further) = further_of(command) else {
+        let word = shown(alloc, command.as_bytes())?;
+        return Ok(Some(format!(in alloc; "{word} is no command")?));
+    };
+    match further_fault(alloc, command, further, parts)? {
+        Some(fault) => Ok(Some(fault)),
+        None => limit_fault(alloc, command, parts),
+    }
+}
+
+fn told(alloc: Global, sentence: &str) -> Result<Option<String>, AllocError> {
+    Ok(Some(String::from_str(alloc, sentence)?))
+}
+
+fn option_fault(alloc: Global, option: &str) -> Result<Option<String>, AllocError> {
+    if matches!(option, "-h" | "--help" | "-V" | "--version") {
+        return Ok(None);
+    }
+    let word = shown(alloc, option.as_bytes())?;
+    Ok(Some(format!(in alloc; "{word} is no option; the only one is `--limit N`")?))
+}
+
+fn further_fault(
+    alloc: Global,
+    command: &str,
+    further: Further,
+    parts: Parts<'_>,
+) -> Result<Option<String>, AllocError> {
+    match (further, parts.subject) {
+        (Further::Nothing, subject) => file_fault(alloc, command, subject),
+        (Further::Files, Some("files")) => file_fault(alloc, "ask files", parts.count),
+        (Further::Files, subject) => file_fault(alloc, "ask", subject),
+        (Further::Logic, Some(word)) if Logic::named(word.as_bytes()).is_some() => {
+            called_fault(alloc, command, word, parts.count)
+        }
+        (Further::Logic, word) => {
+            word_fault(
+                alloc,
+                command,
+                word,
+                "logic: `mu`, `pdl`, `ctl`, `ltl` or `word`",
+            )
+        }
+        (Further::Engine, Some(word)) if matches!(word, "recursive" | "measures") => {
+            called_fault(alloc, command, word, parts.count)
+        }
+        (Further::Engine, word) => {
+            word_fault(alloc, command, word, "engine: `recursive` or `measures`")
+        }
+        (Further::Family, word) => family_fault(alloc, command, word, parts),
+    }
+}
+
+// a command that has all its words has a file behind them
+fn file_fault(alloc: Global, call: &str, file: Option<&str>) -> Result<Option<String>, AllocError> {
+    let Some(file) = file else {
+        return Ok(None);
+    };
+    let file = cut(alloc, file.as_bytes(), LONGEST_FILE)?;
+    Ok(Some(format!(in alloc;
+        "`{file}` is a word too many; the input is read from standard input: `mlsolver {call} < {file}`"
+    )?))
+}
+
+fn called_fault(
+    alloc: Global,
+    command: &str,
+    word: &str,
+    file: Option<&str>,
+) -> Result<Option<String>, AllocError> {
+    let call = format!(in alloc; "{command} {word}")?;
+    file_fault(alloc, call.as_str(), file)
+}
+
+// a word of these is missing, or is another one
+fn word_fault(
+    alloc: Global,
+    command: &str,
+    word: Option<&str>,
+    wanted: &str,
+) -> Result<Option<String>, AllocError> {
+    Ok(Some(match word {
+        Some(word) => {
+            let word = shown(alloc, word.as_bytes())?;
+            format!(in alloc; "{word} is no {wanted}")?
+        }
+        None => format!(in alloc; "`{command}` lacks its {wanted}")?,
+    }))
+}
+
+fn family_fault(
+    alloc: Global,
+    command: &str,
+    word: Option<&str>,
+    parts: Parts<'_>,
+) -> Result<Option<String>, AllocError> {
+    let Some(greatest) = greatest_of(word) else {
+        return word_fault(
+            alloc,
+            command,
+            word,
+            "family: `and`, `or`, `step`, `fair` or `loop`",
+        );
+    };
+    let family = word.unwrap_or("");
+    match parts.count {
+        None => Ok(Some(format!(in alloc;
+            "`{command} {family}` lacks its number, from 1 to {greatest}"
+        )?)),
+        Some(count) if !is_number(count, greatest) => {
+            let count = shown(alloc, count.as_bytes())?;
+            Ok(Some(format!(in alloc;
+                "{count} is no number of the family `{family}`, which has those from 1 to {greatest}"
+            )?))
+        }
+        Some(_) => match parts.more {
+            Some(more) => {
+                let more = shown(alloc, more.as_bytes())?;
+                Ok(Some(format!(in alloc; "{more} is a word too many")?))
+            }
+            None => Ok(None),
+        },
+    }
+}
+
+// the greatest number of the family
+fn greatest_of(family: Option<&str>) -> Option<u32> {
+    Some(match family? {
+        "and" => 500,
+        "or" => 16,
+        "step" | "loop" => 400,
+        "fair" => 3,
+        _ => return None,
+    })
+}
+
+// is this one from 1 to the greatest?
+fn is_number(word: &str, greatest: u32) -> bool {
+    if word.len() > LONGEST_NUMBER || !word.as_bytes().iter().all(|byte| byte.is_ascii_digit()) {
+        return false;
+    }
+    match word.parse::<u32>() {
+        Ok(number) => 1 <= number && number <= greatest,
+        Err(_) => false,
+    }
+}
+
+fn limit_fault(
+    alloc: Global,
+    command: &str,
+    parts: Parts<'_>,
+) -> Result<Option<String>, AllocError> {
+    if parts.lacks_limit {
+        return told(alloc, "`--limit` lacks its number");
+    }
+    let Some(limit) = parts.limit else {
+        return Ok(None);
+    };
+    if !has_limit(command) {
+        return Ok(Some(format!(in alloc; "`{command}` has no limit")?));
+    }
+    if parts.has_two_limits {
+        return told(alloc, "`--limit` may stand only once");
+    }
+    if is_number(limit, GREATEST_LIMIT) {
+        return Ok(None);
+    }
+    let limit = shown(alloc, limit.as_bytes())?;
+    Ok(Some(format!(in alloc;
+        "{limit} is no limit, which is a number from 1 to 200000 with at most six digits"
+    )?))
+}
