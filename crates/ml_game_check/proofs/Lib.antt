@@ -12,3 +12,5 @@ pub mod WayGames
 pub mod SomeVerdict
 -- and one alone
 pub mod OneVerdict
+-- where the vertices are sorted, no cycle is bad
+pub mod Sorted

@@ -6,3 +6,5 @@ pub mod Early
 pub mod WayGame
 -- the cycle to which choices lead
 pub mod Cycles
+-- vertices in an order with seams
+pub mod Seams
