@@ -8,3 +8,5 @@ pub mod WayGame
 pub mod Cycles
 -- vertices in an order with seams
 pub mod Seams
+-- what is told of the fourth rule
+pub mod Fourth

@@ -5,8 +5,8 @@ ghost use Rattle.ml_parity.specs.Game.{size};
 ghost use Rattle.ml_game_check.specs.Verdicts.{IsVerdict};
 
 use crate::claims::Claim;
-use crate::cycles::cycle_break;
 use crate::early::first_early_break;
+use crate::fourth::cycle_break;
 use crate::verdict::{Rule, Verdict};
 use ml_base::NoMemory;
 use ml_parity::Game;

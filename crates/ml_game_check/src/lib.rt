@@ -9,11 +9,20 @@
 // Below stands `ml_parity`, for games, plays and winners, and for the solver.
 #![tactic(auto)]
 
+mod arcs;
 mod checking;
 mod claims;
+mod circles;
 mod cycles;
 mod early;
+mod fourth;
+mod halving;
 pub mod laws;
+mod looking;
+mod nests;
+mod numbers;
+mod sorted;
+mod strong;
 mod verdict;
 mod ways;
 

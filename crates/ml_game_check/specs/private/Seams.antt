@@ -5,6 +5,7 @@
 -- crossed. Where that priority is bad for the player, each way must cross such a seam towards earlier places. Then no cycle
 -- of ways has a lowest priority that is bad: at it, the seams so low that lie before the vertex would get fewer all round.
 --
+--   at xs k                 == the number at a place of a list
 --   IsOpen seam q i j       == no seam of q or lower from i up to j
 --   IsBound seam q p i b    == from the place i ways of a vertex of priority q, claimed for p, may lead up to the place b
 --   ComesBy g cs place p v b == the ways from v, claimed for p, lead to places up to b
@@ -16,6 +17,9 @@ use Rattle.ml_parity.specs.declared.players.Player.{Player}
 use Rattle.ml_parity.specs.Game.{ParityGame, priority_of}
 use Rattle.ml_parity.specs.Player.{side}
 use Rattle.ml_game_check.specs.RightClaims.{Claims, IsClaimed, IsWay}
+
+abbrev pub at : List ℕ → ℕ → ℕ
+at xs k = get_or xs k 0
 
 abbrev pub IsOpen : (ℕ → ℕ) → ℕ → ℕ → ℕ → Type 0
 IsOpen seam q i j = (x : ℕ) → i ≤ x → x < j → q < seam x
