@@ -97,7 +97,7 @@ pub circle_told : (g : ParityGame) (cs : Claims) → KeepsEarly g cs
     → (o : Option ℕ)
     → MatchOption o (Unit {0})
     (λ x. IsLowestFrom (choice_at choices) (λ k. get_or ps k 0) (length choices) v x
-      × (side (get_or ps x 0) ≡ opponent c.winner))
+    × (side (get_or ps x 0) ≡ opponent c.winner))
     → MatchOption o (Unit {0}) (λ x. (p : Player) × BreaksFour g cs p x)
 circle_told g cs early choices ps same many chosen c v is None t = t
 circle_told g cs early choices ps same many chosen c v is (Some x) t =

@@ -55,8 +55,11 @@ module _ (seam : ℕ → ℕ) where
         of : IsBound seam q p i b → before q j < before q i
         of (inl (good, none)) = absurd (no_own_opponent p (sym good ∙ bad))
         of (inr (earlier, cut)) =
-            omega (arith, count_upto (λ x. leb (seam x) q) j b by,
-              count_passes (λ x. leb (seam x) q) b i earlier (le-leb (seam b) q cut))
+            omega (
+              arith,
+              count_upto (λ x. leb (seam x) q) j b by,
+              count_passes (λ x. leb (seam x) q) b i earlier (le-leb (seam b) q cut),
+            )
 
 -- a sequence that doesn't grow from b to i
 not_up : (f : ℕ → ℕ) (b i : ℕ) → ((k : ℕ) → b ≤ k → k < i → f (k + 1) ≤ f k) → b ≤ i → f i ≤ f b
@@ -76,9 +79,12 @@ never_back : (f : ℕ → ℕ) (a k n : ℕ) → a ≤ k → k < n
     → f (k + 1) < f k
     → f n < f a
 never_back f a k n late early keeps down =
-    omega (arith, down,
+    omega (
+      arith,
+      down,
       not_up f a k (λ i above below. keeps i above (omega arith)) late,
-      not_up f (k + 1) n (λ i above below. keeps i (omega arith) below) (omega arith))
+      not_up f (k + 1) n (λ i above below. keeps i (omega arith) below) (omega arith),
+    )
 
 module _ (g : ParityGame) (cs : Claims) (place seam : ℕ → ℕ) (sorted : IsSorted g cs place seam) where
   pub sorted_no_bad_cycle : (p : Player) (v : ℕ) → BreaksFour g cs p v → ⊥

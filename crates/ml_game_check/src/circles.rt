@@ -91,7 +91,7 @@ fn bad_lowest(priorities: &[u32], choices: &[u64], start: usize, player: Player)
     ensures { MatchOption result
         (Unit {0})
         (λ x. IsLowestFrom (choice_at choices.now) (λ v. get_or priorities.now v 0) (length choices.now) start x
-            × (side (get_or priorities.now x 0) ≡ opponent player)) }
+        × (side (get_or priorities.now x 0) ≡ opponent player)) }
 {
     let lowest = lowest_on_cycle(priorities, choices, start);
     if Player::of_priority(priorities[lowest]) == player {
@@ -124,11 +124,7 @@ fn bad_along(
 }
 
 /// A vertex on the circle whose claim breaks the fourth rule, if the circle passes the check.
-pub(crate) fn bad_on_circle(
-    game: &Game,
-    claims: &[Option<Claim>],
-    circle: &Circle,
-) -> Option<u64>
+pub(crate) fn bad_on_circle(game: &Game, claims: &[Option<Claim>], circle: &Circle) -> Option<u64>
     requires { KeepsEarly game.now claims.now }
     ensures { MatchOption result (Unit {0}) (λ v. (p : Player) × BreaksFour game.now claims.now p v) }
 {

@@ -31,11 +31,7 @@ fn told_by_row(
 }
 
 /// A vertex whose claim breaks the fourth rule, if the circle has one.
-fn told_by_circle(
-    game: &Game,
-    claims: &[Option<Claim>],
-    circle: &Circle,
-) -> Option<Option<u64>>
+fn told_by_circle(game: &Game, claims: &[Option<Claim>], circle: &Circle) -> Option<Option<u64>>
     requires { KeepsEarly game.now claims.now }
     ensures { MatchOption result (Unit {0}) (TellsFour game.now claims.now) }
 {

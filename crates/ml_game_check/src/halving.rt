@@ -115,8 +115,11 @@ impl Halving {
 
     /// Halves a task by the classes of the level in the middle, or finds a bad vertex.
     fn halve(&mut self, task: &Task, bad: &[bool]) -> Result<Option<u32>, NoMemory> {
-        let middle = task.lower.saturating_add(task.upper.saturating_sub(task.lower) / 2);
-        self.strong.search(small(task.nodes.len()), &task.arcs, middle)?;
+        let middle = task
+            .lower
+            .saturating_add(task.upper.saturating_sub(task.lower) / 2);
+        self.strong
+            .search(small(task.nodes.len()), &task.arcs, middle)?;
         let (inner_count, outer_count) = counts(&task.arcs, &self.strong.class, middle);
         let mut inner = Vec::with_capacity(self.alloc, inner_count)?;
         let mut outer = Vec::with_capacity(self.alloc, outer_count)?;

@@ -11,8 +11,8 @@
 
 mod arcs;
 mod checking;
-mod claims;
 mod circles;
+mod claims;
 mod cycles;
 mod early;
 mod fourth;

@@ -20,11 +20,7 @@ pub(crate) enum Finding {
 }
 
 /// Some way from each vertex, where there is one, and else a successor.
-fn some_ways(
-    alloc: Global,
-    game: &Game,
-    claims: &[Option<Claim>],
-) -> Result<Vec<u64>, NoMemory> {
+fn some_ways(alloc: Global, game: &Game, claims: &[Option<Claim>]) -> Result<Vec<u64>, NoMemory> {
     let mut choices = Vec::with_capacity(alloc, claims.len())?;
     for vertex in 0..claims.len() {
         choices.push(some_way(game, vertex, claims[vertex]))?;
@@ -104,7 +100,14 @@ fn circle_from(
     let mut backwards = all_arcs(alloc, game, claims, levels)?.arcs;
     turn(&mut backwards);
     let choices = some_ways(alloc, game, claims)?;
-    towards(alloc, vertex, small(claims.len()), &backwards, number(levels, vertex), choices)
+    towards(
+        alloc,
+        vertex,
+        small(claims.len()),
+        &backwards,
+        number(levels, vertex),
+        choices,
+    )
 }
 
 /// Looks for a bad cycle.
@@ -131,10 +134,6 @@ pub(crate) fn look(
         Halved::Bad(vertex) => Ok(Finding::Closed(circle_from(
             alloc, game, claims, &levels.of, vertex,
         )?)),
-        Halved::Nested(nest) => Ok(Finding::Sorted(nest.row(
-            alloc,
-            vertices,
-            &levels.priorities,
-        )?)),
+        Halved::Nested(nest) => Ok(Finding::Sorted(nest.row(alloc, vertices, &levels.priorities)?)),
     }
 }
