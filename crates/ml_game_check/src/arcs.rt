@@ -7,8 +7,10 @@ use std::alloc::Global;
 
 /// A way between points: vertices, or classes of them.
 #[derive(Clone, Copy)]
-pub(crate) struct Arc {
+pub struct Arc {
+    /// The point that it leaves.
     pub from: u32,
+    /// The point to which it leads.
     pub to: u32,
     /// The place of its priority among all priorities, from 1 on.
     pub level: u32,

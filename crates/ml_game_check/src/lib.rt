@@ -20,12 +20,14 @@ mod halving;
 pub mod laws;
 mod looking;
 mod nests;
-mod numbers;
+pub mod numbers;
 mod sorted;
 mod strong;
 mod verdict;
 mod ways;
 
+pub use arcs::Arc;
 pub use checking::check;
 pub use claims::Claim;
+pub use strong::Strong;
 pub use verdict::{Rule, Verdict};

@@ -60,9 +60,9 @@ impl Targets {
     }
 }
 
-/// A walk depth first.
+/// A walk depth first, which finds the strongly connected classes of points. Nothing is claimed of them.
 #[derive(Drop)]
-pub(crate) struct Strong {
+pub struct Strong {
     targets: Targets,
     /// The place of the next target of each point.
     next: Vec<u32>,
@@ -82,7 +82,8 @@ pub(crate) struct Strong {
 }
 
 impl Strong {
-    pub(crate) fn empty(alloc: Global) -> Strong {
+    /// Room for a walk.
+    pub fn empty(alloc: Global) -> Strong {
         Strong {
             targets: Targets::empty(alloc),
             next: Vec::new(alloc),
@@ -96,8 +97,13 @@ impl Strong {
         }
     }
 
-    /// The classes of so many points, by the arcs of a level or higher ones.
-    pub(crate) fn search(&mut self, points: u32, arcs: &[Arc], level: u32) -> Result<(), NoMemory> {
+    /// Finds the classes of so many points, by the arcs of a level or higher ones.
+    ///
+    /// # Errors
+    /// `NoMemory` alone.
+    ///
+    /// Cost: linear in points and arcs.
+    pub fn search(&mut self, points: u32, arcs: &[Arc], level: u32) -> Result<(), NoMemory> {
         self.targets.fill(points, arcs, level)?;
         self.clear(points as usize)?;
         for point in 0..points {
