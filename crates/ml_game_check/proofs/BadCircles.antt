@@ -4,7 +4,7 @@
 --   lowest_breaks == the lowest vertex to which choices lead, which are ways, breaks the fourth rule where its priority is bad
 --   circle_breaks == so with choices that passed the check
 --   circle_told   == so with what the lowest vertex is told to be
-use Rattle.std.proofs.Common.{ℕ, zero, suc, ◌≡◌, ◌+◌, ◌<◌, ◌≤◌, ◌⊎◌, List, Option, Some, None, length, get_or, inl, inr, ⊎_elim, arith, refl, sym, ap, ◌∙◌, subst, subst₂}
+use Rattle.std.proofs.Common.{ℕ, zero, suc, ◌≡◌, ◌<◌, ◌≤◌, List, Option, Some, None, length, get_or, inr, ⊎_elim, arith, sym, ap, ◌∙◌, subst, subst₂}
 use Rattle.std.specs.Prelude.{MatchOption}
 use Rattle.ml_lists.specs.Lasso.{Lasso, entry, lowest_on_loop}
 use Rattle.ml_lists.specs.Walk.{walk}

@@ -7,11 +7,11 @@
 --   keeps, falls        == along a way this doesn't grow; where q is the priority and bad for the player, it falls
 --   never_back          == a sequence that doesn't grow, and falls once, doesn't end as it began
 --   sorted_no_bad_cycle == the theorem
-use Rattle.std.proofs.Common.{ℕ, zero, suc, ◌≡◌, ◌+◌, ◌<◌, ◌≤◌, ◌⊎◌, Bool, true, false, length, get_or, inl, inr, arith, refl, sym, ap, ◌∙◌, subst, subst₂}
+use Rattle.std.proofs.Common.{ℕ, zero, suc, ◌≡◌, ◌+◌, ◌<◌, ◌≤◌, ◌⊎◌, true, false, length, get_or, inl, inr, arith, refl, sym, ap, ◌∙◌, subst}
 use Rattle.std.proofs.Math.Dec.{leb}
 use Rattle.std.proofs.lemmas.Bool.{cases_Bool, cases_lt, le-leb, leb-true}
 use Rattle.ml_lists.specs.Counting.{count}
-use Rattle.ml_lists.specs.Lasso.{Lasso, entry, lowest_on_loop, round}
+use Rattle.ml_lists.specs.Lasso.{Lasso, lowest_on_loop, round}
 use Rattle.ml_lists.proofs.Counting.{count-false}
 use Rattle.ml_lists.proofs.Lasso.{lowest_on_loop_le, round-end, round-entry}
 use Rattle.ml_lists.proofs.Ranks.{count_passes, count_upto}
@@ -19,8 +19,8 @@ use Rattle.ml_parity.specs.declared.players.Player.{Player}
 use Rattle.ml_parity.specs.Game.{ParityGame, priority_of}
 use Rattle.ml_parity.specs.Player.{opponent, side}
 use Rattle.ml_parity.proofs.Opponents.{no_own_opponent}
-use Rattle.ml_game_check.specs.RightClaims.{BreaksFour, Claims, IsBadCycle, IsClaimed, IsWay}
-use Rattle.ml_game_check.specs.private.Seams.{IsBound, IsOpen, IsSorted, IsSortedAt}
+use Rattle.ml_game_check.specs.RightClaims.{BreaksFour, Claims, IsWay}
+use Rattle.ml_game_check.specs.private.Seams.{IsBound, IsOpen, IsSorted}
 
 module _ (seam : ℕ → ℕ) where
   -- how many seams of q or lower are before a place

@@ -40,7 +40,8 @@ impl Recursion<'_> {
         let (begin, end) = self.arena.successors.range(vertex);
         for place in begin..end {
             self.turns = self.turns.saturating_add(1);
-            if depth <= self.depth_of(number(&self.arena.successors.all, place)) {
+            let to = number(&self.arena.successors.all, place);
+            if depth <= self.depth_of(to) {
                 count = count.saturating_add(1);
             }
         }

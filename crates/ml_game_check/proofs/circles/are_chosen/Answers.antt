@@ -1,5 +1,5 @@
 -- One choice more.
-use Rattle.std.proofs.Common.{ℕ, ◌<◌, arith, below_more, length, subst}
+use Rattle.std.proofs.Common.{◌<◌, arith, below_more, length, subst}
 use Rattle.std.proofs.lemmas.List.{get_or_default}
 use Rattle.ml_game_check.proofs.FirstRules.{claimed_low}
 use Rattle.ml_game_check.proofs.circles.are_chosen.Goals as goal

@@ -1,5 +1,4 @@
 -- No seam is as low as the priority up to the end.
-use Rattle.std.proofs.Common.{ℕ}
 use Rattle.ml_game_check.specs.private.Seams.{IsOpen, at}
 use Rattle.ml_game_check.proofs.sorted.open_end.Given as goal
 
