@@ -12,3 +12,7 @@ pub mod WayGames
 pub mod SomeVerdict
 -- and one alone
 pub mod OneVerdict
+-- where the vertices are sorted, no cycle is bad
+pub mod NoneBad
+-- choices that lead round where the lowest priority is bad
+pub mod BadCircles

@@ -32,6 +32,7 @@ use Rattle.ml_parity.proofs.Opponents.{cases_player, is_or_not, no_own_opponent}
 use Rattle.ml_game_check.specs.RightClaims.{BreaksFour, Claims, IsClaimed, IsMoved, IsWay, claim, claim_at}
 use Rattle.ml_game_check.specs.private.Cycles.{IsLowestFrom}
 use Rattle.ml_game_check.specs.private.Early.{KeepsEarly}
+use Rattle.ml_game_check.specs.private.Fourth.{TellsFour}
 use Rattle.ml_game_check.specs.private.WayGame.{AreOwners, AreWays, IsLost, IsWayGame, LeadsRound, one_or, own_move, way_owner, ways_of}
 use Rattle.ml_game_check.specs.declared.claims.Claim.{Claim}
 use Rattle.ml_game_check.proofs.FirstRules.{claimed_low, kept}
@@ -343,10 +344,6 @@ told_of cs o {a} {b} {x} {y} {i} {j} winners choices priorities told =
     (subst (λ zs. MatchOption o ((v : ℕ) → IsLost cs zs v → ⊥) (LeadsRound cs zs (choice_at x) (λ v. get_or i v 0) (length cs))) winners told))
 
 -- what the solution of the game of ways tells of the fourth rule
-abbrev pub TellsFour : ParityGame → Claims → Option ℕ → Type 0
-TellsFour g cs o =
-    MatchOption o ((p : Player) (v : ℕ) → BreaksFour g cs p v → ⊥) (λ v. (p : Player) × BreaksFour g cs p v)
-
 pub tells_four : (g : ParityGame) (cs : Claims) (h : ParityGame) (s : GameSolution)
     → IsGame g
     → KeepsEarly g cs

@@ -6,3 +6,7 @@ pub mod Early
 pub mod WayGame
 -- the cycle to which choices lead
 pub mod Cycles
+-- vertices in an order with seams
+pub mod Seams
+-- what is told of the fourth rule
+pub mod Fourth

@@ -9,6 +9,7 @@ ghost use Rattle.ml_lists.specs.Walk.{walk};
 ghost use Rattle.ml_game_check.specs.RightClaims.{BreaksFour, claim_at};
 ghost use Rattle.ml_game_check.specs.private.Cycles.{IsLower, IsLowestFrom};
 ghost use Rattle.ml_game_check.specs.private.Early.{KeepsEarly};
+ghost use Rattle.ml_game_check.specs.private.Fourth.{TellsFour};
 ghost use Rattle.ml_game_check.specs.private.WayGame.{IsLost, IsWayGame, LeadsRound};
 
 use crate::claims::Claim;
@@ -70,11 +71,12 @@ fn lower_of(priorities: &[u32], vertex: usize, other: usize) -> usize
 }
 
 /// The lowest vertex of the cycle to which the choices lead from a vertex.
-fn lowest_on_cycle(priorities: &[u32], choices: &[u64], start: usize) -> usize
+pub(crate) fn lowest_on_cycle(priorities: &[u32], choices: &[u64], start: usize) -> usize
     requires start { start < length choices.now }
     requires within { All (λ w. w < length choices.now) choices.now }
     requires priorities { length priorities.now ≡ length choices.now }
-    ensures { IsLowestFrom (choice_at choices.now) (λ v. get_or priorities.now v 0) (length choices.now) start result }
+    ensures lowest { IsLowestFrom (choice_at choices.now) (λ v. get_or priorities.now v 0) (length choices.now) start result }
+    ensures low { result < length choices.now }
 {
     let mut at = led(choices, start, choices.len());
     let mut lowest = at;
@@ -119,7 +121,8 @@ fn choices_of(solution: &Solution) -> &[u64]
     &solution.choice
 }
 
-fn priorities_of(game: &Game) -> &[u32]
+/// The priorities.
+pub(crate) fn priorities_of(game: &Game) -> &[u32]
     ensures value { result.now ≡ game.now.priority }
     ensures game { IsGame game.now }
 {
@@ -142,16 +145,14 @@ fn lost_way(ways: &Game, claims: &[Option<Claim>], solution: &Solution) -> Optio
     )
 }
 
-/// A vertex whose claim breaks the fourth rule, where none breaks one of the first three, if there is one.
-pub(crate) fn cycle_break(
+/// A vertex whose claim breaks the fourth rule, where none breaks one of the first three, if there is one: by solving.
+pub(crate) fn solved_break(
     alloc: Global,
     game: &Game,
     claims: &[Option<Claim>],
 ) -> Result<Option<u64>, NoMemory>
     requires { KeepsEarly game.now claims.now }
-    ensures { IfOk result (λ o. MatchOption o
-        ((p : Player) (v : ℕ) → BreaksFour game.now claims.now p v → ⊥)
-        (λ v. (p : Player) × BreaksFour game.now claims.now p v)) }
+    ensures { IfOk result (TellsFour game.now claims.now) }
 {
     let ways = way_game(alloc, game, claims)?;
     let solution = solve(alloc, &ways)?;

@@ -75,7 +75,7 @@ fn other_break(game: &Game, claims: &[Option<Claim>], vertex: usize, claim: Clai
 }
 
 /// The successors of a vertex.
-fn moves_at(game: &Game, vertex: usize) -> &[u64]
+pub(crate) fn moves_at(game: &Game, vertex: usize) -> &[u64]
     requires { vertex < size game.now }
     ensures { result.now ≡ moves_of game.now vertex }
 {

@@ -1,6 +1,6 @@
 -- What the solution of the game of ways tells.
 use Rattle.ml_game_check.proofs.WayGames.{tells_four}
-use Rattle.ml_game_check.proofs.cycles.cycle_break.Goals as goal
+use Rattle.ml_game_check.proofs.cycles.solved_break.Goals as goal
 
 pub returns : goal.returns
 returns c =

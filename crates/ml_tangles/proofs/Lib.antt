@@ -1,0 +1,2 @@
+-- right claims of a solution solve the game
+pub mod RightSolves
