@@ -1,6 +1,6 @@
 // Word automata by their states and letters; letters with the same arcs are one class.
+use ml_arrays::{Components, Digraph, number, small};
 use ml_base::NoMemory;
-use ml_search_local::{NONE, small};
 use std::alloc::Global;
 
 /// An arc of a state under a letter.
@@ -45,15 +45,6 @@ pub(crate) fn write_signature(arcs: &[Arc], signature: &mut Vec<u32>) -> Result<
     Ok(())
 }
 
-/// So many empty rows.
-pub(crate) fn empty_rows<T: Drop>(alloc: Global, states: usize) -> Result<Vec<Vec<T>>, NoMemory> {
-    let mut rows = Vec::with_capacity(alloc, states)?;
-    for _ in 0..states {
-        rows.push(Vec::new(alloc))?;
-    }
-    Ok(rows)
-}
-
 /// The arcs of a state in a row.
 pub(crate) fn arcs_in(row: &[Vec<Arc>], state: usize) -> &[Arc] {
     match row.get(state) {
@@ -62,37 +53,40 @@ pub(crate) fn arcs_in(row: &[Vec<Arc>], state: usize) -> &[Arc] {
     }
 }
 
-/// Writes, for each state, where the arcs lead.
-fn write_targets(rows: &[Vec<Vec<Arc>>], targets: &mut [Vec<u32>]) -> Result<(), NoMemory> {
-    for row in rows {
-        for (arcs, list) in row.iter().zip(targets.iter_mut()) {
-            for arc in arcs {
-                list.push(arc.to)?;
-            }
-        }
-    }
-    for list in targets.iter_mut() {
-        list.sort_unstable();
-        list.dedup();
-    }
-    Ok(())
-}
-
 impl Automaton {
-    /// Where the arcs of each state lead, ascending.
-    pub(crate) fn targets(&self, alloc: Global) -> Result<Vec<Vec<u32>>, NoMemory> {
-        let mut targets = empty_rows(alloc, self.states)?;
-        write_targets(&self.rows, &mut targets)?;
-        Ok(targets)
+    /// The states, with where their arcs lead.
+    pub(crate) fn digraph(&self, alloc: Global) -> Result<Digraph, NoMemory> {
+        let mut digraph = Digraph::empty(alloc);
+        self.write_targets(&mut digraph)?;
+        Ok(digraph)
+    }
+
+    fn write_targets(&self, digraph: &mut Digraph) -> Result<(), NoMemory> {
+        for state in 0..self.states {
+            for row in &self.rows {
+                for arc in arcs_in(row, state) {
+                    digraph.push_target(arc.to)?;
+                }
+            }
+            digraph.end_node()?;
+        }
+        Ok(())
+    }
+
+    /// The strong component of each state.
+    pub(crate) fn components(&self, alloc: Global) -> Result<Vec<u32>, NoMemory> {
+        let digraph = self.digraph(alloc)?;
+        let components = Components::of_graph(alloc, &digraph)?;
+        Ok(components.of)
     }
 
     /// Only arcs within components accept.
     pub(crate) fn accept_within(&mut self, component: &[u32]) {
         for row in self.rows.iter_mut() {
             for (state, arcs) in row.iter_mut().enumerate() {
-                let here = component.get(state).copied().unwrap_or(NONE);
+                let here = number(component, small(state));
                 for arc in arcs.iter_mut() {
-                    let there = component.get(arc.to as usize).copied().unwrap_or(NONE);
+                    let there = number(component, arc.to);
                     arc.accepting = arc.accepting && here == there;
                 }
             }

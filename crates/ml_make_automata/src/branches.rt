@@ -1,7 +1,7 @@
 // The branches of a set of formulas: what is asked of the names at a moment, and what is left for the next one.
 use crate::formulas::{FALSE, Formulas, Part, TRUE};
+use ml_arrays::within;
 use ml_base::{IdSet, NoMemory};
-use ml_search_local::within;
 use std::alloc::Global;
 
 /// How many branches are looked at, and how many comparisons of two are made, for all sets of an automaton.

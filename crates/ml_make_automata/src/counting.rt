@@ -1,11 +1,10 @@
 // Counting automata: along each of its runs, how often an accepting arc was passed.
 use crate::automata::{Arc, Automaton};
-use crate::connected::components;
 use crate::lessening::lessen;
 use crate::shrinking::{shrink, tidy};
 use crate::simulation::thin;
+use ml_arrays::{flag, number, set_flag, small};
 use ml_base::NoMemory;
-use ml_search_local::{flag, number, set_flag, small};
 use std::alloc::Global;
 
 /// What an arc does to a counter.
@@ -144,9 +143,8 @@ struct Counted {
 
 impl Counted {
     fn of(alloc: Global, automaton: &Automaton) -> Result<Counted, NoMemory> {
-        let targets = automaton.targets(alloc)?;
         let mut counted = Counted {
-            component: components(alloc, &targets)?,
+            component: automaton.components(alloc)?,
             counts: vec![in alloc; false; automaton.states]?,
         };
         counted.fill(automaton);

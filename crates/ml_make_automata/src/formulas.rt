@@ -1,8 +1,8 @@
 // Formulas with negations at names alone, each of them once.
 use indexmap::IndexSet;
+use ml_arrays::{number, put, small};
 use ml_base::{Name, NoMemory};
 use ml_ctl::{Pairing, Tense, Term};
-use ml_search_local::{number, small};
 use ml_task::Task;
 use ml_text::Operator;
 use std::alloc::Global;
@@ -156,13 +156,9 @@ impl Numbers {
         }
     }
 
-    fn set(&mut self, occurrence: usize, plain: u32, negated: u32) {
-        if let Some(place) = self.plain.get_mut(occurrence) {
-            *place = plain;
-        }
-        if let Some(place) = self.negated.get_mut(occurrence) {
-            *place = negated;
-        }
+    fn set(&mut self, occurrence: u32, plain: u32, negated: u32) {
+        put(&mut self.plain, occurrence, plain);
+        put(&mut self.negated, occurrence, negated);
     }
 }
 
@@ -335,7 +331,7 @@ fn add_all(
     for (place, occurrence) in occurrences.iter().enumerate().rev() {
         let plain = formula_of(formulas, numbers, *occurrence, false)?;
         let negated = formula_of(formulas, numbers, *occurrence, true)?;
-        numbers.set(place, plain, negated);
+        numbers.set(small(place), plain, negated);
     }
     Ok(())
 }

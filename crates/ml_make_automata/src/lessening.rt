@@ -1,8 +1,8 @@
 // Fewer accepting arcs with the same words: those of a state needn't accept if each loop through one of them has another
 // accepting arc. So a loop counts once, where a focus that goes round would count at each of its steps.
-use crate::automata::{Automaton, empty_rows};
+use crate::automata::Automaton;
+use ml_arrays::{NumberSet, ascend, empty_rows, push_at, row, small};
 use ml_base::NoMemory;
-use ml_search_local::{flag, row, set_flag, small};
 use std::alloc::Global;
 
 /// How many ways between states are walked at most.
@@ -15,13 +15,6 @@ struct Ways {
     plain: Vec<Vec<u32>>,
 }
 
-fn add_to(lists: &mut [Vec<u32>], from: usize, to: u32) -> Result<(), NoMemory> {
-    if let Some(list) = lists.get_mut(from) {
-        list.push(to)?;
-    }
-    Ok(())
-}
-
 impl Ways {
     fn of(alloc: Global, automaton: &Automaton) -> Result<Ways, NoMemory> {
         let mut ways = Ways {
@@ -32,11 +25,11 @@ impl Ways {
         Ok(ways)
     }
 
-    fn add(&mut self, from: usize, to: u32, accepting: bool) -> Result<(), NoMemory> {
+    fn add(&mut self, from: u32, to: u32, accepting: bool) -> Result<(), NoMemory> {
         if accepting {
-            add_to(&mut self.accepting, from, to)
+            push_at(&mut self.accepting, from, to)
         } else {
-            add_to(&mut self.plain, from, to)
+            push_at(&mut self.plain, from, to)
         }
     }
 
@@ -44,7 +37,7 @@ impl Ways {
         for class in &automaton.rows {
             for (state, arcs) in class.iter().enumerate() {
                 for arc in arcs {
-                    self.add(state, arc.to, arc.accepting)?;
+                    self.add(small(state), arc.to, arc.accepting)?;
                 }
             }
         }
@@ -70,8 +63,7 @@ impl Ways {
         let list = std::mem::replace(place, Vec::new(alloc));
         if let Some(plain) = self.plain.get_mut(state as usize) {
             plain.extend_from_slice(&list)?;
-            plain.sort_unstable();
-            plain.dedup();
+            ascend(plain);
         }
         Ok(())
     }
@@ -79,47 +71,32 @@ impl Ways {
 
 fn sort_all(lists: &mut [Vec<u32>]) {
     for list in lists.iter_mut() {
-        list.sort_unstable();
-        list.dedup();
+        ascend(list);
     }
 }
 
-/// Adds those of the states that weren't reached.
-fn open_all(states: &[u32], reached: &mut [bool], open: &mut Vec<u32>) -> Result<(), NoMemory> {
+/// Adds those of these states that weren't reached.
+fn reach(states: &[u32], reached: &mut NumberSet) -> Result<(), NoMemory> {
     for state in states {
-        if !flag(reached, *state) {
-            set_flag(reached, *state, true);
-            open.push(*state)?;
-        }
+        reached.insert(*state)?;
     }
     Ok(())
 }
 
-/// Walks on by arcs that don't accept; tells whether a state is reached.
-fn walks_to(
-    ways: &Ways,
-    state: u32,
-    reached: &mut [bool],
-    open: &mut Vec<u32>,
-) -> Result<bool, NoMemory> {
-    for _ in 0..u64::MAX {
-        let Some(at) = open.pop() else {
+/// Is there a loop through an accepting arc of a state whose other arcs don't accept?
+fn has_loop(ways: &Ways, state: u32, reached: &mut NumberSet) -> Result<bool, NoMemory> {
+    reached.clear();
+    reach(row(&ways.accepting, state), reached)?;
+    for place in 0..usize::MAX {
+        let Some(at) = reached.list().get(place).copied() else {
             break;
         };
         if at == state {
             return Ok(true);
         }
-        open_all(row(&ways.plain, at), reached, open)?;
+        reach(row(&ways.plain, at), reached)?;
     }
     Ok(false)
-}
-
-/// Is there a loop through an accepting arc of a state whose other arcs don't accept?
-fn has_loop(alloc: Global, ways: &Ways, state: u32) -> Result<bool, NoMemory> {
-    let mut reached = vec![in alloc; false; ways.plain.len()]?;
-    let mut open = Vec::new(alloc);
-    open_all(row(&ways.accepting, state), &mut reached, &mut open)?;
-    walks_to(ways, state, &mut reached, &mut open)
 }
 
 /// The arcs of a state don't accept any more.
@@ -136,12 +113,13 @@ fn clear_state(automaton: &mut Automaton, state: u32) {
 fn lessen_by(alloc: Global, automaton: &mut Automaton, ways: &mut Ways) -> Result<(), NoMemory> {
     let size = ways.size();
     let mut left = MOST_WALKED;
+    let mut reached = NumberSet::empty(alloc);
     for state in 0..small(automaton.states) {
         if row(&ways.accepting, state).is_empty() || left < size {
             continue;
         }
         left = left.saturating_sub(size);
-        if !has_loop(alloc, ways, state)? {
+        if !has_loop(ways, state, &mut reached)? {
             ways.clear(alloc, state)?;
             clear_state(automaton, state);
         }

@@ -7,28 +7,26 @@
 //
 // - `formulas` has the formulas with negations at names alone; `branches` what a set of them asks of a moment and of the next
 //   one; `sets` the automaton whose states are such sets.
-// - `turns` passes the untils in turn, so that runs accept by arcs: letters with the same arcs are one class.
-// - `shrinking`, `lessening` and `simulation` make automata smaller; `connected` finds strongly connected components.
+// - `degeneralising` passes the untils in turn, so that runs accept by arcs: letters with the same arcs are one class.
+// - `shrinking`, `lessening` and `simulation` make automata smaller.
 // - `counting` is what comes of all this, and `making` the call.
 //
-// Source: Gastin and Oddoux, Fast LTL to Büchi automata translation (2001); Somenzi and Bloem, Efficient Büchi automata from LTL
-// formulae (2000).
+// Source: Gastin and Oddoux, Fast LTL to Büchi automata translation (2001); Somenzi and Bloem, Efficient Büchi automata from
+// LTL formulae (2000).
 //
-// Below stand tasks (`ml_task`), and lists that are read and written anywhere (`ml_search_local`).
+// Below stand tasks (`ml_task`), and lists that are read and written anywhere (`ml_arrays`).
 #![tactic(auto)]
 
 mod automata;
 mod branches;
-mod connected;
 mod counting;
+mod degeneralising;
 mod formulas;
 mod lessening;
 mod making;
 mod sets;
 mod shrinking;
 mod simulation;
-mod turns;
 
-pub use connected::components;
 pub use counting::{Count, Counting, CountingArc};
-pub use making::add_automata;
+pub use making::{add_automata, letters_of};

@@ -1,14 +1,14 @@
 // The automata of a task.
 use crate::counting::{Counting, counting_of};
+use crate::degeneralising::{Pace, automaton_of};
 use crate::formulas::{Formulas, formula_in};
 use crate::sets::{Sets, sets_of};
-use crate::turns::{Pace, automaton_of};
 use ml_base::NoMemory;
 use ml_task::Task;
 use std::alloc::Global;
 
-/// How many letters there are for so many names, up to eight names.
-fn letters_of(names: usize) -> u32 {
+/// How many letters there are for so many names, up to eight names: a letter is a set of names.
+pub fn letters_of(names: usize) -> u32 {
     if names < 8 { 1 << names } else { 256 }
 }
 

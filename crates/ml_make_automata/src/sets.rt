@@ -3,8 +3,8 @@
 use crate::branches::{Branch, Branches};
 use crate::formulas::{Formulas, Part, TRUE};
 use indexmap::IndexSet;
+use ml_arrays::small;
 use ml_base::{IdSet, NoMemory};
-use ml_search_local::small;
 use std::alloc::Global;
 
 /// How many sets there may be.

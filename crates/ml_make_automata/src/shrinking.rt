@@ -1,61 +1,12 @@
 // Automata with fewer states: those from which nothing is accepted go, and those with equal arcs are merged.
-use crate::automata::{Arc, Automaton, add_arc, arcs_in, empty_rows, write_signature};
-use crate::connected::components;
+use crate::automata::{Arc, Automaton, add_arc, arcs_in, write_signature};
 use indexmap::IndexSet;
+use ml_arrays::{Components, NONE, empty_rows, number, small};
 use ml_base::NoMemory;
-use ml_search_local::{NONE, flag, number, row, set_flag, small};
 use std::alloc::Global;
 
 /// How many arcs are read at most to find which states are alike.
 const MOST_READ: u64 = 200_000_000;
-
-/// The nodes that lead to each node.
-fn turned(alloc: Global, targets: &[Vec<u32>]) -> Result<Vec<Vec<u32>>, NoMemory> {
-    let mut sources = empty_rows(alloc, targets.len())?;
-    write_sources(targets, &mut sources)?;
-    Ok(sources)
-}
-
-fn write_sources(targets: &[Vec<u32>], sources: &mut [Vec<u32>]) -> Result<(), NoMemory> {
-    for (node, list) in targets.iter().enumerate() {
-        for to in list {
-            if let Some(place) = sources.get_mut(*to as usize) {
-                place.push(small(node))?;
-            }
-        }
-    }
-    Ok(())
-}
-
-/// Flags all nodes from which a flagged one is reached.
-fn reach_back(alloc: Global, sources: &[Vec<u32>], flags: &mut [bool]) -> Result<(), NoMemory> {
-    let mut open = Vec::new(alloc);
-    for (node, is_set) in flags.iter().enumerate() {
-        if *is_set {
-            open.push(small(node))?;
-        }
-    }
-    for _ in 0..u64::MAX {
-        let Some(node) = open.pop() else {
-            break;
-        };
-        for before in row(sources, node) {
-            if !flag(flags, *before) {
-                set_flag(flags, *before, true);
-                open.push(*before)?;
-            }
-        }
-    }
-    Ok(())
-}
-
-/// The states from which something is accepted, where only arcs within components accept.
-fn live(alloc: Global, automaton: &Automaton, targets: &[Vec<u32>]) -> Result<Vec<bool>, NoMemory> {
-    let mut live = automaton.accepting(alloc)?;
-    let sources = turned(alloc, targets)?;
-    reach_back(alloc, &sources, &mut live)?;
-    Ok(live)
-}
 
 /// Classes of states, those that go having none.
 #[derive(Drop)]
@@ -215,15 +166,18 @@ pub(crate) fn size(automaton: &Automaton) -> u64 {
 
 /// Only arcs within components accept.
 pub(crate) fn tidy(alloc: Global, automaton: &mut Automaton) -> Result<(), NoMemory> {
-    let targets = automaton.targets(alloc)?;
-    let component = components(alloc, &targets)?;
+    let component = automaton.components(alloc)?;
     automaton.accept_within(&component);
     Ok(())
 }
 
+/// The states from which something is accepted, where only arcs within components accept.
 fn live_states(alloc: Global, automaton: &Automaton) -> Result<Vec<bool>, NoMemory> {
-    let targets = automaton.targets(alloc)?;
-    live(alloc, automaton, &targets)
+    let mut live = automaton.accepting(alloc)?;
+    let digraph = automaton.digraph(alloc)?;
+    let components = Components::of_graph(alloc, &digraph)?;
+    components.flag_back(&digraph, &mut live);
+    Ok(live)
 }
 
 /// Leaves out states from which nothing is accepted, and merges those with equal arcs; tells whether that was done.

@@ -1,8 +1,8 @@
 // Direct simulation: a state lies below another one if it accepts, move by move, what that accepts. Beside an arc to the
 // lower one the arc to the other isn't needed.
 use crate::automata::{Arc, Automaton, arcs_in};
+use ml_arrays::small;
 use ml_base::NoMemory;
-use ml_search_local::small;
 use std::alloc::Global;
 
 /// How large an automaton may be: the square of its states, for each class of letters.

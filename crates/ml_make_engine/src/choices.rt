@@ -2,11 +2,11 @@
 use crate::games::{CountingGame, Side};
 use crate::moves::Move;
 use crate::positions::Status;
+use ml_arrays::{NONE, small};
 use ml_base::NoMemory;
-use ml_search_local::{NONE, small};
 
-/// A move of the machine for a set of inputs. One to an active position is better than others, and to an earlier one better than
-/// to a later one; of the others the lightest is best.
+/// A move of the machine for a set of inputs. One to an active position is better than others, and to an earlier one better
+/// than to a later one; of the others the lightest is best.
 #[derive(Clone, Copy)]
 struct Offer {
     cover: u32,

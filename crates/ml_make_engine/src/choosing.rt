@@ -1,10 +1,10 @@
 // Moves chosen again among the positions of a game that is won: those that many others lie within come first, and those that
 // are states already before all. So machines become small.
 use crate::games::{CountingGame, Side};
-use crate::moves::{Move, Moves, Numbering, numbered};
+use crate::moves::{Move, Moves, numbered};
 use crate::positions::Positions;
+use ml_arrays::{NONE, Numbering, more_numbers, number, put, small};
 use ml_base::NoMemory;
-use ml_search_local::{NONE, number, put, small};
 use std::alloc::Global;
 
 /// How many positions are put in order by how many lie within them.
@@ -87,7 +87,7 @@ impl Choosing {
         let mut choosing = Choosing {
             order,
             place: Vec::new(alloc),
-            states: Numbering::empty(alloc, count)?,
+            states: Numbering::empty(alloc),
             seen: Vec::new(alloc),
             known: Vec::new(alloc),
             first: Vec::new(alloc),
@@ -97,12 +97,11 @@ impl Choosing {
     }
 
     fn fill(&mut self, count: usize) -> Result<(), NoMemory> {
-        for _ in 0..count {
-            self.place.push(NONE)?;
-            self.seen.push(0)?;
-            self.known.push(NONE)?;
-            self.first.push(NONE)?;
-        }
+        self.states.make_room(count)?;
+        more_numbers(&mut self.place, count, NONE)?;
+        more_numbers(&mut self.seen, count, 0)?;
+        more_numbers(&mut self.known, count, NONE)?;
+        more_numbers(&mut self.first, count, NONE)?;
         for (place, position) in self.order.iter().enumerate() {
             put(&mut self.place, *position, small(place));
         }
@@ -116,8 +115,8 @@ impl Choosing {
             return known;
         }
         let from = number(&self.seen, target);
-        for place in from as usize..self.states.states.len() {
-            let Some(state) = self.states.states.get(place).copied() else {
+        for place in from as usize..self.states.met().len() {
+            let Some(state) = self.states.met().get(place).copied() else {
                 break;
             };
             if positions.is_within(target, state) {
@@ -125,7 +124,7 @@ impl Choosing {
                 return small(place);
             }
         }
-        put(&mut self.seen, target, small(self.states.states.len()));
+        put(&mut self.seen, target, small(self.states.met().len()));
         NONE
     }
 
@@ -154,7 +153,7 @@ impl Choosing {
             return Some(Lead {
                 is_new: false,
                 place: state,
-                to: number(&self.states.states, state),
+                to: number(self.states.met(), state),
             });
         }
         let to = self.first_in_order(positions, target);
@@ -301,7 +300,7 @@ impl Choosing {
         let first = self.first_in_order(&mut game.positions, 0);
         self.states.number(first)?;
         for place in 0..usize::MAX {
-            let Some(position) = self.states.states.get(place).copied() else {
+            let Some(position) = self.states.met().get(place).copied() else {
                 break;
             };
             let mut moves = Vec::new(alloc);
@@ -338,7 +337,7 @@ fn write_played(alloc: Global, positions: &Positions, rows: &mut Moves) -> Resul
 
 /// The moves of a game that is won, breadth first from the start.
 pub(crate) fn moves_of(alloc: Global, game: &mut CountingGame) -> Result<Moves, NoMemory> {
-    let won = std::mem::replace(&mut game.reached, Vec::new(alloc));
+    let won = Vec::from_slice(alloc, game.reached.list())?;
     let mut rows = Vec::new(alloc);
     if write_chosen(alloc, game, &won, &mut rows)? {
         return Ok(rows);

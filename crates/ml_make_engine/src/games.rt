@@ -4,9 +4,9 @@
 // there, and what a lost position lies within is lost, so few positions are looked at.
 use crate::moves::Move;
 use crate::positions::{Positions, Status};
+use ml_arrays::{NONE, NumberSet, flag};
 use ml_base::NoMemory;
 use ml_make_automata::Counting;
-use ml_search_local::{NONE, flag, set_flag};
 use std::alloc::Global;
 
 /// Who keeps the counters low.
@@ -56,7 +56,7 @@ pub(crate) struct CountingGame<'a> {
     /// How many positions were expanded.
     pub expanded: usize,
     /// The positions that the choices reach from the start, as they were found last.
-    pub reached: Vec<u32>,
+    pub reached: NumberSet,
     pub alloc: Global,
 }
 
@@ -76,7 +76,7 @@ impl<'a> CountingGame<'a> {
             signals,
             positions: Positions::empty(alloc),
             expanded: 0,
-            reached: Vec::new(alloc),
+            reached: NumberSet::empty(alloc),
             alloc,
         }
     }
@@ -118,38 +118,28 @@ impl<'a> CountingGame<'a> {
         }
     }
 
-    fn walk_from(&mut self, position: u32, seen: &mut [bool]) -> Result<(), NoMemory> {
+    fn walk_from(&mut self, position: u32) -> Result<(), NoMemory> {
         for place in 0..usize::MAX {
             let Some(step) = self.positions.chosen(position, place) else {
                 break;
             };
             let to = self.lead_move(position, place, step)?;
-            if !flag(seen, to) {
-                set_flag(seen, to, true);
-                self.reached.push(to)?;
-            }
+            self.reached.insert(to)?;
         }
         Ok(())
     }
 
     /// Goes from the start along the choices, breadth first.
     fn walk(&mut self) -> Result<(), NoMemory> {
-        let mut seen = vec![in self.alloc; false; self.positions.all.len()]?;
-        set_flag(&mut seen, 0, true);
         self.reached.clear();
-        self.reached.push(0)?;
-        self.walk_on(&mut seen)?;
-        self.positions.spend(self.reached.len());
-        Ok(())
-    }
-
-    fn walk_on(&mut self, seen: &mut [bool]) -> Result<(), NoMemory> {
+        self.reached.insert(0)?;
         for place in 0..usize::MAX {
-            let Some(position) = self.reached.get(place).copied() else {
+            let Some(position) = self.reached.list().get(place).copied() else {
                 break;
             };
-            self.walk_from(position, seen)?;
+            self.walk_from(position)?;
         }
+        self.positions.spend(self.reached.list().len());
         Ok(())
     }
 
@@ -180,8 +170,8 @@ impl<'a> CountingGame<'a> {
     /// Expands those that wait among the reached positions; `None` where enough was done, and else whether some waited.
     fn expand_reached(&mut self, budget: u32) -> Result<Option<bool>, NoMemory> {
         let mut waited = false;
-        for place in 0..self.reached.len() {
-            let Some(position) = self.reached.get(place).copied() else {
+        for place in 0..self.reached.list().len() {
+            let Some(position) = self.reached.list().get(place).copied() else {
                 break;
             };
             if self.positions.status(position) == Status::Waiting {

@@ -16,7 +16,7 @@
 // realizability (2009).
 //
 // Below stand the automata (`ml_make_automata`), tasks (`ml_task`), what is made of them (`ml_synthesis`), and lists that are
-// read and written anywhere (`ml_search_local`).
+// read and written anywhere (`ml_arrays`).
 #![tactic(auto)]
 
 mod attempts;
@@ -33,14 +33,10 @@ use crate::attempts::Attempts;
 use crate::games::Signals;
 use crate::outcomes::outcome_of;
 use ml_base::NoMemory;
+use ml_make_automata::letters_of;
 use ml_synthesis::Outcome;
 use ml_task::Task;
 use std::alloc::Global;
-
-/// How many sets of so many names there are, up to eight names.
-fn sets_of(names: usize) -> u32 {
-    if names < 8 { 1 << names } else { 256 }
-}
 
 /// A candidate for a machine that realizes a task, or for an environment that defeats it; `None` where the search gives up.
 ///
@@ -50,8 +46,8 @@ fn sets_of(names: usize) -> u32 {
 /// Cost: at most a fixed multiple of the limit in comparisons of positions, and of the steps of an automaton's states.
 pub fn candidate(alloc: Global, task: &Task, limit: u32) -> Result<Option<Outcome>, NoMemory> {
     let signals = Signals {
-        inputs: sets_of(task.inputs.len()),
-        outputs: sets_of(task.outputs.len()),
+        inputs: letters_of(task.inputs.len()),
+        outputs: letters_of(task.outputs.len()),
     };
     let mut attempts = Attempts::empty(alloc, signals, limit);
     attempts.fill(task)?;

@@ -1,18 +1,18 @@
 // States merged by trial: all ways to one state lead to another one, as long as no run counts for ever then.
-use crate::moves::{Move, Moves, moves_at, numbered};
+use crate::moves::{Move, Moves, all_behind, moves_at, numbered};
+use ml_arrays::{Components, Digraph, NONE, Numbering, number, small};
 use ml_base::NoMemory;
-use ml_make_automata::{Count, Counting, components};
-use ml_search_local::{NONE, number, put, small};
+use ml_make_automata::{Count, Counting};
 use std::alloc::Global;
 
 /// The pairs of a state of the moves and one of the automaton that are reached, and where they lead.
 #[derive(Drop)]
 struct Product<'a> {
     counting: &'a Counting,
-    /// The number of each pair, by the place that it has among all, or `NONE`.
-    numbers: Vec<u32>,
-    pairs: Vec<(u32, u32)>,
-    targets: Vec<Vec<u32>>,
+    /// The pairs, by the places that they have among all.
+    pairs: Numbering,
+    /// Where they lead.
+    edges: Digraph,
     /// Pairs with an arc of the automaton that counts on.
     counts: Vec<(u32, u32)>,
     /// How many arcs there are.
@@ -20,22 +20,12 @@ struct Product<'a> {
     alloc: Global,
 }
 
-/// The place of a pair among all, where the automaton has so many states.
-fn place_of(pair: (u32, u32), states: usize) -> u32 {
-    small(
-        (pair.0 as usize)
-            .saturating_mul(states)
-            .saturating_add(pair.1 as usize),
-    )
-}
-
 impl<'a> Product<'a> {
     fn new(alloc: Global, counting: &'a Counting) -> Product<'a> {
         Product {
             counting,
-            numbers: Vec::new(alloc),
-            pairs: Vec::new(alloc),
-            targets: Vec::new(alloc),
+            pairs: Numbering::empty(alloc),
+            edges: Digraph::empty(alloc),
             counts: Vec::new(alloc),
             arcs: 0,
             alloc,
@@ -48,49 +38,38 @@ impl<'a> Product<'a> {
         if room as u64 > left {
             return Ok(false);
         }
-        for _ in 0..room {
-            self.numbers.push(NONE)?;
-        }
+        self.pairs.make_room(room)?;
         Ok(true)
     }
 
     /// Forgets all pairs.
     fn clear(&mut self) {
-        let states = self.counting.states;
-        for pair in &self.pairs {
-            put(&mut self.numbers, place_of(*pair, states), NONE);
-        }
         self.pairs.clear();
-        self.targets.clear();
+        self.edges.clear();
         self.counts.clear();
         self.arcs = 0;
     }
 
-    /// The number of a pair.
-    fn number(&mut self, pair: (u32, u32)) -> Result<u32, NoMemory> {
-        let place = place_of(pair, self.counting.states);
-        let known = number(&self.numbers, place);
-        if known != NONE {
-            return Ok(known);
-        }
-        let new = small(self.pairs.len());
-        put(&mut self.numbers, place, new);
-        self.pairs.push(pair)?;
-        Ok(new)
+    /// The number of a pair of a state of the moves and one of the automaton.
+    fn number(&mut self, at: u32, state: u32) -> Result<u32, NoMemory> {
+        let place = (at as usize).saturating_mul(self.counting.states);
+        self.pairs
+            .number(small(place.saturating_add(state as usize)))
+    }
+
+    /// The pair of a number.
+    fn pair(&self, number: u32) -> Option<(u32, u32)> {
+        let place = *self.pairs.met().get(number as usize)?;
+        let states = small(self.counting.states);
+        Some((place.checked_div(states)?, place.checked_rem(states)?))
     }
 
     /// Writes where a pair leads by a move.
-    fn write_targets(
-        &mut self,
-        pair: u32,
-        state: u32,
-        step: Move,
-        targets: &mut Vec<u32>,
-    ) -> Result<(), NoMemory> {
+    fn write_targets(&mut self, pair: u32, state: u32, step: Move) -> Result<(), NoMemory> {
         let counting = self.counting;
         for arc in counting.arcs(counting.class(step.letter), state) {
-            let to = self.number((step.to, arc.to))?;
-            targets.push(to)?;
+            let to = self.number(step.to, arc.to)?;
+            self.edges.push_target(to)?;
             self.arcs = self.arcs.saturating_add(1);
             if arc.count == Count::More {
                 self.counts.push((pair, to))?;
@@ -101,15 +80,14 @@ impl<'a> Product<'a> {
 
     /// Looks at the next pair, if there is one.
     fn look_at_next(&mut self, moves: &[Vec<Move>]) -> Result<bool, NoMemory> {
-        let pair = small(self.targets.len());
-        let Some((at, state)) = self.pairs.get(self.targets.len()).copied() else {
+        let pair = self.edges.size();
+        let Some((at, state)) = self.pair(pair) else {
             return Ok(false);
         };
-        let mut targets = Vec::new(self.alloc);
         for step in moves_at(moves, at) {
-            self.write_targets(pair, state, *step, &mut targets)?;
+            self.write_targets(pair, state, *step)?;
         }
-        self.targets.push(targets)?;
+        self.edges.end_node()?;
         self.arcs = self.arcs.saturating_add(1);
         Ok(true)
     }
@@ -119,7 +97,7 @@ impl<'a> Product<'a> {
         if self.counting.start == NONE {
             return Ok(());
         }
-        let _ = self.number((0, self.counting.start))?;
+        let _ = self.number(0, self.counting.start)?;
         for _ in 0..u64::MAX {
             if !self.look_at_next(moves)? {
                 break;
@@ -130,9 +108,9 @@ impl<'a> Product<'a> {
 
     /// Counts some run for ever?
     fn counts_for_ever(&self) -> Result<bool, NoMemory> {
-        let component = components(self.alloc, &self.targets)?;
+        let components = Components::of_graph(self.alloc, &self.edges)?;
         for (from, to) in &self.counts {
-            if number(&component, *from) == number(&component, *to) {
+            if number(&components.of, *from) == number(&components.of, *to) {
                 return Ok(true);
             }
         }
@@ -149,41 +127,14 @@ struct Merging<'a> {
     alloc: Global,
 }
 
-/// Writes a row whose ways to `from` lead to `to`.
-fn write_led(row: &[Move], from: u32, to: u32, led: &mut Vec<Move>) -> Result<(), NoMemory> {
-    for step in row {
-        led.push(Move {
-            letter: step.letter,
-            to: if step.to == from { to } else { step.to },
-        })?;
-    }
-    Ok(())
-}
-
-fn led_row(alloc: Global, row: &[Move], from: u32, to: u32) -> Result<Vec<Move>, NoMemory> {
-    let mut led = Vec::with_capacity(alloc, row.len())?;
-    write_led(row, from, to, &mut led)?;
-    Ok(led)
-}
-
-fn write_all_led(
-    alloc: Global,
-    moves: &[Vec<Move>],
-    from: u32,
-    to: u32,
-    led: &mut Moves,
-) -> Result<(), NoMemory> {
-    for row in moves {
-        led.push(led_row(alloc, row, from, to)?)?;
-    }
-    Ok(())
-}
-
 impl<'a> Merging<'a> {
     /// The moves where all ways to a state lead to another one.
     fn led(&self, from: u32, to: u32) -> Result<Moves, NoMemory> {
-        let mut led = Vec::with_capacity(self.alloc, self.moves.len())?;
-        write_all_led(self.alloc, &self.moves, from, to, &mut led)?;
+        let mut class = Vec::with_capacity(self.alloc, self.moves.len())?;
+        for state in 0..small(self.moves.len()) {
+            class.push(if state == from { to } else { state })?;
+        }
+        let led = all_behind(self.alloc, &self.moves, &class)?;
         numbered(self.alloc, &led, if from == 0 { to } else { 0 })
     }
 

@@ -1,7 +1,7 @@
 // What a machine or an environment does: for each of its states a list of moves, one for each set of inputs, or of outputs.
 use indexmap::IndexSet;
+use ml_arrays::{Numbering, number, small};
 use ml_base::NoMemory;
-use ml_search_local::{NONE, number, put, small};
 use std::alloc::Global;
 
 /// How many moves are read at most to find which states agree.
@@ -25,101 +25,59 @@ pub(crate) fn moves_at(moves: &[Vec<Move>], state: u32) -> &[Move] {
     }
 }
 
-/// Numbers of states, in the order in which they are met.
-#[derive(Drop)]
-pub(crate) struct Numbering {
-    /// The number of each state, or `NONE`.
-    numbers: Vec<u32>,
-    /// The states by their numbers.
-    pub states: Vec<u32>,
-}
-
-impl Numbering {
-    /// Of so many states none has a number.
-    pub(crate) fn empty(alloc: Global, count: usize) -> Result<Numbering, NoMemory> {
-        Ok(Numbering {
-            numbers: vec![in alloc; NONE; count]?,
-            states: Vec::new(alloc),
-        })
-    }
-
-    /// The number of a state.
-    pub(crate) fn number(&mut self, state: u32) -> Result<u32, NoMemory> {
-        let known = number(&self.numbers, state);
-        if known != NONE {
-            return Ok(known);
-        }
-        let new = small(self.states.len());
-        put(&mut self.numbers, state, new);
-        self.states.push(state)?;
-        Ok(new)
-    }
-}
-
-fn write_row(
-    row: &[Move],
-    numbering: &mut Numbering,
-    numbered: &mut Vec<Move>,
-) -> Result<(), NoMemory> {
-    for step in row {
-        numbered.push(Move {
-            letter: step.letter,
-            to: numbering.number(step.to)?,
-        })?;
-    }
-    Ok(())
-}
-
 fn numbered_row(
     alloc: Global,
     row: &[Move],
     numbering: &mut Numbering,
 ) -> Result<Vec<Move>, NoMemory> {
     let mut numbered = Vec::with_capacity(alloc, row.len())?;
-    write_row(row, numbering, &mut numbered)?;
-    Ok(numbered)
-}
-
-fn write_numbered(
-    alloc: Global,
-    moves: &[Vec<Move>],
-    start: u32,
-    numbering: &mut Numbering,
-    numbered: &mut Moves,
-) -> Result<(), NoMemory> {
-    numbering.number(start)?;
-    for place in 0..usize::MAX {
-        let Some(state) = numbering.states.get(place).copied() else {
-            break;
-        };
-        numbered.push(numbered_row(alloc, moves_at(moves, state), numbering)?)?;
+    for step in row {
+        numbered.push(Move {
+            letter: step.letter,
+            to: numbering.number(step.to)?,
+        })?;
     }
-    Ok(())
+    Ok(numbered)
 }
 
 /// The moves with the states numbered breadth first from a start, without those that aren't reached.
 pub(crate) fn numbered(alloc: Global, moves: &[Vec<Move>], start: u32) -> Result<Moves, NoMemory> {
-    let mut numbering = Numbering::empty(alloc, moves.len())?;
+    let mut numbering = Numbering::empty(alloc);
     let mut numbered = Vec::new(alloc);
-    write_numbered(alloc, moves, start, &mut numbering, &mut numbered)?;
+    numbering.make_room(moves.len())?;
+    numbering.number(start)?;
+    for place in 0..usize::MAX {
+        let Some(state) = numbering.met().get(place).copied() else {
+            break;
+        };
+        numbered.push(numbered_row(alloc, moves_at(moves, state), &mut numbering)?)?;
+    }
     Ok(numbered)
 }
 
-/// A row of moves that lead to classes of states.
-fn write_behind(row: &[Move], class: &[u32], behind: &mut Vec<Move>) -> Result<(), NoMemory> {
+/// A row of moves, led to classes of states.
+fn behind(alloc: Global, row: &[Move], class: &[u32]) -> Result<Vec<Move>, NoMemory> {
+    let mut behind = Vec::with_capacity(alloc, row.len())?;
     for step in row {
         behind.push(Move {
             letter: step.letter,
             to: number(class, step.to),
         })?;
     }
-    Ok(())
+    Ok(behind)
 }
 
-fn behind(alloc: Global, row: &[Move], class: &[u32]) -> Result<Vec<Move>, NoMemory> {
-    let mut behind = Vec::with_capacity(alloc, row.len())?;
-    write_behind(row, class, &mut behind)?;
-    Ok(behind)
+/// The moves, led to classes of states.
+pub(crate) fn all_behind(
+    alloc: Global,
+    moves: &[Vec<Move>],
+    class: &[u32],
+) -> Result<Moves, NoMemory> {
+    let mut all = Vec::with_capacity(alloc, moves.len())?;
+    for row in moves {
+        all.push(behind(alloc, row, class)?)?;
+    }
+    Ok(all)
 }
 
 /// Takes classes apart whose moves lead to different ones; the rows by classes are left in `rows`.
@@ -167,21 +125,6 @@ fn refine_all(alloc: Global, moves: &[Vec<Move>], class: &mut Vec<u32>) -> Resul
     Ok(false)
 }
 
-fn write_merged(
-    alloc: Global,
-    moves: &[Vec<Move>],
-    class: &[u32],
-    merged: &mut Moves,
-) -> Result<(), NoMemory> {
-    for (state, row) in moves.iter().enumerate() {
-        // the classes are numbered by their first states
-        if number(class, small(state)) == small(merged.len()) {
-            merged.push(behind(alloc, row, class)?)?;
-        }
-    }
-    Ok(())
-}
-
 /// The moves with states merged that agree in all they give and lead to.
 pub(crate) fn merged(alloc: Global, moves: &[Vec<Move>]) -> Result<Moves, NoMemory> {
     let mut class = vec![in alloc; 0; moves.len()]?;
@@ -189,6 +132,11 @@ pub(crate) fn merged(alloc: Global, moves: &[Vec<Move>]) -> Result<Moves, NoMemo
         return numbered(alloc, moves, 0);
     }
     let mut merged = Vec::new(alloc);
-    write_merged(alloc, moves, &class, &mut merged)?;
+    for (state, row) in moves.iter().enumerate() {
+        // the classes are numbered by their first states
+        if number(&class, small(state)) == small(merged.len()) {
+            merged.push(behind(alloc, row, &class)?)?;
+        }
+    }
     numbered(alloc, &merged, 0)
 }

@@ -4,8 +4,8 @@
 // from the greater one does so from the lesser one too.
 use crate::moves::Move;
 use indexmap::IndexSet;
+use ml_arrays::{NONE, number, small};
 use ml_base::NoMemory;
-use ml_search_local::{NONE, small};
 use std::alloc::Global;
 
 /// What is known of a position.
@@ -163,7 +163,7 @@ impl Positions {
     /// The target of this place, or `NONE`.
     pub(crate) fn target(&self, position: u32, place: u32) -> u32 {
         match self.at(position) {
-            Some(position) => ml_search_local::number(&position.targets, place),
+            Some(position) => number(&position.targets, place),
             None => NONE,
         }
     }

@@ -1,8 +1,8 @@
 // Where positions of a counting game lead.
 use crate::games::{CountingGame, Side};
 use crate::positions::{Status, at_most};
+use ml_arrays::{NONE, small};
 use ml_base::NoMemory;
-use ml_search_local::{NONE, small};
 
 impl<'a> CountingGame<'a> {
     /// For each class of letters the position behind a position, or nothing where a counter passes the most.

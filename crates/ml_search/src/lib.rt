@@ -8,7 +8,7 @@
 // - `seek` is the search alone, for tests and measurements.
 //
 // Three searches make candidates, of which nothing is proved: that for words (`ml_search_frames`), that for weak threads
-// (`ml_search_focus`), and that for any graph (`ml_search_engine`). A check lets them out: a structure by claims that are
+// (`ml_search_focus`), and that for any graph (`ml_search_rounds`). A check lets them out: a structure by claims that are
 // looked through, or else by the checking game (`checking_models`), a refutation by the rules of acceptance
 // (`checking_refutations`). So whatever the engines do, an answer is right (`specs/Found.antt`).
 //

@@ -14,10 +14,10 @@ use crate::found::Found;
 use crate::refusals::SearchRefusal;
 use crate::whole_game::by_whole_game;
 use ml_base::NoMemory;
+use ml_candidates::Candidate;
 use ml_graph::ModalGraph;
 use ml_kripke::Model;
 use ml_refutation::{Entry, Lists};
-use ml_search_cores::Candidate;
 use std::alloc::Global;
 
 /// A structure that passes its check; `None` where it doesn't.
@@ -47,7 +47,7 @@ fn checked_refutation(
     }
 }
 
-/// A candidate of the searches that learn, if it passes its check.
+/// A candidate, if it passes its check.
 fn checked(
     alloc: Global,
     graph: &ModalGraph,
@@ -112,16 +112,8 @@ fn sought_by_rounds(
 ) -> Result<Option<Found>, NoMemory>
     ensures { IfOk result (λ found. IfSome found (IsFound graph.now)) }
 {
-    match ml_search_engine::candidate(alloc, graph, limit)? {
-        Some(ml_search_engine::Candidate::Model(model)) => checked_model(alloc, graph, model),
-        Some(
-            ml_search_engine::Candidate::Refutation {
-                names,
-                sequents,
-                stacks,
-                entries,
-            },
-        ) => checked_refutation(alloc, graph, names, sequents, stacks, entries),
+    match ml_search_rounds::candidate(alloc, graph, limit)? {
+        Some(candidate) => checked(alloc, graph, candidate),
         None => Ok(None),
     }
 }

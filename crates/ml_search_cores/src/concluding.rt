@@ -1,7 +1,8 @@
 // Whether cores of a component's frames refute each other, and with them a sequent.
 use crate::knowing::{Knowledge, core_at, lies_within, owner_of};
+use ml_arrays::{NONE, row, signature};
 use ml_base::NoMemory;
-use ml_search_local::{FOR_GOOD, NONE, row, signature};
+use ml_sequent_solver::FOR_GOOD;
 
 /// What came of an attempt to settle cores.
 #[derive(Clone, Copy, PartialEq, Eq)]

@@ -1,11 +1,13 @@
 // The decision of a tree: it is walked again, patiently, until each branch ends in a clash that stands.
 use crate::knowing::{Knowledge, core_at};
-use crate::refutations::{Entries, Go};
+use crate::refutations::Entries;
+use ml_arrays::{NONE, number, row, small};
 use ml_base::NoMemory;
+use ml_candidates::{Go, join};
 use ml_graph::Node;
 use ml_refutation::Decision;
-use ml_search_local::{Clash, FOR_GOOD, NONE, Tree, Why, row};
 use ml_sequent::ClashCause;
+use ml_sequent_solver::{Clash, FOR_GOOD, Tree, Why};
 use ml_trace::Mark;
 
 /// Where a branch is closed.
@@ -46,7 +48,7 @@ impl<'a> Knowledge<'a> {
     /// The decision of a tree at the sequent at which the branch stands; `None` where it can't be had.
     pub(crate) fn decide(
         &mut self,
-        from: usize,
+        from: u32,
         tree: u32,
         entries: &mut Entries,
         making: &mut Making,
@@ -68,7 +70,7 @@ impl<'a> Knowledge<'a> {
     /// Does a task; tells whether it went well.
     fn work(
         &mut self,
-        from: usize,
+        from: u32,
         task: Task,
         entries: &mut Entries,
         making: &mut Making,
@@ -88,32 +90,15 @@ impl<'a> Knowledge<'a> {
             }
             Task::Join { node, mark } => {
                 self.solver.branch.undo(&self.terms, mark);
-                self.join(node, &mut making.done)
+                join(self.terms.alloc, node, &mut making.done)
             }
         }
-    }
-
-    /// The split of the last two decisions.
-    fn join(&self, node: u32, done: &mut Vec<Decision>) -> Result<bool, NoMemory> {
-        let Some(right) = done.pop() else {
-            return Ok(false);
-        };
-        let Some(left) = done.pop() else {
-            return Ok(false);
-        };
-        let alloc = self.terms.alloc;
-        done.push(Decision::Split {
-            node,
-            left: Box::new(alloc, left)?,
-            right: Box::new(alloc, right)?,
-        })?;
-        Ok(true)
     }
 
     /// A branch ends in a clash.
     fn end(
         &mut self,
-        from: usize,
+        from: u32,
         clash: Clash,
         entries: &mut Entries,
         making: &mut Making,
@@ -133,14 +118,14 @@ impl<'a> Knowledge<'a> {
     /// A go along a diamond to the entry of a core.
     fn go(
         &mut self,
-        from: usize,
+        from: u32,
         core: u32,
         diamond: u32,
         entries: &mut Entries,
     ) -> Result<Decision, NoMemory> {
         let to = self.solver.branch.watches.cores.resolve(core);
         let mark = self.mark_of(core, to, diamond, entries)?;
-        let entry = entries.of_core(to)?;
+        let entry = entries.cores.number(to)?;
         entries.gos.push(Go {
             from,
             mark,
@@ -148,7 +133,7 @@ impl<'a> Knowledge<'a> {
         })?;
         Ok(Decision::Go {
             diamond,
-            entry: ml_search_local::small(entry),
+            entry,
             mark,
         })
     }
@@ -201,10 +186,10 @@ impl<'a> Knowledge<'a> {
             }
             seen.push((n, passed))?;
             self.solver.branch.spend(seen.len() as u64);
-            if passed && self.leads_along(n, diamond, to) {
+            if passed && to != NONE && self.terms.along(n, diamond) == to {
                 return Ok(true);
             }
-            let (left, right) = self.next_on_walk(n);
+            let (left, right) = self.solver.branch.next_on_thread(&self.terms, n);
             work.push((left, passed))?;
             work.push((right, passed))?;
         }
@@ -215,39 +200,9 @@ impl<'a> Knowledge<'a> {
     fn is_low(&self, n: u32) -> bool {
         let component = self.terms.component(self.solver.branch.focus);
         match self.terms.graph.priorities().get(n as usize) {
-            Some(priority) => {
-                *priority == ml_search_local::number(&self.terms.traces.odd, component)
-            }
+            Some(priority) => { *priority == number(&self.terms.traces.odd, component) }
             None => false,
         }
-    }
-
-    /// Does a modal node lead to this node along a diamond?
-    fn leads_along(&self, n: u32, diamond: u32, to: u32) -> bool {
-        match (self.terms.node(n), self.terms.node(diamond)) {
-            (Node::Diamond { to: end, .. }, _) => n == diamond && end == to,
-            (Node::Square { action, to: end }, Node::Diamond { action: other, .. }) => {
-                action == other && end == to
-            }
-            _ => false,
-        }
-    }
-
-    /// Where a walk goes on within a component, without modal steps.
-    fn next_on_walk(&self, n: u32) -> (u32, u32) {
-        match self.terms.node(n) {
-            Node::And { left, right } => (self.on_thread(n, left), self.on_thread(n, right)),
-            Node::Or { left, right } => match self.solver.branch.side(n) {
-                1 => (self.on_thread(n, left), NONE),
-                2 => (NONE, self.on_thread(n, right)),
-                _ => (NONE, NONE),
-            },
-            _ => (NONE, NONE),
-        }
-    }
-
-    fn on_thread(&self, n: u32, to: u32) -> u32 {
-        if self.terms.threads(n, to) { to } else { NONE }
     }
 
     /// Goes on to close a branch without a clash; tells whether it went well. Where what is needed doesn't stand, it lies

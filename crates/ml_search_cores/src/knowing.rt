@@ -1,10 +1,8 @@
 // What is known of a graph.
+use ml_arrays::{NONE, NumberSet, more_rows, number, row, signature, small, within};
 use ml_base::NoMemory;
 use ml_graph::ModalGraph;
-use ml_search_local::{
-    Core, FOR_GOOD, NONE, NodeSet, OFF, Outcome, Solver, Terms, number, row, signature, small,
-    within,
-};
+use ml_sequent_solver::{Core, FOR_GOOD, OFF, Outcome, Solver, Terms};
 use std::alloc::Global;
 
 /// How many steps of the solver are made for each position of the limit.
@@ -30,24 +28,24 @@ pub struct Knowledge<'a> {
     /// The same cores along all actions.
     pub(crate) copies: Vec<u32>,
     /// Cores that refute each other.
-    pub(crate) set: NodeSet,
+    pub(crate) set: NumberSet,
     /// Those that are to be settled.
-    pub(crate) part: NodeSet,
+    pub(crate) part: NumberSet,
     fuel: u64,
 }
 
 /// The owner of the frames of a component.
-pub fn owner_of(component: u32) -> u32 {
+pub(crate) fn owner_of(component: u32) -> u32 {
     component.saturating_add(1)
 }
 
 /// The number of a core among those of a list.
-pub fn core_at(cores: &[u32], i: usize) -> u32 {
+pub(crate) fn core_at(cores: &[u32], i: usize) -> u32 {
     number(cores, small(i))
 }
 
 /// Lies a core within nodes with these bits?
-pub(crate) fn lies_within(core: &Core, nodes: &[u32], bits: u64) -> bool {
+pub fn lies_within(core: &Core, nodes: &[u32], bits: u64) -> bool {
     core.signature & !bits == 0 && within(&core.nodes, nodes)
 }
 
@@ -80,8 +78,8 @@ impl<'a> Knowledge<'a> {
             now: 0,
             listed: Vec::new(alloc),
             copies: Vec::new(alloc),
-            set: NodeSet::empty(alloc),
-            part: NodeSet::empty(alloc),
+            set: NumberSet::empty(alloc),
+            part: NumberSet::empty(alloc),
             fuel: STEPS.saturating_mul(limit as u64),
         }
     }
@@ -93,12 +91,9 @@ impl<'a> Knowledge<'a> {
     ///
     /// Cost: linear in the graph.
     pub fn fill(&mut self) -> Result<(), NoMemory> {
-        let alloc = self.terms.alloc;
         self.solver.fill(&self.terms, self.fuel)?;
-        for _ in 0..self.terms.traces.odd.len() {
-            self.frames.push(Vec::new(alloc))?;
-        }
-        Ok(())
+        let components = self.terms.traces.odd.len();
+        more_rows(self.terms.alloc, &mut self.frames, components)
     }
 
     /// As much may be done as at first.

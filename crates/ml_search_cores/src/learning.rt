@@ -1,7 +1,8 @@
 // Learning from closed queries.
 use crate::knowing::{Knowledge, core_at, lies_within, owner_of};
+use ml_arrays::{NONE, ascend, push_at, row};
 use ml_base::NoMemory;
-use ml_search_local::{FOR_GOOD, NONE, row};
+use ml_sequent_solver::FOR_GOOD;
 
 impl<'a> Knowledge<'a> {
     /// Learns what the closed query used, for good, without going round.
@@ -53,29 +54,20 @@ impl<'a> Knowledge<'a> {
     pub fn learn_frame(&mut self, thread: u32, level: u32) -> Result<(), NoMemory> {
         self.list_roots()?;
         self.listed.push(thread)?;
-        self.listed.sort_unstable();
-        self.listed.dedup();
+        ascend(&mut self.listed);
         let component = self.terms.component(thread);
         let tree = self.solver.tree;
         let id = self.put_listed(thread, owner_of(component), self.now)?;
         self.raise(id, level, tree)?;
         self.replace_frames(component, id, level);
-        if let Some(frames) = self.frames.get_mut(component as usize) {
-            frames.push(id)?;
-        }
-        Ok(())
+        push_at(&mut self.frames, component, id)
     }
 
     /// A core is one of this level, with the tree that closes it and the cores that it used.
     pub(crate) fn raise(&mut self, id: u32, level: u32, tree: u32) -> Result<(), NoMemory> {
         for action in 0..self.terms.actions {
-            if let Some(core) = self
-                .solver
-                .branch
-                .watches
-                .cores
-                .at_mut(id.saturating_add(action))
-            {
+            let cores = &mut self.solver.branch.watches.cores;
+            if let Some(core) = cores.at_mut(id.saturating_add(action)) {
                 core.level = level;
             }
         }

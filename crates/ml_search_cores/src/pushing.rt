@@ -1,7 +1,8 @@
 // Cores of frames are tried one frame higher.
 use crate::knowing::{Knowledge, owner_of};
+use ml_arrays::{NONE, row};
 use ml_base::NoMemory;
-use ml_search_local::{NONE, Outcome, row};
+use ml_sequent_solver::Outcome;
 
 impl<'a> Knowledge<'a> {
     /// Cores of a component's frames, up to this level, are tried one frame higher.

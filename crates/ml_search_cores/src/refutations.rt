@@ -1,119 +1,31 @@
 // The refutation: an entry for each core for good that is met, from that of the root on.
-use crate::candidates::Candidate;
 use crate::decisions::Making;
 use crate::knowing::{Knowledge, write_copies};
 use crate::settling::owner_of_group;
+use ml_arrays::{NONE, Numbering, ascend, number, row, small};
 use ml_base::NoMemory;
-use ml_parity::{Arc, OneSided, heights};
-use ml_refutation::{Decision, Entry, Item, Lists};
-use ml_search_local::{Core, FOR_GOOD, NONE, Terms, number, put, row};
-use ml_trace::Mark;
+use ml_candidates::{Candidate, Go, Tables, heights_of};
+use ml_refutation::{Decision, Item};
+use ml_sequent_solver::{Core, FOR_GOOD, Terms};
 use std::alloc::Global;
-
-/// A go, by the entries.
-#[derive(Clone, Copy)]
-pub(crate) struct Go {
-    pub from: usize,
-    pub mark: Mark,
-    pub to: usize,
-}
 
 /// Entries as they are found.
 #[derive(Drop)]
 pub(crate) struct Entries {
     /// Their cores.
-    pub cores: Vec<u32>,
-    /// Of each core the number of its entry.
-    at: Vec<u32>,
+    pub cores: Numbering,
     pub gos: Vec<Go>,
     pub names: u32,
-}
-
-/// Entries that were made, with the lists that they name.
-#[derive(Drop)]
-struct Tables {
-    sequents: Lists,
-    stacks: Lists,
-    entries: Vec<Entry>,
 }
 
 impl Entries {
     fn empty(alloc: Global) -> Entries {
         Entries {
-            cores: Vec::new(alloc),
-            at: Vec::new(alloc),
+            cores: Numbering::empty(alloc),
             gos: Vec::new(alloc),
             names: 0,
         }
     }
-
-    /// The number of a core's entry.
-    pub(crate) fn of_core(&mut self, core: u32) -> Result<usize, NoMemory> {
-        let known = number(&self.at, core);
-        if known != NONE {
-            return Ok(known as usize);
-        }
-        let entry = self.cores.len();
-        put(&mut self.at, core, ml_search_local::small(entry));
-        self.cores.push(core)?;
-        Ok(entry)
-    }
-}
-
-/// The priority of a mark, where neutral has this one.
-fn priority_of(top: u32, mark: Mark) -> u32 {
-    match mark {
-        Mark::Red(name) => name.saturating_mul(2),
-        Mark::Green(name) => name.saturating_mul(2).saturating_add(1),
-        Mark::Neutral => top,
-    }
-}
-
-/// Heights of the entries; `None` where there are none.
-fn rows_of(
-    alloc: Global,
-    names: u32,
-    count: usize,
-    gos: &[Go],
-) -> Result<Option<Vec<Vec<u64>>>, NoMemory> {
-    let top = names.saturating_mul(2);
-    let mut arcs = Vec::new(alloc);
-    for go in gos {
-        arcs.push(Arc {
-            from: go.from as u64,
-            priority: priority_of(top, go.mark),
-            to: go.to as u64,
-        })?;
-    }
-    let Some(graph) = one_sided(count as u64, top, arcs) else {
-        return Ok(None);
-    };
-    match heights(alloc, &graph)? {
-        Ok(heights) => Ok(Some(heights.rows)),
-        Err(_) => Ok(None),
-    }
-}
-
-/// The graph of these arcs, if it is one.
-fn one_sided(size: u64, top: u32, arcs: Vec<Arc>) -> Option<OneSided> {
-    let priorities = arcs.iter().all(|arc| arc.priority <= top);
-    let begins = arcs.iter().all(|arc| arc.from < size);
-    let ends = arcs.iter().all(|arc| arc.to < size);
-    if top % 2 == 0 && priorities && begins && ends {
-        return Some(OneSided::build(size, top, arcs));
-    }
-    None
-}
-
-/// Writes the heights of an entry; tells whether each fits.
-fn write_heights(row: &[u64], heights: &mut Vec<u32>) -> Result<bool, NoMemory> {
-    for height in row {
-        match u32::try_from(*height) {
-            Ok(height) => heights.push(height)?,
-            Err(_) => return Ok(false),
-        }
-    }
-    Ok(true)
 }
 
 /// Adds the item of a thread.
@@ -135,45 +47,8 @@ fn write_sequent(t: &Terms, core: &Core, nodes: &mut Vec<u32>) -> Result<(), NoM
         nodes.push(t.always)?;
     }
     nodes.extend_from_slice(&core.nodes)?;
-    nodes.sort_unstable();
-    nodes.dedup();
+    ascend(nodes);
     Ok(())
-}
-
-impl Tables {
-    fn empty(alloc: Global) -> Tables {
-        Tables {
-            sequents: Lists::new(alloc),
-            stacks: Lists::new(alloc),
-            entries: Vec::new(alloc),
-        }
-    }
-
-    /// Adds an entry; tells whether its heights fit.
-    fn push(
-        &mut self,
-        t: &Terms,
-        sequent: &[u32],
-        thread: u32,
-        row: &[u64],
-        decision: Decision,
-    ) -> Result<bool, NoMemory> {
-        let place = self.sequents.push(sequent)?;
-        self.entries.push(Entry {
-            sequent: place,
-            live: if thread == NONE { 0 } else { 1 },
-            items: Vec::new(t.alloc),
-            heights: Vec::new(t.alloc),
-            decision,
-        })?;
-        match self.entries.last_mut() {
-            Some(entry) => {
-                push_item(t, thread, &mut entry.items)?;
-                write_heights(row, &mut entry.heights)
-            }
-            None => Ok(false),
-        }
-    }
 }
 
 impl<'a> Knowledge<'a> {
@@ -216,8 +91,9 @@ impl<'a> Knowledge<'a> {
     /// The first entry is that of the root, which has just the root.
     fn begin_entries(&mut self, start: u32, entries: &mut Entries) -> Result<(), NoMemory> {
         self.solver.branch.is_patient = true;
-        for core in &self.solver.branch.watches.cores.all {
-            entries.at.push(NONE)?;
+        let cores = &self.solver.branch.watches.cores.all;
+        entries.cores.make_room(cores.len())?;
+        for core in cores {
             if core.owner == FOR_GOOD && core.tree != NONE && core.thread != NONE {
                 entries.names = 1;
             }
@@ -227,7 +103,7 @@ impl<'a> Knowledge<'a> {
             core.nodes.clear();
             core.nodes.push(root)?;
         }
-        let _ = entries.of_core(start)?;
+        let _ = entries.cores.number(start)?;
         Ok(())
     }
 
@@ -252,11 +128,11 @@ impl<'a> Knowledge<'a> {
         making: &mut Making,
     ) -> Result<bool, NoMemory> {
         for i in 0..usize::MAX {
-            let Some(core) = entries.cores.get(i).copied() else {
+            let Some(core) = entries.cores.met().get(i).copied() else {
                 break;
             };
             let tree = self.stand_at(core)?;
-            match self.decide(i, tree, entries, making)? {
+            match self.decide(small(i), tree, entries, making)? {
                 Some(decision) => decisions.push(decision)?,
                 None => return Ok(false),
             }
@@ -291,19 +167,14 @@ impl<'a> Knowledge<'a> {
         decisions: Vec<Decision>,
     ) -> Result<Option<Candidate>, NoMemory> {
         let alloc = self.terms.alloc;
-        let Some(rows) = rows_of(alloc, entries.names, decisions.len(), &entries.gos)? else {
+        let Some(rows) = heights_of(alloc, entries.names, decisions.len(), &entries.gos)? else {
             return Ok(None);
         };
         let mut tables = Tables::empty(alloc);
         if !self.write_tables(entries, &rows, decisions, &mut tables)? {
             return Ok(None);
         }
-        Ok(Some(Candidate::Refutation {
-            names: entries.names,
-            sequents: tables.sequents,
-            stacks: tables.stacks,
-            entries: tables.entries,
-        }))
+        Ok(Some(tables.candidate(entries.names)))
     }
 
     fn write_tables(
@@ -314,7 +185,7 @@ impl<'a> Knowledge<'a> {
         tables: &mut Tables,
     ) -> Result<bool, NoMemory> {
         let _ = tables.stacks.push(&[0])?;
-        for (id, (row, decision)) in entries.cores.iter().zip(rows.iter().zip(decisions)) {
+        for (id, (row, decision)) in entries.cores.met().iter().zip(rows.iter().zip(decisions)) {
             if !self.write_entry(*id, row, decision, tables)? {
                 return Ok(false);
             }
@@ -332,7 +203,13 @@ impl<'a> Knowledge<'a> {
         let Some(core) = self.solver.branch.watches.cores.at(id) else {
             return Ok(false);
         };
+        let thread = core.thread;
         write_sequent(&self.terms, core, &mut self.listed)?;
-        tables.push(&self.terms, &self.listed, core.thread, row, decision)
+        let alloc = self.terms.alloc;
+        let mut items = Vec::new(alloc);
+        push_item(&self.terms, thread, &mut items)?;
+        let live = small(items.len());
+        let sequent = tables.sequents.push(&self.listed)?;
+        tables.push(alloc, sequent, live, items, row, decision)
     }
 }

@@ -1,8 +1,9 @@
 // Cores that refute each other are settled: with the nodes alone that they need, for good.
 use crate::concluding::Concluded;
 use crate::knowing::{Knowledge, write_copies};
+use ml_arrays::{NONE, ascend, more_rows, push_at, row};
 use ml_base::NoMemory;
-use ml_search_local::{NONE, Outcome, row};
+use ml_sequent_solver::Outcome;
 
 /// The owner of the first group.
 const GROUPS: u32 = 1 << 31;
@@ -131,16 +132,14 @@ impl<'a> Knowledge<'a> {
         core.tree = self.solver.tree;
         let before = core.need.len();
         core.need.extend_from_slice(&self.solver.roots)?;
-        core.need.sort_unstable();
-        core.need.dedup();
+        ascend(&mut core.need);
         Ok(core.need.len() != before)
     }
 
     /// Each core has one for good in its place, with the nodes alone that it needs, and a twin that is the group's.
     fn twin_all(&mut self, cores: &[u32]) -> Result<(), NoMemory> {
-        for _ in self.twins.len()..(self.now as usize).saturating_add(1) {
-            self.twins.push(Vec::new(self.terms.alloc))?;
-        }
+        let count = (self.now as usize).saturating_add(1);
+        more_rows(self.terms.alloc, &mut self.twins, count)?;
         for id in cores {
             let known = self.twin_like(*id);
             let stands = if known == NONE {
@@ -179,9 +178,7 @@ impl<'a> Knowledge<'a> {
         let stands = self.put_good(thread, group, tree)?;
         let twin = self.put_listed(thread, owner_of_group(group), group)?;
         self.redirect(twin, stands);
-        if let Some(twins) = self.twins.get_mut(group as usize) {
-            twins.push(twin)?;
-        }
+        push_at(&mut self.twins, group, twin)?;
         Ok(stands)
     }
 

@@ -1,8 +1,9 @@
 // Whether a thread can be ended within so many steps.
 use crate::engines::{Engine, Reached};
 use crate::leaves::Leaf;
+use ml_arrays::NONE;
 use ml_base::NoMemory;
-use ml_search_local::{NONE, Outcome};
+use ml_sequent_solver::Outcome;
 
 /// A sequent and a thread of it that is to be ended within so many steps.
 #[derive(Drop)]
@@ -19,7 +20,7 @@ pub(crate) struct Call {
 
 /// What is to be done with a call.
 #[derive(Clone, Copy)]
-enum Turn {
+enum Next {
     /// It is over.
     Over(Reached),
     /// A leaf is to be found.
@@ -34,23 +35,23 @@ enum Turn {
 
 impl Call {
     /// The next call on which the leaf rests.
-    fn turn(&mut self) -> Turn {
+    fn next_step(&mut self) -> Next {
         let Some(leaf) = &self.leaf else {
-            return Turn::Ask;
+            return Next::Ask;
         };
         for i in self.next..leaf.gos.len() {
             if let Some(go) = leaf.gos.get(i) {
                 let on = go.thread(self.thread);
                 if on != NONE {
                     if self.level == 0 {
-                        return Turn::Over(Reached::Blocked);
+                        return Next::Over(Reached::Blocked);
                     }
                     self.next = i.saturating_add(1);
-                    return Turn::First(go.to, on, self.level - 1);
+                    return Next::First(go.to, on, self.level - 1);
                 }
             }
         }
-        Turn::Won
+        Next::Won
     }
 }
 
@@ -98,25 +99,24 @@ impl<'a> Engine<'a> {
 
     /// Goes on with the last call, where the one on which it rests came to this.
     fn go_on(&mut self, last: Option<Reached>) -> Result<Option<Reached>, NoMemory> {
-        let turn = self.turn_of(last);
-        match turn {
-            Turn::Over(reached) => {
+        match self.next_step(last) {
+            Next::Over(reached) => {
                 let _ = self.calls.pop();
                 Ok(Some(reached))
             }
-            Turn::First(sequent, thread, level) => self.call(sequent, thread, level),
-            Turn::Won => {
+            Next::First(sequent, thread, level) => self.call(sequent, thread, level),
+            Next::Won => {
                 self.win()?;
                 Ok(Some(Reached::Won))
             }
-            Turn::Ask => self.ask(),
-            Turn::GoesOn => Ok(None),
+            Next::Ask => self.ask(),
+            Next::GoesOn => Ok(None),
         }
     }
 
-    fn turn_of(&mut self, last: Option<Reached>) -> Turn {
+    fn next_step(&mut self, last: Option<Reached>) -> Next {
         let Some(call) = self.calls.last_mut() else {
-            return Turn::Over(Reached::Out);
+            return Next::Over(Reached::Out);
         };
         match last {
             Some(Reached::Blocked) | Some(Reached::Refuted) => {
@@ -124,12 +124,12 @@ impl<'a> Engine<'a> {
                 call.next = 0;
                 let sequent = call.sequent;
                 if self.sequents.is_refuted(&mut self.known, sequent) {
-                    Turn::Over(Reached::Refuted)
+                    Next::Over(Reached::Refuted)
                 } else {
-                    Turn::GoesOn
+                    Next::GoesOn
                 }
             }
-            _ => call.turn(),
+            _ => call.next_step(),
         }
     }
 

@@ -3,10 +3,12 @@ use crate::blocking::Call;
 use crate::leaves::{Leaf, is_thread_step, write_leaf};
 use crate::pairs::Pairs;
 use crate::sequents::Sequents;
+use ml_arrays::{NONE, NumberSet, small};
 use ml_base::NoMemory;
+use ml_candidates::Candidate;
 use ml_graph::ModalGraph;
-use ml_search_cores::{Candidate, Concluded, Knowledge};
-use ml_search_local::{NONE, Outcome, Terms, flag, set_flag};
+use ml_search_cores::{Concluded, Knowledge};
+use ml_sequent_solver::{Outcome, Terms};
 use std::alloc::Global;
 
 /// The search in a graph.
@@ -21,8 +23,7 @@ pub(crate) struct Engine<'a> {
     /// How many cores for good were known when pairs were taken back.
     cleaned: usize,
     /// The sequents that are required, in the order in which they are met.
-    order: Vec<u32>,
-    seen: Vec<bool>,
+    required: NumberSet,
 }
 
 /// What came of a thread at a sequent.
@@ -60,8 +61,7 @@ impl<'a> Engine<'a> {
             calls: Vec::new(alloc),
             later: Vec::new(alloc),
             cleaned: 0,
-            order: Vec::new(alloc),
-            seen: Vec::new(alloc),
+            required: NumberSet::empty(alloc),
         }
     }
 
@@ -103,7 +103,7 @@ impl<'a> Engine<'a> {
             return Ok(());
         }
         self.cleaned = self.known.good.len();
-        for sequent in 0..ml_search_local::small(self.sequents.len()) {
+        for sequent in 0..small(self.sequents.len()) {
             if self.sequents.is_refuted(&mut self.known, sequent) {
                 self.pairs.forget(sequent)?;
             }
@@ -113,11 +113,10 @@ impl<'a> Engine<'a> {
 
     /// Walks what is required; stops where more is known.
     fn walk(&mut self, start: u32) -> Result<Verdict, NoMemory> {
-        self.order.clear();
-        self.seen.clear();
-        self.require(start)?;
+        self.required.clear();
+        self.required.insert(start)?;
         for i in 0..usize::MAX {
-            let Some(sequent) = self.order.get(i).copied() else {
+            let Some(sequent) = self.required.list().get(i).copied() else {
                 break;
             };
             match self.visit(sequent)? {
@@ -126,18 +125,6 @@ impl<'a> Engine<'a> {
             }
         }
         Ok(Verdict::Satisfiable)
-    }
-
-    /// A sequent is required.
-    fn require(&mut self, sequent: u32) -> Result<(), NoMemory> {
-        for _ in self.seen.len()..(sequent as usize).saturating_add(1) {
-            self.seen.push(false)?;
-        }
-        if !flag(&self.seen, sequent) {
-            set_flag(&mut self.seen, sequent, true);
-            self.order.push(sequent)?;
-        }
-        Ok(())
     }
 
     /// Each thread of a required sequent has to be ended.
@@ -203,7 +190,7 @@ impl<'a> Engine<'a> {
             return Ok(Verdict::Again);
         }
         for to in &next {
-            self.require(*to)?;
+            self.required.insert(*to)?;
         }
         Ok(Verdict::GoesOn)
     }
@@ -244,7 +231,7 @@ impl<'a> Engine<'a> {
 
     /// The leaf at which the branch stands; `None` where a thread goes to two nodes.
     pub(crate) fn leaf(&mut self, sequent: u32) -> Result<Option<Leaf>, NoMemory> {
-        self.known.solver.keep_phases();
+        self.known.solver.save_phases();
         let alloc = self.known.terms.alloc;
         let steps = self.known.solver.branch.modals.len();
         self.known.spend(steps);

@@ -1,9 +1,10 @@
 // Leaves: what holds at a state, and where it leads.
 use crate::sequents::Sequents;
+use ml_arrays::{NONE, ascend};
 use ml_base::NoMemory;
 use ml_graph::Node;
 use ml_search_cores::Knowledge;
-use ml_search_local::{NONE, Solver, Terms};
+use ml_sequent_solver::{Solver, Terms};
 
 /// A diamond of a leaf, with the sequent to which it leads.
 #[derive(Drop)]
@@ -34,15 +35,6 @@ impl Go {
     }
 }
 
-/// Where a modal node leads along a diamond; `NONE` where it doesn't.
-fn along(t: &Terms, n: u32, diamond: u32) -> u32 {
-    match (t.node(n), t.node(diamond)) {
-        (Node::Diamond { to, .. }, _) if n == diamond => to,
-        (Node::Square { action, to }, Node::Diamond { action: other, .. }) if action == other => to,
-        _ => NONE,
-    }
-}
-
 /// Writes the next sequent along a diamond.
 fn write_next(
     t: &Terms,
@@ -51,13 +43,12 @@ fn write_next(
     nodes: &mut Vec<u32>,
 ) -> Result<(), NoMemory> {
     for n in &solver.branch.modals {
-        let to = along(t, *n, diamond);
+        let to = t.along(*n, diamond);
         if to != NONE && t.node(to) != Node::True {
             nodes.push(to)?;
         }
     }
-    nodes.sort_unstable();
-    nodes.dedup();
+    ascend(nodes);
     Ok(())
 }
 
@@ -76,7 +67,7 @@ fn write_walk(
         let Some(n) = seen.get(i).copied() else {
             break;
         };
-        let (left, right) = next_on_walk(t, solver, n);
+        let (left, right) = solver.branch.next_on_thread(t, n);
         if left != NONE && !seen.contains(&left) {
             seen.push(left)?;
         }
@@ -98,23 +89,6 @@ pub(crate) fn is_thread_step(t: &Terms, n: u32) -> bool {
     }
 }
 
-/// Where a thread goes on at the leaf without modal steps.
-fn next_on_walk(t: &Terms, solver: &Solver, n: u32) -> (u32, u32) {
-    match t.node(n) {
-        Node::And { left, right } => (on_thread(t, n, left), on_thread(t, n, right)),
-        Node::Or { left, right } => match solver.branch.side(n) {
-            1 => (on_thread(t, n, left), NONE),
-            2 => (on_thread(t, n, right), NONE),
-            _ => (NONE, NONE),
-        },
-        _ => (NONE, NONE),
-    }
-}
-
-fn on_thread(t: &Terms, n: u32, to: u32) -> u32 {
-    if t.threads(n, to) { to } else { NONE }
-}
-
 /// Adds where a thread goes along a diamond; tells whether that is one node at most.
 fn push_thread(
     t: &Terms,
@@ -125,7 +99,7 @@ fn push_thread(
 ) -> Result<bool, NoMemory> {
     let mut found = NONE;
     for n in ends {
-        let to = along(t, *n, diamond);
+        let to = t.along(*n, diamond);
         if to != NONE {
             if found != NONE && found != to {
                 return Ok(false);
@@ -137,16 +111,6 @@ fn push_thread(
         threads.push((thread, found))?;
     }
     Ok(true)
-}
-
-/// Writes the positive literals that stand.
-fn write_labels(t: &Terms, solver: &Solver, labels: &mut Vec<u32>) -> Result<(), NoMemory> {
-    for n in &solver.branch.literals {
-        if let Node::Lit { positive: true, .. } = t.node(*n) {
-            labels.push(*n)?;
-        }
-    }
-    Ok(())
 }
 
 /// Writes the diamonds that stand, with their next sequents.
@@ -209,7 +173,7 @@ pub(crate) fn write_leaf(
     leaf: &mut Leaf,
 ) -> Result<bool, NoMemory> {
     let (t, solver) = (&known.terms, &known.solver);
-    write_labels(t, solver, &mut leaf.labels)?;
+    solver.branch.write_labels(t, &mut leaf.labels)?;
     write_gos(t, solver, sequents, &mut leaf.gos)?;
     write_threads(t, solver, sequents.nodes(sequent), &mut leaf.gos)
 }

@@ -12,8 +12,8 @@
 // Source: Bradley, SAT-based model checking without unrolling (2011); Goré and Widmann, An optimal on-the-fly tableau-based
 // decision procedure for PDL-satisfiability (2009).
 //
-// Below stand what is learned (`ml_search_cores`) and the solver (`ml_search_local`), graphs (`ml_graph`), and what candidates
-// are made of (`ml_kripke`).
+// Below stand what is learned (`ml_search_cores`) and the solver (`ml_sequent_solver`), graphs (`ml_graph`), and candidates
+// (`ml_candidates`).
 #![tactic(auto)]
 
 mod blocking;
@@ -25,8 +25,8 @@ mod sequents;
 
 use crate::engines::Engine;
 use ml_base::NoMemory;
+use ml_candidates::Candidate;
 use ml_graph::ModalGraph;
-use ml_search_cores::Candidate;
 use std::alloc::Global;
 
 /// A candidate for an answer; `None` where the graph isn't one of those, or the search gives up.

@@ -2,12 +2,10 @@
 use crate::engines::Engine;
 use crate::leaves::{Go, Leaf};
 use indexmap::IndexSet;
-use ml_base::{Action, Edge, Name, NoMemory};
+use ml_arrays::{NONE, ascend, small};
+use ml_base::NoMemory;
+use ml_candidates::{Candidate, ModelParts};
 use ml_graph::Node;
-use ml_kripke::{Model, Structure, StructureRefusal};
-use ml_search_cores::Candidate;
-use ml_search_local::{NONE, Terms, small};
-use std::alloc::Global;
 
 /// How many states a structure may have.
 const STATES: usize = 200_000;
@@ -19,71 +17,7 @@ type State = (u32, u32, Vec<u32>);
 #[derive(Drop)]
 struct States {
     all: IndexSet<State>,
-    labels: Vec<(u32, Name)>,
-    edges: Vec<Edge>,
-}
-
-/// Adds the labels of a state.
-fn push_labels(
-    t: &Terms,
-    state: u32,
-    literals: &[u32],
-    labels: &mut Vec<(u32, Name)>,
-) -> Result<(), NoMemory> {
-    for n in literals {
-        if let Node::Lit { prop, .. } = t.node(*n) {
-            if let Some(name) = t.graph.props().get(prop as usize) {
-                labels.push((state, name.copy()?))?;
-            }
-        }
-    }
-    Ok(())
-}
-
-/// Adds an edge of a state.
-fn push_edge(
-    t: &Terms,
-    source: u32,
-    diamond: u32,
-    target: u32,
-    edges: &mut Vec<Edge>,
-) -> Result<(), NoMemory> {
-    if let Node::Diamond { action, .. } = t.node(diamond) {
-        let found: Option<&Action> = t.graph.actions().get(action as usize);
-        if let Some(action) = found {
-            edges.push(Edge {
-                source,
-                action: action.copy()?,
-                target,
-            })?;
-        }
-    }
-    Ok(())
-}
-
-impl States {
-    fn empty(alloc: Global) -> States {
-        States {
-            all: IndexSet::new(alloc),
-            labels: Vec::new(alloc),
-            edges: Vec::new(alloc),
-        }
-    }
-
-    /// The structure of what was found.
-    fn model(self, alloc: Global) -> Result<Option<Candidate>, NoMemory> {
-        let States { all, labels, edges } = self;
-        match Structure::build(alloc, small(all.len()), labels, edges) {
-            Ok(structure) => {
-                if structure.states() == 0 {
-                    return Ok(None);
-                }
-                Ok(Some(Candidate::Model(Model::new(structure, 0))))
-            }
-            Err(StructureRefusal::NoMemory) => Err(NoMemory),
-            Err(_) => Ok(None),
-        }
-    }
+    parts: ModelParts,
 }
 
 /// Writes where threads that wait go along a diamond, ascending.
@@ -94,8 +28,7 @@ fn write_waiting(go: &Go, waiting: &[u32], next: &mut Vec<u32>) -> Result<(), No
             next.push(on)?;
         }
     }
-    next.sort_unstable();
-    next.dedup();
+    ascend(next);
     Ok(())
 }
 
@@ -114,13 +47,17 @@ impl<'a> Engine<'a> {
     /// The structure of the solved pairs.
     pub(crate) fn model(&mut self) -> Result<Option<Candidate>, NoMemory> {
         let alloc = self.known.terms.alloc;
-        let mut states = States::empty(alloc);
+        let mut states = States {
+            all: IndexSet::new(alloc),
+            parts: ModelParts::empty(alloc),
+        };
         let start = self.fresh(0)?;
         states.all.insert(start)?;
         if !self.find_states(&mut states)? {
             return Ok(None);
         }
-        states.model(alloc)
+        let States { all, parts } = states;
+        parts.candidate(alloc, small(all.len()))
     }
 
     /// A sequent of whose threads none is ended yet.
@@ -174,17 +111,16 @@ impl<'a> Engine<'a> {
         waiting: &[u32],
         states: &mut States,
     ) -> Result<(), NoMemory> {
-        push_labels(&self.known.terms, state, &leaf.labels, &mut states.labels)?;
+        let t = &self.known.terms;
+        states.parts.push_labels(t.graph, state, &leaf.labels)?;
         for go in &leaf.gos {
             let next = self.next(go, thread, waiting)?;
             let (target, _) = states.all.insert_full(next)?;
-            push_edge(
-                &self.known.terms,
-                state,
-                go.diamond,
-                small(target),
-                &mut states.edges,
-            )?;
+            if let Node::Diamond { action, .. } = t.node(go.diamond) {
+                states
+                    .parts
+                    .push_edge(t.graph, state, action, small(target))?;
+            }
         }
         Ok(())
     }

@@ -1,8 +1,8 @@
 // Which threads of which sequents are ended, and by which leaves.
 use crate::leaves::Leaf;
 use indexmap::IndexSet;
+use ml_arrays::{NONE, more_rows, push_at, row, small};
 use ml_base::NoMemory;
-use ml_search_local::{NONE, row, small};
 use std::alloc::Global;
 
 /// Pairs of a sequent and a thread of it, or `NONE` for a sequent without one.
@@ -70,22 +70,16 @@ impl Pairs {
             let on = go.thread(thread);
             if thread != NONE && on != NONE {
                 let next = self.number((go.to, on))?;
-                if let Some(users) = self.users.get_mut(next as usize) {
-                    users.push(number)?;
-                }
+                push_at(&mut self.users, next, number)?;
             }
         }
         Ok(())
     }
 
     fn note_lead(&mut self, sequent: u32, number: u32) -> Result<(), NoMemory> {
-        for _ in self.leads.len()..(sequent as usize).saturating_add(1) {
-            self.leads.push(Vec::new(self.alloc))?;
-        }
-        if let Some(leads) = self.leads.get_mut(sequent as usize) {
-            leads.push(number)?;
-        }
-        Ok(())
+        let count = (sequent as usize).saturating_add(1);
+        more_rows(self.alloc, &mut self.leads, count)?;
+        push_at(&mut self.leads, sequent, number)
     }
 
     /// The pairs that lead to a sequent are taken back, with those that go on to them.

@@ -1,8 +1,8 @@
 // Sequents by their numbers.
 use indexmap::IndexSet;
+use ml_arrays::{flag, number, put, set_flag, signature, small};
 use ml_base::NoMemory;
-use ml_search_cores::Knowledge;
-use ml_search_local::{flag, number, put, set_flag, signature, small, within};
+use ml_search_cores::{Knowledge, lies_within};
 use std::alloc::Global;
 
 /// The sequents that were met.
@@ -71,9 +71,7 @@ impl Sequents {
             return false;
         };
         match known.solver.branch.watches.cores.at(*id) {
-            Some(core) => {
-                core.signature & !bits == 0 && within(&core.nodes, self.nodes(sequent))
-            }
+            Some(core) => lies_within(core, self.nodes(sequent), bits),
             None => false,
         }
     }

@@ -1,9 +1,11 @@
 // The search as a whole: the path grows or is taken back, until a lasso closes or nothing is left.
 use crate::paths::Path;
+use ml_arrays::{NONE, ascend, row};
 use ml_base::NoMemory;
+use ml_candidates::Candidate;
 use ml_graph::{ModalGraph, Node};
-use ml_search_cores::{Candidate, Knowledge};
-use ml_search_local::{NONE, Outcome, row};
+use ml_search_cores::Knowledge;
+use ml_sequent_solver::Outcome;
 use std::alloc::Global;
 
 /// A sequent at which a thread is to be ended within so many steps, and the leaf that was found there.
@@ -169,7 +171,7 @@ impl<'a> Engine<'a> {
 
     /// Notes the leaf at which the branch stands, with a stage for its next sequent.
     pub(crate) fn note_leaf(&mut self, level: u32) -> Result<(), NoMemory> {
-        self.known.solver.keep_phases();
+        self.known.solver.save_phases();
         let alloc = self.known.terms.alloc;
         let mut next = Stage {
             nodes: Vec::new(alloc),
@@ -193,8 +195,7 @@ impl<'a> Engine<'a> {
                 }
             }
         }
-        nodes.sort_unstable();
-        nodes.dedup();
+        ascend(nodes);
         Ok(())
     }
 
@@ -203,8 +204,12 @@ impl<'a> Engine<'a> {
         let Some(stage) = self.stack.last_mut() else {
             return Ok(());
         };
-        write_labels(&self.known, &mut stage.labels)?;
-        write_threads(&self.known, nodes, &mut stage.on)
+        let known = &self.known;
+        known
+            .solver
+            .branch
+            .write_labels(&known.terms, &mut stage.labels)?;
+        write_threads(known, nodes, &mut stage.on)
     }
 
     /// The stages become places of the path.
@@ -260,17 +265,6 @@ fn has_one_diamond(graph: &ModalGraph) -> bool {
         }
     }
     diamonds == 1
-}
-
-/// Writes the positive literals that stand.
-fn write_labels(known: &Knowledge, labels: &mut Vec<u32>) -> Result<(), NoMemory> {
-    labels.clear();
-    for n in &known.solver.branch.literals {
-        if let Node::Lit { positive: true, .. } = known.terms.node(*n) {
-            labels.push(*n)?;
-        }
-    }
-    Ok(())
 }
 
 /// Writes the threads among next nodes that go on.

@@ -8,8 +8,8 @@
 // a query asks for a leaf that ends it within so many steps, and what can't is learned (`ml_search_cores`). A lasso that
 // closes is a model (`models`); a core of the root makes a refutation.
 //
-// Below stand what is learned (`ml_search_cores`) and the solver (`ml_search_local`), graphs (`ml_graph`), and what candidates
-// are made of (`ml_kripke`).
+// Below stand what is learned (`ml_search_cores`) and the solver (`ml_sequent_solver`), graphs (`ml_graph`), and candidates
+// (`ml_candidates`).
 #![tactic(auto)]
 
 mod engines;
@@ -19,8 +19,8 @@ mod reaching;
 
 use crate::engines::Engine;
 use ml_base::NoMemory;
+use ml_candidates::Candidate;
 use ml_graph::ModalGraph;
-use ml_search_cores::Candidate;
 use std::alloc::Global;
 
 /// A candidate for an answer; `None` where the graph isn't one of those, or the search gives up.

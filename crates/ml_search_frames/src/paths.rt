@@ -1,6 +1,7 @@
 // The path of sequents.
+use ml_arrays::{NONE, number, signature, small, within};
 use ml_base::NoMemory;
-use ml_search_local::{NONE, Terms, number, signature, within};
+use ml_sequent_solver::Terms;
 use std::alloc::Global;
 
 /// A place of the path.
@@ -94,7 +95,7 @@ impl Path {
         nodes: &[u32],
         since: &mut Vec<(u32, u32)>,
     ) -> Result<(), NoMemory> {
-        let here = ml_search_local::small(self.places.len());
+        let here = small(self.places.len());
         for n in nodes {
             if t.component(*n) != 0 {
                 let began = if on.contains(n) { self.began(*n) } else { None };
@@ -116,7 +117,7 @@ impl Path {
 
     /// The last place within whose sequent these nodes lie, before each of their threads began.
     fn closes(&self, nodes: &[u32], since: &[(u32, u32)]) -> Option<u32> {
-        let mut most = ml_search_local::small(self.places.len());
+        let mut most = small(self.places.len());
         for (_, began) in since {
             most = most.min(*began);
         }

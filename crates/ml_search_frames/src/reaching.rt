@@ -1,8 +1,9 @@
 // A thread is sought to be ended, backwards by frames.
 use crate::engines::{Engine, Reached, Stage};
+use ml_arrays::{NONE, row};
 use ml_base::NoMemory;
 use ml_search_cores::{Concluded, Knowledge};
-use ml_search_local::{NONE, Outcome, row};
+use ml_sequent_solver::Outcome;
 
 /// How many more steps are tried at one place.
 const ROUNDS: u32 = 25;

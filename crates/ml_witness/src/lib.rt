@@ -4,7 +4,7 @@
 // node, with ranks, and looks each of them through (`specs/private/Claims.antt`). The checking game isn't made: there is one
 // number for each pair. Of the making nothing is proved but that it is safe and ends.
 //
-// - `making` makes the claims: the strong components of the graph (`components`) are evaluated from below, least fixpoints by
+// - `making` makes the claims: the strong components of the graph are evaluated from below, least fixpoints by
 //   what enters, greatest ones by what is taken out.
 // - `checking` looks them through.
 //
@@ -13,7 +13,6 @@
 #![tactic(auto)]
 
 mod checking;
-mod components;
 mod holding;
 mod making;
 mod rows;

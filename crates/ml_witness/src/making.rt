@@ -1,7 +1,7 @@
 // Claims with ranks, made by evaluating a graph on a structure.
 use crate::checking::pair;
-use crate::components::{Components, references};
-use crate::rows::{NONE, Rows, lengthen, number, small};
+use crate::rows::Rows;
+use ml_arrays::{Components, Digraph, NONE, more_numbers, number, small};
 use ml_base::{Action, Edge, NoMemory};
 use ml_graph::{ModalGraph, Node};
 use ml_kripke::Structure;
@@ -29,6 +29,27 @@ pub(crate) struct Making<'a> {
     pub(crate) ranks: Vec<u32>,
     next: u32,
     changed: Vec<(u32, u32)>,
+    alloc: Global,
+}
+
+/// The nodes to which a node refers.
+fn references(node: Node) -> (u32, u32) {
+    match node {
+        Node::And { left, right } | Node::Or { left, right } => (left, right),
+        Node::Diamond { to, .. } | Node::Square { to, .. } => (to, NONE),
+        _ => (NONE, NONE),
+    }
+}
+
+/// Writes to which nodes each node refers.
+fn write_references(graph: &ModalGraph, written: &mut Digraph) -> Result<(), NoMemory> {
+    for node in graph.nodes() {
+        let (left, right) = references(*node);
+        written.push_target(left)?;
+        written.push_target(right)?;
+        written.end_node()?;
+    }
+    Ok(())
 }
 
 /// The place of an action of the graph, tried first at the place where the last one was found.
@@ -62,16 +83,17 @@ impl<'a> Making<'a> {
             ranks: Vec::new(alloc),
             next: 0,
             changed: Vec::new(alloc),
+            alloc,
         }
     }
 
     /// Makes the claims.
     pub(crate) fn make(&mut self) -> Result<(), NoMemory> {
-        self.components.find(self.graph)?;
+        self.find_components()?;
         self.find_parents()?;
         self.find_edges()?;
         let count = pair(self.graph.size(), self.structure.states(), 0);
-        lengthen(&mut self.ranks, count, 0)?;
+        more_numbers(&mut self.ranks, count, 0)?;
         let mut first = 0;
         for component in 0..small(self.components.ends.len()) {
             let end = number(&self.components.ends, component);
@@ -79,6 +101,12 @@ impl<'a> Making<'a> {
             first = end;
         }
         Ok(())
+    }
+
+    fn find_components(&mut self) -> Result<(), NoMemory> {
+        let mut references = Digraph::empty(self.alloc);
+        write_references(self.graph, &mut references)?;
+        self.components.find_from(&references, self.graph.root())
     }
 
     fn find_parents(&mut self) -> Result<(), NoMemory> {
@@ -105,7 +133,7 @@ impl<'a> Making<'a> {
                 last = self.find_edge(small(place), edge, last)?;
             }
         }
-        lengthen(
+        more_numbers(
             &mut self.firsts,
             self.structure.states() as usize + 1,
             small(count),
@@ -114,7 +142,7 @@ impl<'a> Making<'a> {
 
     /// Notes an edge; answers the place of its action.
     fn find_edge(&mut self, place: u32, edge: &Edge, last: u32) -> Result<u32, NoMemory> {
-        lengthen(&mut self.firsts, edge.source as usize + 1, place)?;
+        more_numbers(&mut self.firsts, edge.source as usize + 1, place)?;
         let action = place_of(self.graph.actions(), &edge.action, last);
         self.actions.push(action)?;
         self.arriving.add(edge.target, place);
@@ -158,14 +186,14 @@ impl<'a> Making<'a> {
         }
         let last = self.structure.states().saturating_sub(1);
         for steps in 0..self.structure.states() {
-            self.turn_all(is_least, last.saturating_sub(steps), first, end)?;
-            self.follow(component, is_least)?;
+            self.update_all(is_least, last.saturating_sub(steps), first, end)?;
+            self.propagate(component, is_least)?;
         }
         Ok(())
     }
 
-    /// Turns each pair of a state and a node of the component.
-    fn turn_all(
+    /// Updates each pair of a state and a node of the component.
+    fn update_all(
         &mut self,
         is_least: bool,
         state: u32,
@@ -174,7 +202,7 @@ impl<'a> Making<'a> {
     ) -> Result<(), NoMemory> {
         for place in first..end {
             let n = number(&self.components.nodes, place);
-            self.turn(is_least, state, n)?;
+            self.update(is_least, state, n)?;
         }
         Ok(())
     }
@@ -200,7 +228,7 @@ impl<'a> Making<'a> {
     }
 
     /// Claims a pair, or takes its claim back, if it is time.
-    fn turn(&mut self, is_least: bool, state: u32, n: u32) -> Result<(), NoMemory> {
+    fn update(&mut self, is_least: bool, state: u32, n: u32) -> Result<(), NoMemory> {
         let is_claimed = self.rank(state, n) > 0;
         if is_claimed == is_least || self.holds(state, n) != is_least {
             return Ok(());
@@ -215,18 +243,18 @@ impl<'a> Making<'a> {
         Ok(())
     }
 
-    /// Turns what depends on what changed, in the component.
-    fn follow(&mut self, component: u32, is_least: bool) -> Result<(), NoMemory> {
+    /// Updates what depends on what changed, in the component.
+    fn propagate(&mut self, component: u32, is_least: bool) -> Result<(), NoMemory> {
         for _ in 0..u64::MAX {
             let Some((state, n)) = self.changed.pop() else {
                 break;
             };
-            self.turn_parents(component, is_least, state, n)?;
+            self.update_parents(component, is_least, state, n)?;
         }
         Ok(())
     }
 
-    fn turn_parents(
+    fn update_parents(
         &mut self,
         component: u32,
         is_least: bool,
@@ -239,24 +267,24 @@ impl<'a> Making<'a> {
                 break;
             }
             if number(&self.components.of, link / 2) == component {
-                self.turn_parent(is_least, state, link / 2)?;
+                self.update_parent(is_least, state, link / 2)?;
             }
             link = self.parents.after(link);
         }
         Ok(())
     }
 
-    fn turn_parent(&mut self, is_least: bool, state: u32, n: u32) -> Result<(), NoMemory> {
+    fn update_parent(&mut self, is_least: bool, state: u32, n: u32) -> Result<(), NoMemory> {
         match self.node(n) {
             Node::Diamond { action, .. } | Node::Square { action, .. } => {
-                self.turn_sources(is_least, state, n, action)
+                self.update_sources(is_least, state, n, action)
             }
-            _ => self.turn(is_least, state, n),
+            _ => self.update(is_least, state, n),
         }
     }
 
-    /// Turns a node at each state from which an edge of the action leads to this one.
-    fn turn_sources(
+    /// Updates a node at each state from which an edge of the action leads to this one.
+    fn update_sources(
         &mut self,
         is_least: bool,
         state: u32,
@@ -270,7 +298,7 @@ impl<'a> Making<'a> {
             }
             if number(&self.actions, place) == action {
                 let source = self.source(place);
-                self.turn(is_least, source, n)?;
+                self.update(is_least, source, n)?;
             }
             place = self.arriving.after(place);
         }
