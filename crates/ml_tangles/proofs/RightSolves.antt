@@ -2,9 +2,9 @@
 --
 --   makes       == the choices are the moves that are claimed
 --   right_solve == the theorem
-use Rattle.std.proofs.Common.{ℕ, ◌≡◌, ◌<◌, List, Option, Some, length, arith, refl, sym, ap, ◌∙◌, subst}
+use Rattle.std.proofs.Common.{ℕ, ◌≡◌, ◌<◌, List, Some, length, arith, sym, ◌∙◌}
 use Rattle.ml_parity.specs.declared.players.Player.{Player}
-use Rattle.ml_parity.specs.Game.{ParityGame, IsGame, owner_of, size}
+use Rattle.ml_parity.specs.Game.{ParityGame, IsGame, size}
 use Rattle.ml_parity.specs.Solution.{choice_at, winner_at}
 use Rattle.ml_game_check.specs.Laws.{Makes}
 use Rattle.ml_game_check.specs.RightClaims.{AreRight, Claims, IsClaimed}

@@ -10,7 +10,7 @@ use crate::arena::{Arena, Guess, arena_of, player_of};
 use crate::learning::learn;
 use crate::recursion::recur;
 use ml_base::NoMemory;
-use ml_game_check::numbers::number;
+use ml_game_check::numbers::{number, small};
 use ml_game_check::{Claim, Verdict, check};
 use ml_parity::{Game, Player, Solution};
 use std::alloc::Global;
@@ -49,7 +49,7 @@ fn solution_of(alloc: Global, game: &Game, guess: &Guess) -> Result<Solution, No
                 Some(to) => *to,
                 None => 0,
             },
-            _ => number(&guess.choice, i as u32) as u64,
+            _ => number(&guess.choice, small(i)) as u64,
         })?;
     }
     Ok(Solution { winner, choice })
@@ -120,10 +120,9 @@ fn is_filled_at(game: &Game, winner: &[Player], choice: &[u64], vertex: usize) -
 fn is_filled(game: &Game, winner: &[Player], choice: &[u64]) -> bool
     requires winner { length winner.now ≡ size game.now }
     requires choice { length choice.now ≡ size game.now }
-    ensures filled { IsTrue result → (v : ℕ) → v < size game.now → IsFilledAt game.now winner.now choice.now v }
-    ensures game { IsGame game.now }
+    ensures { IsTrue result → (v : ℕ) → v < size game.now → IsFilledAt game.now winner.now choice.now v }
 {
-    for vertex in 0..game.owner.len() {
+    for vertex in 0..winner.len() {
         if !is_filled_at(game, winner, choice, vertex) {
             return false;
         }
@@ -142,6 +141,28 @@ fn are_right(alloc: Global, game: &Game, claims: &[Option<Claim>]) -> Result<boo
     }
 }
 
+/// Do these winners and choices solve the game, of which these are the claims?
+fn is_solved_as(
+    alloc: Global,
+    game: &Game,
+    winner: &[Player],
+    choice: &[u64],
+    claims: &[Option<Claim>],
+) -> Result<bool, NoMemory>
+    requires game { IsGame game.now }
+    requires winner { length winner.now ≡ size game.now }
+    requires choice { length choice.now ≡ size game.now }
+    requires filled { (v : ℕ) → v < size game.now → IsFilledAt game.now winner.now choice.now v }
+    requires claims { AreClaimsOf winner.now choice.now claims.now }
+    ensures { IfOk result (λ b. IsTrue b → Solves game.now winner.now choice.now) }
+{
+    if are_right(alloc, game, claims)? {
+        Ok(true)
+    } else {
+        Ok(false)
+    }
+}
+
 /// Do these winners and choices solve the game?
 fn is_solved(
     alloc: Global,
@@ -149,6 +170,7 @@ fn is_solved(
     winner: &[Player],
     choice: &[u64],
 ) -> Result<bool, NoMemory>
+    requires game { IsGame game.now }
     requires winner { length winner.now ≡ size game.now }
     requires choice { length choice.now ≡ size game.now }
     ensures { IfOk result (λ b. IsTrue b → Solves game.now winner.now choice.now) }
@@ -157,7 +179,7 @@ fn is_solved(
         return Ok(false);
     }
     let claims = claims_of(alloc, winner, choice)?;
-    are_right(alloc, game, &claims)
+    is_solved_as(alloc, game, winner, choice, &claims)
 }
 
 /// Does this solve the game?

@@ -4,7 +4,7 @@
 --   AreClaimsOf ws xs cs    == the claims cs name these winners, with these choices as moves
 --   IsFilledAt g ws xs v    == the choice at v is a move, and the first one where the owner isn't the winner
 --   Solves g ws xs          == the winners and choices are a solution, with first moves elsewhere
-use Rattle.std.specs.Prelude.{ℕ, ◌≡◌, ◌≢◌, ◌<◌, List, length, get_or, Option, Some}
+use Rattle.std.specs.Prelude.{ℕ, ◌≡◌, ◌≢◌, ◌<◌, List, length, get_or, Some}
 use Rattle.ml_parity.specs.declared.players.Player.{Player}
 use Rattle.ml_parity.specs.Game.{ParityGame, HasMove, moves_of, owner_of}
 use Rattle.ml_parity.specs.Solution.{GameSolution, FirstElsewhere, IsSolution, choice_at, winner_at}
