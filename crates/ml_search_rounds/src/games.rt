@@ -188,9 +188,10 @@ impl<'a> Making<'a> {
         if moves.is_empty() {
             moves.push(end_of(vertex))?;
         }
+        let priority = self.priority_of(vertex);
         self.successors.push(moves)?;
         self.owner.push(owner_of(vertex))?;
-        self.priority.push(self.priority_of(vertex))?;
+        self.priority.push(priority)?;
         Ok(())
     }
 
