@@ -21,10 +21,11 @@ use Rattle.ml_buchi.specs.Deterministic.{Deterministic, IsDeterminised}
 use Rattle.ml_buchi.specs.Valuations.{letters_of}
 use Rattle.ml_buchi.specs.WrittenText.{automaton_text}
 use Rattle.ml_buchi.proofs.SameWords.{one_automaton as one_deterministic, same_words}
-use Rattle.ml_driver.specs.Automata.{IsRefusedAutomaton, IsWrittenFor, PassesLimit, StandsForOne, automaton_refusal_line, passed_line}
+use Rattle.ml_driver.specs.Automata.{IsRefusedAutomaton, IsWrittenFor, PassesLimit, automaton_refusal_line, passed_line}
 use Rattle.ml_driver.proofs.InputLimits.{SomeAnswer, alike_due, answer_due}
 use Rattle.ml_driver.specs.Laws.{OneAutomatonDue, OneAutomatonWritten, WrittenAcceptsTheSame}
 use Rattle.ml_driver.specs.Run.{IsAnswer}
+use Rattle.ml_driver.specs.Texts.{StandsFor}
 use Rattle.ml_driver.specs.Codes.{code_of}
 use Rattle.ml_driver.specs.declared.command.Command.TheVariants.{Determinise}
 use Rattle.ml_driver.specs.declared.status.Status.{Status}
@@ -33,13 +34,13 @@ use Rattle.ml_driver.specs.declared.status.Status.TheVariants.{Yes, Undecided, T
 -- ---- one automaton
 
 written_alike : (n m : ℕ) (text out more : List ℕ)
-    → StandsForOne text (λ a. IsWrittenFor a n out)
-    → StandsForOne text (λ a. IsWrittenFor a m more)
+    → StandsFor IsReadAs text (λ a. IsWrittenFor a n out)
+    → StandsFor IsReadAs text (λ a. IsWrittenFor a m more)
     → out ≡ more
 written_alike n m text out more x y =
-    let same = one_automaton text y.automaton x.automaton y.is_read x.is_read in
+    let same = one_automaton text y.meant x.meant y.is_meant x.is_meant in
     let other = subst (λ a. IsDeterminised a y.is_so.deterministic) same y.is_so.is_determinised in
-    let d = one_deterministic x.automaton x.is_so.deterministic y.is_so.deterministic x.is_so.is_determinised other in
+    let d = one_deterministic x.meant x.is_so.deterministic y.is_so.deterministic x.is_so.is_determinised other in
     x.is_so.is_written ∙ ap automaton_text d ∙ sym y.is_so.is_written
 
 pub yes_kept : Yes ≢ Text
@@ -67,15 +68,15 @@ told_cause : (e : HoaRefusal) (out : List ℕ) → Some out ≡ automaton_refusa
 told_cause e out line is = let none : Some out ≡ None = line ∙ ap automaton_refusal_line is in absurd (cc)
 
 -- a text isn't read and refused
-read_or_refused : (text out : List ℕ) (IsSo : Automaton → Type 0) → StandsForOne text IsSo → IsRefusedAutomaton text out → ⊥
+read_or_refused : (text out : List ℕ) (IsSo : Automaton → Type 0) → StandsFor IsReadAs text IsSo → IsRefusedAutomaton text out → ⊥
 read_or_refused text out IsSo x r =
-    told_cause r.refusal out r.is_written (never_both text x.automaton r.refusal x.is_read r.is_refused)
+    told_cause r.refusal out r.is_written (never_both text x.meant r.refusal x.is_meant r.is_refused)
 
-one_made : (n : ℕ) (text out more : List ℕ) → StandsForOne text (λ a. IsWrittenFor a n out)
-    → StandsForOne text (λ a. PassesLimit a n more) → ⊥
+one_made : (n : ℕ) (text out more : List ℕ) → StandsFor IsReadAs text (λ a. IsWrittenFor a n out)
+    → StandsFor IsReadAs text (λ a. PassesLimit a n more) → ⊥
 one_made n text out more x y =
-    let same = one_automaton text y.automaton x.automaton y.is_read x.is_read in
-    written_or_passed x.automaton n out more x.is_so (subst (λ a. PassesLimit a n more) same y.is_so)
+    let same = one_automaton text y.meant x.meant y.is_meant x.is_meant in
+    written_or_passed x.meant n out more x.is_so (subst (λ a. PassesLimit a n more) same y.is_so)
 
 same_line : (text out more : List ℕ) → IsRefusedAutomaton text out → IsRefusedAutomaton text more → out ≡ more
 same_line text out more r q =
@@ -148,12 +149,12 @@ on_read n text a is =
       Yes,
       (
         automaton_text (determinised a few.0),
-        record { automaton = a; is_read = is; is_so = few_written n a few.0 few.1 },
+        record { meant = a; is_meant = is; is_so = few_written n a few.0 few.1 },
       ),
     ))
     (λ (many : HasMoreThan (letters_of a) a.start n). (
       Undecided,
-      (passed_line n, record { automaton = a; is_read = is; is_so = record { has_more = many; is_written = refl } }),
+      (passed_line n, record { meant = a; is_meant = is; is_so = record { has_more = many; is_written = refl } }),
     ))
     (some_numbering (letters_of a) a.start n)
 
@@ -170,5 +171,5 @@ on_automaton n text =
 
 pub written_words : WrittenAcceptsTheSame
 written_words n text out x w lasso letters =
-    same_words x.automaton x.is_so.deterministic w (read_is_automaton text x.automaton x.is_read)
+    same_words x.meant x.is_so.deterministic w (read_is_automaton text x.meant x.is_meant)
     x.is_so.is_determinised lasso letters

@@ -4,10 +4,11 @@
 --   on_checked_game == some status is the answer, with some output
 --   one_check_due   == one is due
 --   solutions_are_accepted == the solution that is due for `solve-game` is accepted
-use Rattle.std.proofs.Common.{◌≡◌, ◌≢◌, ℕ, ◌⊎◌, ⊎_elim, List, ◌++◌, Some, refl, sym, ap, subst, ◌∙◌, inl, inr}
+use Rattle.std.proofs.Common.{◌≡◌, ◌≢◌, ℕ, ◌≤◌, ◌⊎◌, ⊎_elim, List, ◌++◌, length, length-append, Some, refl, sym, ap, subst, ◌∙◌, inl, inr, arith}
 use Rattle.ml_lines.specs.Lines.{line_text}
 use Rattle.ml_pgsolver.specs.CheckedText.{IsCheckRefusedBy, IsFoundIn}
 use Rattle.ml_pgsolver.specs.Laws.{NamesFour as FindsFour}
+use Rattle.ml_pgsolver.specs.declared.limits.TheConstants.{LONGEST_CHECKED_TEXT}
 use Rattle.ml_pgsolver.specs.declared.finding.Finding.{Finding}
 use Rattle.ml_pgsolver.specs.declared.finding.Finding.TheVariants.{Accepted}
 use Rattle.ml_pgsolver.specs.declared.refusal.GameTextRefusal.{GameTextRefusal}
@@ -16,14 +17,16 @@ use Rattle.ml_pgsolver.proofs.OneChecked.{one_check_refusal}
 use Rattle.ml_pgsolver.proofs.OneFound.{found_or_refused, one_found, some_found}
 use Rattle.ml_pgsolver.proofs.WrittenSolutions.{written_is_accepted}
 use Rattle.ml_driver.proofs.GameAnswers.{game_line, told_cause}
-use Rattle.ml_driver.proofs.InputLimits.{SomeAnswer, alike_due, answer_due}
+use Rattle.ml_driver.proofs.InputLimits.{SomeAnswer, alike_due}
+use Rattle.ml_driver.proofs.SolutionLengths.{solution_short}
+use Rattle.ml_driver.specs.Codes.{code_of}
 use Rattle.ml_driver.specs.CheckedGames.{IsGameChecked, finding_said, if_found, if_unread}
 use Rattle.ml_driver.specs.Games.{game_refusal_line}
 use Rattle.ml_driver.specs.Laws.{NamesFour, OneCheckDue, SolutionsAreAccepted}
 use Rattle.ml_driver.specs.Statuses.{IsSaid}
-use Rattle.ml_driver.specs.declared.command.Command.TheVariants.{CheckGame, SolveGame}
+use Rattle.ml_driver.specs.declared.command.Command.TheVariants.{CheckGame}
 use Rattle.ml_driver.specs.declared.status.Status.{Status}
-use Rattle.ml_driver.specs.declared.status.Status.TheVariants.{Yes, Text}
+use Rattle.ml_driver.specs.declared.status.Status.TheVariants.{Text}
 
 -- ---- one answer
 
@@ -87,11 +90,15 @@ on_checked_game text =
 -- ---- what is due
 
 pub solutions_are_accepted : SolutionsAreAccepted
-solutions_are_accepted e text out due within =
-    let x = answer_due (SolveGame e) text Yes out (λ is. cc) due in
+solutions_are_accepted e text out (inr refused) = absurd (omega (arith, ap code_of refused.1.0))
+solutions_are_accepted e text out (inl (within, x)) =
     let right = written_is_accepted text x.named x.solution x.is_read x.is_solution in
+    let short = solution_short text x.named x.solution x.is_read in
+    let long = ap length x.is_written in
+    let all = length-append text out in
+    let both : length (text ++ out) ≤ LONGEST_CHECKED_TEXT = omega (arith, within, short, long, all) in
     inl (
-      within,
+      both,
       if_found Accepted (subst (λ o. IsFoundIn (text ++ o) Accepted) (sym x.is_written) right.is_accepted) (refl, refl),
     )
 

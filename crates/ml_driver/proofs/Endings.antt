@@ -6,6 +6,7 @@
 --   too_long_due   == an input past the limit of its command is refused by its length
 --   given_past     == and was read, as far as it was given
 --   unread         == how a call ends that lacks memory before anything is read
+--   line_confirmed == what a text is refused with shows no document
 use Rattle.std.proofs.Common.{◌≡◌, ℕ, ◌+◌, ◌<◌, ◌≤◌, Bool, true, false, length, List, [], Option, Some, None, IfSome, if◌then◌else◌, refl, sym, ap, subst, inl, inr, ⊎_elim, arith}
 use Rattle.std.specs.Io.KnownBytes.{append_known, prepend_known}
 use Rattle.ml_base.specs.Faults.{Rose}
@@ -19,6 +20,7 @@ use Rattle.ml_refute_check.specs.declared.verdict.Verdict.{Verdict}
 use Rattle.ml_refute_check.specs.declared.verdict.Verdict.TheVariants as verdict
 use Rattle.ml_pgsolver.specs.declared.finding.Finding.{Finding}
 use Rattle.ml_pgsolver.specs.declared.finding.Finding.TheVariants as finding
+use Rattle.ml_driver.specs.Confirmed.{IsConfirmed}
 use Rattle.ml_driver.specs.CheckedGames.{IsGameChecked, finding_said, if_found, if_unread}
 use Rattle.ml_driver.specs.Decision.{IsAnswered, if_open, if_refused, if_refuted, if_satisfied}
 use Rattle.ml_driver.specs.Tasks.{IsTaskAnswered}
@@ -126,10 +128,11 @@ pub ended_written : (c : Option Command) (w : World) (text : List ℕ) (due : St
     → WasGiven (input_limit c) w.left_before w.left_after text
     → w.source_faults_after ≡ w.source_faults_before
     → IsDue c text due output
+    → IsConfirmed c due output
     → IsWhole output
     → Wrote w.taken_before w.taken_after w.sink_faults_before w.sink_faults_after due output status
     → Ended c w status
-ended_written c w text due output status read calm is_due whole_output wrote =
+ended_written c w text due output status read calm is_due confirmed whole_output wrote =
     ⊎_elim
     (λ (whole : (status ≡ due)
     × (w.taken_after ≡ append_known w.taken_before output)
@@ -139,6 +142,7 @@ ended_written c w text due output status read calm is_due whole_output wrote =
       output = output;
       was_read = read;
       is_due = is_due;
+      is_confirmed = confirmed;
       is_whole = whole_output;
       was_taken = whole.1;
       is_calm = record { source_is_calm = calm; sink_is_calm = whole.2 };
@@ -152,6 +156,7 @@ ended_written c w text due output status read calm is_due whole_output wrote =
       output = output;
       was_read = read;
       is_due = is_due;
+      is_confirmed = confirmed;
       is_whole = whole_output;
       part_taken = part.1;
       source_is_calm = calm;
@@ -172,6 +177,13 @@ pub too_long_due : (c : Command) (k : ℕ) (text : List ℕ)
 too_long_due c k text is long =
     let past : length text ≤ k → ⊥ = λ short. absurd (omega (arith, long, short)) in
     inr ((λ within. past (subst (λ o. IfSome o (λ n. length text ≤ n)) is within)), (refl, refl))
+
+-- what refuses an input shows no document
+pub line_confirmed : (c : Option Command) (out : List ℕ) → IsConfirmed c Text out
+line_confirmed None out = tt
+line_confirmed (Some Path) out = tt
+line_confirmed (Some CheckMachine) out = tt
+line_confirmed (Some c) out = tt
 
 -- ---- what was given
 

@@ -8,6 +8,8 @@ pub mod Answered
 pub mod FoundWords
 -- what is due for `solve-game`
 pub mod GameAnswers
+-- how long the text of a solution is at most
+pub mod SolutionLengths
 -- what is due for `check-game`
 pub mod CheckedGameAnswers
 -- what is due for `determinise`
@@ -22,6 +24,10 @@ pub mod TaskAnswers
 pub mod AskedAnswers
 -- what is due for `make`
 pub mod MadeAnswers
+-- what `check-machine` answers of what is due for `realize` and `make`
+pub mod CheckedOutcomes
+-- what is due for `path`, beside what is due for `check-model`
+pub mod PathsBeside
 -- each structure has a quotient
 pub mod SomeQuotient
 -- what is due for `quotient`

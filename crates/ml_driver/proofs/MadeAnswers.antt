@@ -6,7 +6,7 @@
 --   calm_made      == each is no fault, and no want of memory
 --   on_made        == some status is, with some output
 --   makes_as_realized == what is due for `realize` is due for `make`, and but for yes and no the other way round
-use Rattle.std.proofs.Common.{◌≡◌, ◌≢◌, ℕ, ◌≤◌, ◌⊎◌, List, refl, sym, subst, inl, inr, ⊎_elim, arith}
+use Rattle.std.proofs.Common.{◌≡◌, ◌≢◌, ℕ, ◌≤◌, List, refl, subst, inl, inr, ⊎_elim, arith}
 use Rattle.ml_base.specs.declared.doc_fault.DocFault.{DocFault}
 use Rattle.ml_lines.specs.Lines.{line_text}
 use Rattle.ml_make.specs.Making.{IsAnswer}
@@ -24,9 +24,10 @@ use Rattle.ml_task.specs.TaskText.{IsTaskFault, IsTaskText}
 use Rattle.ml_task.proofs.OneAnswer as tasks
 use Rattle.ml_driver.specs.Codes.{code_of}
 use Rattle.ml_driver.specs.Laws.{AgreeUnlessOpen, MakesAsRealized}
-use Rattle.ml_driver.specs.MadeTasks.{IsMadeOf, IsMadeTold, IsTaskMade}
+use Rattle.ml_driver.specs.MadeTasks.{IsMadeTold, IsTaskMade}
 use Rattle.ml_driver.specs.Statuses.{IsUnreadable, refused_document}
-use Rattle.ml_driver.specs.Tasks.{IsOpenFor, IsTaskAnswered, StandsForTask}
+use Rattle.ml_driver.specs.Tasks.{IsOpenFor, IsTaskAnswered}
+use Rattle.ml_driver.specs.Texts.{StandsFor}
 use Rattle.ml_driver.specs.private.Outcomes.{status_of}
 use Rattle.ml_driver.specs.declared.command.Command.TheVariants.{Make, Realize}
 use Rattle.ml_driver.specs.declared.status.Status.{Status}
@@ -47,23 +48,23 @@ pub made_answered : (n : ℕ) (text : List ℕ) (t : Task) (s : Status) (out : L
     → IsTaskText text t
     → IsMadeTold t n s out
     → IsTaskMade n text s out
-made_answered n text t Yes out is so = record { task = t; is_text = is; is_so = so }
-made_answered n text t No out is so = record { task = t; is_text = is; is_so = so }
-made_answered n text t Undecided out is so = record { task = t; is_text = is; is_so = so }
+made_answered n text t Yes out is so = record { meant = t; is_meant = is; is_so = so }
+made_answered n text t No out is so = record { meant = t; is_meant = is; is_so = so }
+made_answered n text t Undecided out is so = record { meant = t; is_meant = is; is_so = so }
 made_answered n text t _ out is so = absurd so
 
 -- ---- two statuses
 
 both_sides : (n : ℕ) (text out more : List ℕ)
-    → StandsForTask text (λ t. IsMadeTold t n Yes out)
-    → StandsForTask text (λ t. IsMadeTold t n No more)
+    → StandsFor IsTaskText text (λ t. IsMadeTold t n Yes out)
+    → StandsFor IsTaskText text (λ t. IsMadeTold t n No more)
     → ⊥
 both_sides n text out more x y =
-    let other = subst (λ t. IsMadeTold t n No more) (tasks.one_task text y.task x.task y.is_text x.is_text) y.is_so in
-    never_both x.task x.is_so.0 other.0 x.is_so.1.is_right other.1.is_right
+    let other = subst (λ t. IsMadeTold t n No more) (tasks.one_task text y.meant x.meant y.is_meant x.is_meant) y.is_so in
+    never_both x.meant x.is_so.0 other.0 x.is_so.1.is_right other.1.is_right
 
-read_or_refused : (text out : List ℕ) (IsSo : Task → Type 0) → StandsForTask text IsSo → IsUnreadable (IsTaskFault text) out → ⊥
-read_or_refused text out IsSo x r = tasks.task_or_fault text x.task r.fault x.is_text r.is_fault
+read_or_refused : (text out : List ℕ) (IsSo : Task → Type 0) → StandsFor IsTaskText text IsSo → IsUnreadable (IsTaskFault text) out → ⊥
+read_or_refused text out IsSo x r = tasks.task_or_fault text x.meant r.fault x.is_meant r.is_fault
 
 pub made_agree : (n : ℕ) (text : List ℕ) (s u : Status) (out more : List ℕ)
     → IsTaskMade n text s out
@@ -129,17 +130,17 @@ on_made n text =
 realized_made : (n : ℕ) (text : List ℕ) (s : Status) (out : List ℕ) → IsTaskAnswered n text s out → IsTaskMade n text s out
 realized_made n text Yes out x =
     let y = x.is_so in record {
-      task = x.task;
-      is_text = x.is_text;
+      meant = x.meant;
+      is_meant = x.is_meant;
       is_so = (y.machine, record { is_right = y.realizes; is_answer = inr y.is_found; is_written = y.is_written });
     }
 realized_made n text No out x =
     let y = x.is_so in record {
-      task = x.task;
-      is_text = x.is_text;
+      meant = x.meant;
+      is_meant = x.is_meant;
       is_so = (y.environment, record { is_right = y.defeats; is_answer = inr y.is_found; is_written = y.is_written });
     }
-realized_made n text Undecided out x = record { task = x.task; is_text = x.is_text; is_so = x.is_so }
+realized_made n text Undecided out x = record { meant = x.meant; is_meant = x.is_meant; is_so = x.is_so }
 realized_made n text Text out x = x
 realized_made n text _ out x = absurd x.is_so
 
@@ -147,7 +148,7 @@ made_realized : (n : ℕ) (text : List ℕ) (s : Status) (out : List ℕ) → s 
     → IsTaskAnswered n text s out
 made_realized n text Yes out other another x = absurd (other refl)
 made_realized n text No out other another x = absurd (another refl)
-made_realized n text Undecided out other another x = record { task = x.task; is_text = x.is_text; is_so = x.is_so }
+made_realized n text Undecided out other another x = record { meant = x.meant; is_meant = x.is_meant; is_so = x.is_so }
 made_realized n text Text out other another x = x
 made_realized n text _ out other another x = absurd x.is_so
 

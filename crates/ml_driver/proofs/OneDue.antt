@@ -27,7 +27,8 @@ use Rattle.ml_refute_check.specs.declared.verdict.Verdict.TheVariants.{Unreadabl
 use Rattle.ml_refute_check.proofs.OneVerdict.{one_verdict, shown_fault}
 use Rattle.ml_gen.specs.declared.family.Family.{Family}
 use Rattle.ml_decide.specs.Measures.{IsFinding, answer_of}
-use Rattle.ml_driver.specs.Bench.{IsBenched, bench_text, gen_text, occurrences_of, status_of}
+use Rattle.ml_driver.specs.Bench.{IsBenched, bench_text, gen_text, status_of}
+use Rattle.ml_spec.specs.Joined.{occurrences}
 use Rattle.ml_driver.specs.declared.command.TheConstants.{GREATEST_LIMIT}
 use Rattle.ml_driver.proofs.AutomatonAnswers.{one_automaton_answer}
 use Rattle.ml_driver.proofs.FamilyProblems.{one_family_problem}
@@ -175,7 +176,7 @@ one_benched f n s t out more x y =
     let other = subst (λ r. IsFinding GREATEST_LIMIT r y.finding) (sym p) y.is_finding in
     let same = one_finding GREATEST_LIMIT x.problem x.finding y.finding x.is_finding other in (
       x.status_is ∙ ap (λ u. status_of (answer_of u)) same ∙ sym y.status_is,
-      x.is_written ∙ ap₂ (λ r u. bench_text f n (occurrences_of r.formula) u) p same ∙ sym y.is_written,
+      x.is_written ∙ ap₂ (λ r u. bench_text f n (occurrences r.formula) u) p same ∙ sym y.is_written,
     )
 
 one_generated : (f : Family) (n : ℕ) (text more : List ℕ) (s t : Status) (out other : List ℕ) → IsAnswer (Gen f n) text s out

@@ -3,13 +3,17 @@
 --   one_path_told == one status is the answer at most
 --   calm_path     == it is no fault, and no want of memory
 --   on_path       == some status is, with some output
-use Rattle.std.proofs.Common.{◌≡◌, ℕ, ◌≤◌, List, refl, sym, ap, ◌∙◌, arith}
+--   path_confirmed == the document behind the lines of a path is confirmed
+use Rattle.std.proofs.Common.{◌≡◌, ℕ, ◌≤◌, List, Some, Result, Ok, Err, IfOk, refl, sym, ap, subst, ◌∙◌, arith}
+use Rattle.ml_path_text.specs.Found.{IsConfirmed as IsFoundConfirmed}
 use Rattle.ml_path_text.specs.Laws.{AreAlike}
 use Rattle.ml_path_text.specs.declared.finding.Finding.{Finding}
 use Rattle.ml_path_text.specs.declared.finding.Finding.TheVariants.{ClosureTooLarge, NoPath, NotAWord, NotTotal, Path, Unreadable}
 use Rattle.ml_path_text.proofs.OneFinding.{one_finding, some_finding}
 use Rattle.ml_driver.specs.Codes.{code_of}
+use Rattle.ml_driver.specs.Confirmed.{IsConfirmed}
 use Rattle.ml_driver.specs.Paths.{IsPathTold, path_told}
+use Rattle.ml_driver.specs.declared.command.Command.TheVariants as command
 use Rattle.ml_driver.specs.declared.status.Status.{Status}
 
 alike_told : (x y : Finding) → AreAlike x y → (path_told x).0 ≡ (path_told y).0
@@ -38,3 +42,32 @@ on_path text =
       told.0,
       (told.1, record { finding = x.0; is_found = x.1; status_is = refl; is_written = refl }),
     )
+
+-- ---- what is confirmed
+
+confirmed_as : (x : Finding) → IsFoundConfirmed x → IsConfirmed (Some command.Path) (path_told x).0 (path_told x).1
+confirmed_as (Path written) (l, document, is, holds) = (l, record { document = document; stands = is; holds = holds })
+confirmed_as NoPath x = tt
+confirmed_as ClosureTooLarge x = tt
+confirmed_as (NotTotal state) x = tt
+confirmed_as (NotAWord state) x = tt
+confirmed_as (Unreadable fault) x = tt
+
+pub path_confirmed : (x : Finding) (s : Status) (out : List ℕ)
+    → s ≡ (path_told x).0
+    → out ≡ (path_told x).1
+    → IsFoundConfirmed x
+    → IsConfirmed (Some command.Path) s out
+path_confirmed x s out status_is written confirmed =
+    subst (λ t. IsConfirmed (Some command.Path) t out) (sym status_is)
+    (subst (IsConfirmed (Some command.Path) (path_told x).0) (sym written) (confirmed_as x confirmed))
+
+-- so it is of what comes of a call
+pub confirmed_if_ok : {X Y : Type 0} (x : Finding) (r : Result X Y) (status : X → Status) (bytes : X → List ℕ)
+    → IfOk r (λ o. status o ≡ (path_told x).0)
+    → IfOk r (λ o. bytes o ≡ (path_told x).1)
+    → IsFoundConfirmed x
+    → IfOk r (λ o. IsConfirmed (Some command.Path) (status o) (bytes o))
+confirmed_if_ok x (Ok o) status bytes is written confirmed =
+    path_confirmed x (status o) (bytes o) is written confirmed
+confirmed_if_ok x (Err e) status bytes is written confirmed = tt

@@ -20,7 +20,8 @@ use Rattle.ml_gen.specs.declared.family.Family.{Family}
 use Rattle.ml_driver.specs.declared.command.Command.{Command}
 use Rattle.ml_driver.specs.declared.command.TheConstants.{GREATEST_LIMIT}
 use Rattle.ml_decide.specs.Measures.{answer_of}
-use Rattle.ml_driver.specs.Bench.{bench_text, gen_text, occurrences_of, status_of}
+use Rattle.ml_driver.specs.Bench.{bench_text, gen_text, status_of}
+use Rattle.ml_spec.specs.Joined.{occurrences}
 use Rattle.ml_driver.proofs.AutomatonAnswers.{on_automaton}
 use Rattle.ml_driver.proofs.FamilyProblems.{family_problem}
 use Rattle.ml_driver.proofs.CheckedGameAnswers.{on_checked_game}
@@ -101,7 +102,7 @@ of_family f n text inside =
     let x = some_finding GREATEST_LIMIT p.0 (omega arith) well in (
       status_of (answer_of x.0),
       (
-        bench_text f n (occurrences_of p.0.formula) x.0,
+        bench_text f n (occurrences p.0.formula) x.0,
         record {
           problem = p.0;
           finding = x.0;

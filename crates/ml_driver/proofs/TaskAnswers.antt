@@ -24,7 +24,8 @@ use Rattle.ml_task.specs.TaskText.{IsTaskFault, IsTaskText}
 use Rattle.ml_task.proofs.OneAnswer.{one_task, some_answer, task_or_fault}
 use Rattle.ml_word_automaton.proofs.BlockGraphs.{one_size}
 use Rattle.ml_driver.specs.Statuses.{IsUnreadable, refused_document}
-use Rattle.ml_driver.specs.Tasks.{IsOpenFor, IsTaskAnswered, IsTold, StandsForTask}
+use Rattle.ml_driver.specs.Tasks.{IsOpenFor, IsTaskAnswered, IsTold}
+use Rattle.ml_driver.specs.Texts.{StandsFor}
 use Rattle.ml_driver.specs.private.Outcomes.{status_of}
 use Rattle.ml_driver.specs.declared.status.Status.{Status}
 use Rattle.ml_driver.specs.declared.status.Status.TheVariants.{Yes, No, Undecided, Text}
@@ -47,9 +48,9 @@ pub told_answered : (n : ℕ) (text : List ℕ) (t : Task) (s : Status) (out : L
     → IsTaskText text t
     → IsTold t n s out
     → IsTaskAnswered n text s out
-told_answered n text t Yes out is so = record { task = t; is_text = is; is_so = so }
-told_answered n text t No out is so = record { task = t; is_text = is; is_so = so }
-told_answered n text t Undecided out is so = record { task = t; is_text = is; is_so = so }
+told_answered n text t Yes out is so = record { meant = t; is_meant = is; is_so = so }
+told_answered n text t No out is so = record { meant = t; is_meant = is; is_so = so }
+told_answered n text t Undecided out is so = record { meant = t; is_meant = is; is_so = so }
 told_answered n text t _ out is so = absurd so
 
 -- ---- one status
@@ -57,7 +58,7 @@ told_answered n text t _ out is so = absurd so
 -- what comes of a text
 data Tells (n : ℕ) (text out : List ℕ) : Status → Type 0 where
   refused : IsUnreadable (IsTaskFault text) out → Tells n text out Text
-  told : (s : Status) → StandsForTask text (λ t. IsTold t n s out) → Tells n text out s
+  told : (s : Status) → StandsFor IsTaskText text (λ t. IsTold t n s out) → Tells n text out s
 
 tells : (n : ℕ) (text : List ℕ) (s : Status) (out : List ℕ) → IsTaskAnswered n text s out → Tells n text out s
 tells n text Text out due = refused due
@@ -89,17 +90,17 @@ one_answer t n No _ out more x y = absurd y
 one_answer t n Undecided _ out more x y = absurd y
 one_answer t n _ u out more x y = absurd x
 
-told_refused : (n : ℕ) (text out more : List ℕ) (s : Status) → StandsForTask text (λ t. IsTold t n s out)
+told_refused : (n : ℕ) (text out more : List ℕ) (s : Status) → StandsFor IsTaskText text (λ t. IsTold t n s out)
     → IsUnreadable (IsTaskFault text) more → ⊥
-told_refused n text out more s x r = task_or_fault text x.task r.fault x.is_text r.is_fault
+told_refused n text out more s x r = task_or_fault text x.meant r.fault x.is_meant r.is_fault
 
 one_way : (n : ℕ) (text out more : List ℕ) (s u : Status) → Tells n text out s → Tells n text more u → s ≡ u
 one_way n text out more s u (refused r) (refused q) = refl
 one_way n text out more s u (refused r) (told v y) = absurd (told_refused n text more out v y r)
 one_way n text out more s u (told v x) (refused r) = absurd (told_refused n text out more v x r)
 one_way n text out more s u (told v x) (told w y) =
-    one_answer x.task n v w out more x.is_so
-    (subst (λ t. IsTold t n w more) (one_task text y.task x.task y.is_text x.is_text) y.is_so)
+    one_answer x.meant n v w out more x.is_so
+    (subst (λ t. IsTold t n w more) (one_task text y.meant x.meant y.is_meant x.is_meant) y.is_so)
 
 pub one_told : (n : ℕ) (text : List ℕ) (s u : Status) (out more : List ℕ) → IsTaskAnswered n text s out
     → IsTaskAnswered n text u more → s ≡ u

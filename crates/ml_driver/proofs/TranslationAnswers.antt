@@ -19,7 +19,8 @@ use Rattle.ml_translate.proofs.WrittenTexts.{written_accepts}
 use Rattle.ml_driver.specs.Laws.{WrittenIsTranslated}
 use Rattle.ml_driver.specs.Run.{IsAnswer}
 use Rattle.ml_driver.specs.Statuses.{refusal_line}
-use Rattle.ml_driver.specs.Translations.{IsRefusedFormula, IsUntranslated, StandsForFormula, has_many_places, is_large, large_line, many_places_line}
+use Rattle.ml_driver.specs.Texts.{StandsFor}
+use Rattle.ml_driver.specs.Translations.{IsRefusedFormula, IsUntranslated, has_many_places, is_large, large_line, many_places_line}
 use Rattle.ml_driver.specs.declared.command.Command.TheVariants.{Automaton}
 use Rattle.ml_driver.specs.declared.status.Status.{Status}
 use Rattle.ml_driver.specs.declared.status.Status.TheVariants.{Yes, Undecided, Text}
@@ -37,17 +38,17 @@ written_or_open f n out more x (is_large large line) = (one_outcome f n).written
 written_or_open f n out more x (has_many_places many line) = (one_outcome f n).written_few out x many
 
 one_made : (n : ℕ) (text out more : List ℕ)
-    → StandsForFormula text (λ f. IsWrittenFor f n out)
-    → StandsForFormula text (λ f. IsUntranslated f n more)
+    → StandsFor (IsParsedAs Ltl) text (λ f. IsWrittenFor f n out)
+    → StandsFor (IsParsedAs Ltl) text (λ f. IsUntranslated f n more)
     → ⊥
 one_made n text out more x y =
-    let same = one_formula text y.formula x.formula y.is_parsed x.is_parsed in
-    written_or_open x.formula n out more x.is_so (subst (λ f. IsUntranslated f n more) same y.is_so)
+    let same = one_formula text y.meant x.meant y.is_meant x.is_meant in
+    written_or_open x.meant n out more x.is_so (subst (λ f. IsUntranslated f n more) same y.is_so)
 
 -- a text isn't read and refused
-read_or_refused : (text out : List ℕ) (IsSo : Formula → Type 0) → StandsForFormula text IsSo → IsRefusedFormula text out → ⊥
+read_or_refused : (text out : List ℕ) (IsSo : Formula → Type 0) → StandsFor (IsParsedAs Ltl) text IsSo → IsRefusedFormula text out → ⊥
 read_or_refused text out IsSo x r =
-    let is = (one_answer Ltl).exclusive text x.formula r.refusal x.is_parsed r.is_refused in
+    let is = (one_answer Ltl).exclusive text x.meant r.refusal x.is_meant r.is_refused in
     let none : Some out ≡ None = r.is_written ∙ ap refusal_line is in
     absurd (cc)
 
@@ -75,11 +76,11 @@ module _ (n : ℕ) (text : List ℕ) where
   of_formula : (f : Formula) → IsParsedAs Ltl text f
       → ((out : List ℕ) × IsWrittenFor f n out) ⊎ (IsLarge f ⊎ HasTooManyPlaces f n)
       → SomeAnswer (Automaton n) text
-  of_formula f is (inl (out, written)) = (Yes, (out, record { formula = f; is_parsed = is; is_so = written }))
+  of_formula f is (inl (out, written)) = (Yes, (out, record { meant = f; is_meant = is; is_so = written }))
   of_formula f is (inr (inl large)) =
-      (Undecided, (large_line, record { formula = f; is_parsed = is; is_so = is_large large refl }))
+      (Undecided, (large_line, record { meant = f; is_meant = is; is_so = is_large large refl }))
   of_formula f is (inr (inr many)) =
-      (Undecided, (many_places_line n, record { formula = f; is_parsed = is; is_so = has_many_places many refl }))
+      (Undecided, (many_places_line n, record { meant = f; is_meant = is; is_so = has_many_places many refl }))
 
   of_text : ((f : Formula) × IsParsedAs Ltl text f)
       ⊎ ((e : ParseRefusal) × (e ≢ refusal.NoMemory) × IsRefusedBy Ltl text e)
@@ -96,4 +97,4 @@ module _ (n : ℕ) (text : List ℕ) where
 pub translated : WrittenIsTranslated
 translated n text out due =
     let x = answer_due (Automaton n) text Yes out yes_kept due in
-    record { formula = x.formula; is_parsed = x.is_parsed; is_so = written_accepts x.formula n out x.is_so }
+    record { meant = x.meant; is_meant = x.is_meant; is_so = written_accepts x.meant n out x.is_so }

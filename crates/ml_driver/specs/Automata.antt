@@ -4,7 +4,6 @@
 -- of its deterministic parity automaton, whose states are the histories that these letters reach; but if they are more than
 -- the limit, that alone is said.
 --
---   StandsForOne text P    == the text stands for an automaton, and P is true of it
 --   IsWrittenFor a n out   == out is the text of the deterministic automaton of a, which has at most n states
 --   passed_line n          == the line for an automaton of which more than n histories are reached
 --   PassesLimit a n out    == a is such an automaton, and out is this line
@@ -13,7 +12,7 @@
 use Rattle.std.specs.Prelude.{ℕ, ◌≡◌, ◌≤◌, List, [], ◌∷◌, length, Option, Some, None, codes}
 use Rattle.ml_lines.specs.Lines.{line_text, number}
 use Rattle.ml_hoa.specs.Automaton.{Automaton}
-use Rattle.ml_hoa.specs.Refusals.{IsReadAs, IsRefusedBy}
+use Rattle.ml_hoa.specs.Refusals.{IsRefusedBy}
 use Rattle.ml_hoa.specs.declared.refusal.HoaRefusal.{HoaRefusal}
 use Rattle.ml_hoa.specs.declared.refusal.HoaRefusal.TheVariants as cause
 use Rattle.ml_determinise.specs.Numbering.{HasMoreThan}
@@ -23,11 +22,6 @@ use Rattle.ml_buchi.specs.WrittenText.{automaton_text}
 use Rattle.ml_driver.specs.Statuses.{refused_at}
 
 -- ---- automata that are made deterministic
-
-pub record StandsForOne (text : List ℕ) (IsSo : Automaton → Type 0) : Type 0 where
-  pub automaton : Automaton
-  pub is_read : IsReadAs text automaton
-  pub is_so : IsSo automaton
 
 pub record IsWrittenFor (a : Automaton) (limit : ℕ) (out : List ℕ) : Type 0 where
   pub deterministic : Deterministic

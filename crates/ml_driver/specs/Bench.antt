@@ -5,26 +5,21 @@
 -- is said by `IsFinding` of `ml_decide`.
 --
 --   IsMeant f n p        == p is the problem of the text of the family f for n
---   occurrences_of f     == how many occurrences the formula f has, by its logic
 --   status_of a          == the status that goes with this answer
 --   gen_text f n         == the family's text for n, as a line
 --   found_lines x        == the lines for the nodes and the positions; where there is no graph there is no game
 --   bench_text f n k x   == the five lines about a formula with k occurrences of which x is found
 --   IsBenched f n s out  == this status and this output are due for `bench f n`
 use Rattle.std.specs.Prelude.{ℕ, ◌≡◌, false, List, [], ◌∷◌, ◌++◌, codes}
-use Rattle.ml_ctl.specs.Formula as ctl
 use Rattle.ml_front.specs.Head.{answer_line}
 use Rattle.ml_front.specs.Logics.{logic_of, some_logic, IsParsedAs}
 use Rattle.ml_front.specs.declared.answer.Answer.{Answer}
 use Rattle.ml_front.specs.declared.answer.Answer.TheVariants.{Satisfiable, Unsatisfiable, Undecided}
-use Rattle.ml_front.specs.declared.problem.AnyFormula.{AnyFormula}
-use Rattle.ml_front.specs.declared.problem.AnyFormula.TheVariants.{Mu, Pdl, Ctl, Ltl, Word}
 use Rattle.ml_front.specs.declared.problem.Problem.{Problem}
 use Rattle.ml_gen.specs.Families.{family_word, formula_text, logic_name}
 use Rattle.ml_gen.specs.declared.family.Family.{Family}
 use Rattle.ml_lines.specs.Lines.{Line, line_text, number, text_of}
-use Rattle.ml_mu.specs.Formula as mu
-use Rattle.ml_pdl.specs.Formula as pdl
+use Rattle.ml_spec.specs.Joined.{occurrences}
 use Rattle.ml_decide.specs.Measures.{IsFinding, answer_of}
 use Rattle.ml_decide.specs.declared.finding.Finding.{Finding}
 use Rattle.ml_decide.specs.declared.finding.Finding.TheVariants.{Decided, GamePassed, ClosurePassed}
@@ -38,13 +33,6 @@ pub record IsMeant (f : Family) (n : ℕ) (p : Problem) : Type 0 where
   pub of_logic : logic_of p.formula ≡ some_logic (logic_name f)
   pub is_plain : p.negated ≡ false
   pub is_parsed : IsParsedAs (formula_text f n) p.formula
-
-abbrev pub occurrences_of : AnyFormula → ℕ
-occurrences_of (Mu f) = mu.occurrences f
-occurrences_of (Pdl f) = pdl.occurrences f
-occurrences_of (Ctl f) = ctl.occurrences f
-occurrences_of (Ltl f) = ctl.occurrences f
-occurrences_of (Word f) = ctl.occurrences f
 
 -- ---- what is written
 
@@ -75,4 +63,4 @@ pub record IsBenched (f : Family) (n : ℕ) (s : Status) (out : List ℕ) : Type
   pub is_meant : IsMeant f n problem
   pub is_finding : IsFinding GREATEST_LIMIT problem finding
   pub status_is : s ≡ status_of (answer_of finding)
-  pub is_written : out ≡ bench_text f n (occurrences_of problem.formula) finding
+  pub is_written : out ≡ bench_text f n (occurrences problem.formula) finding

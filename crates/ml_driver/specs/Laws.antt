@@ -19,7 +19,7 @@
 --   OneCheckDue      == one status is due at most for `check-game`, with one output, but for the vertex that is named with the
 --                       fourth rule
 --   SolutionsAreAccepted == what is due for `solve-game`, by either engine, put behind the text of the game, is accepted by
---                       `check-game`, where both together are no longer than the texts that it reads
+--                       `check-game`
 --   OneQuotientDue   == one status and one output are due at most for `quotient`
 --   QuotientsAreRead == what is written for `quotient` is read as a document of the same problem, with the quotient
 --   WrittenHoldsTheSame == where its logic speaks of the structure, the problem holds at the start that is written exactly
@@ -36,13 +36,29 @@
 --   DecideIsChecked, ValidIsChecked, FindIsChecked, ProveIsChecked == where they are no longer than documents that are read,
 --                       `check-model` answers `holds` of one with a structure, and `check-refutation` answers `accepted` of
 --                       one with a refutation
+--   IsLargeTask text == the text is one of a task, and the word automaton of its formula is too large to be checked with
+--   RealizeIsChecked, MakeIsChecked == so `check-machine` answers `holds` of the document of a machine, and of that of an
+--                       environment; but of this it says that it is too large, if that is so
+--   PathsShowWhatHolds, PathsShowWhatFails == where neither `path` nor `check-model` leaves it open, `path` finds a path exactly
+--                       where `check-model` answers `holds`, if the document has the sense of its path problem, and `fails`,
+--                       if it has the other one
 use Rattle.std.specs.Prelude.{ℕ, ◌≡◌, ◌≢◌, ◌<◌, ◌^◌, ◌⊎◌, ◌↔◌, Bool, true, false, List, [], ◌∷◌, ◌++◌, Option, Some, codes, if◌then◌else◌}
+use Rattle.ml_base.specs.Structure.{Structure}
+use Rattle.ml_blocks.specs.Closures.{HasMoreThan}
 use Rattle.ml_buchi.specs.Deterministic.{IsValuationWord}
 use Rattle.ml_buchi.specs.Valuations.{Leads}
+use Rattle.ml_ctl.specs.Formula.{Formula}
+use Rattle.ml_ctl.specs.Parsing.{IsParsedAs}
+use Rattle.ml_ctl.specs.declared.language.Language.TheVariants.{Ltl}
 use Rattle.ml_determinise.specs.Numbering.{automaton_of}
+use Rattle.ml_hoa.specs.Refusals.{IsReadAs}
+use Rattle.ml_machine_check.specs.Checked as machines
+use Rattle.ml_path_text.specs.Found.{Asks}
+use Rattle.ml_task.specs.TaskText.{IsTaskText}
+use Rattle.ml_word_automaton.specs.WordAutomaton.{start_block}
 use Rattle.ml_gen.specs.FamilyRanges.{is_in_range}
 use Rattle.ml_gen.specs.declared.family.Family.{Family}
-use Rattle.ml_driver.specs.declared.command.Command.TheVariants.{Decide, Valid, Find, Prove, CheckModel, CheckRefutation, Quotient, SolveGame, CheckGame, Determinise, Automaton, Make, Ask, Realize, Gen, Bench}
+use Rattle.ml_driver.specs.declared.command.Command.TheVariants.{Decide, Valid, Find, Prove, CheckModel, CheckRefutation, Quotient, SolveGame, CheckGame, Path, CheckMachine, Determinise, Automaton, Make, Ask, Realize, Gen, Bench}
 use Rattle.ml_driver.specs.declared.command.Command.{Command}
 use Rattle.ml_bisim.specs.Quotient.{class_of}
 use Rattle.ml_model_check.specs.Checked.{IsCheckedAs, IsDocument}
@@ -58,7 +74,7 @@ use Rattle.ml_parity.specs.Game.{size}
 use Rattle.ml_parity.specs.Solution.{winner_at}
 use Rattle.ml_trace.specs.WordAutomata.{IsAcceptedFrom, IsDetAcceptedFrom, IsWordLasso, WordLasso}
 use Rattle.ml_translate.specs.Output.{TextAccepts}
-use Rattle.ml_driver.specs.Automata.{IsWrittenFor, StandsForOne}
+use Rattle.ml_driver.specs.Automata.{IsWrittenFor}
 use Rattle.ml_driver.specs.CheckedGames.{finding_said}
 use Rattle.ml_driver.specs.Games.{IsSolved}
 use Rattle.ml_driver.specs.declared.engine.Engine.{Engine}
@@ -70,8 +86,9 @@ use Rattle.ml_driver.specs.Decision.{IsAnswered, IsProblem, Refuted, Satisfied}
 use Rattle.ml_driver.specs.declared.question.Question.{Question}
 use Rattle.ml_driver.specs.declared.status.Status.{Status}
 use Rattle.ml_driver.specs.Quotients.{IsReduced}
-use Rattle.ml_driver.specs.Run.{IsDue, IsWhole, IsWithin}
-use Rattle.ml_driver.specs.Translations.{StandsForFormula}
+use Rattle.ml_driver.specs.Run.{IsDue, IsWhole}
+use Rattle.ml_driver.specs.Statuses.{undecided_line}
+use Rattle.ml_driver.specs.Texts.{StandsFor}
 use Rattle.ml_driver.specs.Words.{command_of}
 use Rattle.ml_lines.specs.Lines.{Word, line_text}
 
@@ -180,6 +197,48 @@ FindIsChecked = IsCheckedBy Find Yes No
 abbrev pub ProveIsChecked : Type 0
 ProveIsChecked = IsCheckedBy Prove No Yes
 
+-- what `check-machine` answers of the document of a machine or an environment that is right
+abbrev pub IsFoundToWork : List ℕ → Type 0
+IsFoundToWork out = IsDue (Some CheckMachine) out Yes (line_text (codes "holds" ∷ []))
+
+abbrev pub IsLeftUnchecked : List ℕ → Type 0
+IsLeftUnchecked out = IsDue (Some CheckMachine) out Undecided (undecided_line (codes "closure") machines.most_nodes)
+
+abbrev pub IsLargeTask : List ℕ → Type 0
+IsLargeTask text = StandsFor IsTaskText text (λ t. HasMoreThan (start_block t.formula false) machines.most_nodes)
+
+-- of a command that writes a machine with yes, and an environment with no, where its limit fits 32 bits
+abbrev pub IsCheckedToWork : (ℕ → Command) → Type 0
+IsCheckedToWork command = (n : ℕ) (text out : List ℕ) → n < 2 ^ 32 → IsWhole out
+    → (IsDue (Some (command n)) text Yes out → IsFoundToWork out)
+    × (IsDue (Some (command n)) text No out → ¬ (IsLargeTask text) → IsFoundToWork out)
+    × (IsDue (Some (command n)) text No out → IsLargeTask text → IsLeftUnchecked out)
+
+abbrev pub RealizeIsChecked : Type 0
+RealizeIsChecked = IsCheckedToWork Realize
+
+abbrev pub MakeIsChecked : Type 0
+MakeIsChecked = IsCheckedToWork Make
+
+-- where the sense of the document and that of its path problem are so, a path is found exactly where the check has this status
+abbrev pub IsFoundBeside : (Bool → Bool → Type 0) → Status → Type 0
+IsFoundBeside AreSo found =
+    (text : List ℕ) (p : Problem) (m : Structure) (start : ℕ) (f : Formula) (negated : Bool)
+    (s t : Status) (out line : List ℕ)
+    → Asks text p m start f negated
+    → AreSo p.negated negated
+    → IsDue (Some Path) text s out
+    → IsDue (Some CheckModel) text t line
+    → s ≢ Undecided
+    → t ≢ Undecided
+    → (s ≡ Yes) ↔ (t ≡ found)
+
+abbrev pub PathsShowWhatHolds : Type 0
+PathsShowWhatHolds = IsFoundBeside (λ sense asked. sense ≡ asked) Yes
+
+abbrev pub PathsShowWhatFails : Type 0
+PathsShowWhatFails = IsFoundBeside (λ sense asked. sense ≢ asked) No
+
 -- whichever engines solve the game of a text, it is one game with the same winners
 abbrev pub SameWinners : Type 0
 SameWinners = (d e : Engine) (text out more : List ℕ) (x : IsSolved d text out) (y : IsSolved e text more)
@@ -207,9 +266,7 @@ abbrev pub IsFoundRight : List ℕ → Type 0
 IsFoundRight text = IsDue (Some CheckGame) text Yes (line_text (codes "accepted" ∷ []))
 
 abbrev pub SolutionsAreAccepted : Type 0
-SolutionsAreAccepted = (e : Engine) (text out : List ℕ) → IsDue (Some (SolveGame e)) text Yes out
-    → IsWithin CheckGame (text ++ out)
-    → IsFoundRight (text ++ out)
+SolutionsAreAccepted = (e : Engine) (text out : List ℕ) → IsDue (Some (SolveGame e)) text Yes out → IsFoundRight (text ++ out)
 
 abbrev pub OneQuotientDue : Type 0
 OneQuotientDue = (text : List ℕ) (s t : Status) (out more : List ℕ)
@@ -249,13 +306,13 @@ OneAutomatonWritten = (n m : ℕ) (text out more : List ℕ)
 
 -- from its state 0, with the moves that are written
 abbrev pub WrittenAcceptsTheSame : Type 0
-WrittenAcceptsTheSame = (n : ℕ) (text out : List ℕ) (x : StandsForOne text (λ a. IsWrittenFor a n out)) (w : WordLasso ℕ)
+WrittenAcceptsTheSame = (n : ℕ) (text out : List ℕ) (x : StandsFor IsReadAs text (λ a. IsWrittenFor a n out)) (w : WordLasso ℕ)
     → IsWordLasso w
-    → IsValuationWord x.automaton w
-    → IsAcceptedFrom (Leads x.automaton) x.automaton.start w
+    → IsValuationWord x.meant w
+    → IsAcceptedFrom (Leads x.meant) x.meant.start w
     ↔ IsDetAcceptedFrom (automaton_of x.is_so.deterministic.moves) 0 w
 
 abbrev pub WrittenIsTranslated : Type 0
 WrittenIsTranslated = (n : ℕ) (text out : List ℕ)
     → IsDue (Some (Automaton n)) text Yes out
-    → StandsForFormula text (λ f. TextAccepts f out)
+    → StandsFor (IsParsedAs Ltl) text (λ f. TextAccepts f out)

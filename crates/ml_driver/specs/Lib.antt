@@ -4,6 +4,8 @@ pub mod Codes
 pub mod Words
 -- the exit statuses
 pub mod Statuses
+-- what texts stand for
+pub mod Texts
 -- documents with a structure made smaller
 pub mod Quotients
 -- parity games that are solved
@@ -28,6 +30,8 @@ pub mod Asked
 pub mod Decision
 -- what is written of the formulas of families
 pub mod Bench
+-- documents in outputs that are confirmed
+pub mod Confirmed
 -- what a call of `run` answers and leaves behind
 pub mod Run
 -- what private contracts cite

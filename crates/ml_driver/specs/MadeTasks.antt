@@ -1,8 +1,8 @@
 -- What `make` answers of the text of a task.
 --
 -- Yes comes with the document of a machine that realizes the task, and no with that of an environment that defeats it: either
--- the check of machines says that it holds, or it is found in the game of the task. Without one, that the automaton or the
--- game is too large is said as by `realize`.
+-- the check of machines says that it holds, and a document has room for its states, or it is found in the game of the task.
+-- Without one, that the automaton or the game is too large is said as by `realize`.
 --
 --   IsMadeOf t n r out   == out is the document of r, which is right for the task t, and an answer to t with the limit n
 --   IsMadeTold t n s out == this status and this output are due for the task t
@@ -16,9 +16,10 @@ use Rattle.ml_synthesis.specs.Machines.{EnvironmentTable, MachineTable}
 use Rattle.ml_synthesis.specs.declared.outcome.Outcome.{Outcome}
 use Rattle.ml_synthesis.specs.declared.outcome.Outcome.TheVariants.{Made, Defeated}
 use Rattle.ml_task.specs.Task.{Task}
-use Rattle.ml_task.specs.TaskText.{IsTaskFault}
+use Rattle.ml_task.specs.TaskText.{IsTaskFault, IsTaskText}
 use Rattle.ml_driver.specs.Statuses.{IsUnreadable}
-use Rattle.ml_driver.specs.Tasks.{IsLeftOpen, StandsForTask}
+use Rattle.ml_driver.specs.Tasks.{IsLeftOpen}
+use Rattle.ml_driver.specs.Texts.{StandsFor}
 use Rattle.ml_driver.specs.declared.status.Status.{Status}
 use Rattle.ml_driver.specs.declared.status.Status.TheVariants.{Yes, No, Undecided, Text}
 
@@ -35,4 +36,4 @@ IsMadeTold t limit _ out = ⊥
 
 abbrev pub IsTaskMade : ℕ → List ℕ → Status → List ℕ → Type 0
 IsTaskMade limit text Text out = IsUnreadable (IsTaskFault text) out
-IsTaskMade limit text status out = StandsForTask text (λ t. IsMadeTold t limit status out)
+IsTaskMade limit text status out = StandsFor IsTaskText text (λ t. IsMadeTold t limit status out)

@@ -27,6 +27,8 @@ use Rattle.std.specs.Prelude.{ℕ, ◌≡◌, ◌+◌, ◌≤◌, ◌⊎◌, Boo
 use Rattle.std.specs.Io.KnownBytes.{IsAtEnd, append_known, prepend_known}
 use Rattle.ml_base.specs.Faults.{Rose}
 use Rattle.ml_base.specs.Whole.{AppendsPart, Gives}
+use Rattle.ml_ctl.specs.Parsing.{IsParsedAs}
+use Rattle.ml_ctl.specs.declared.language.Language.TheVariants.{Ltl}
 use Rattle.ml_front.specs.declared.logic.Logic.{Logic}
 use Rattle.ml_model_check.specs.Checked.{IsCheckedAs}
 use Rattle.ml_model_check.specs.declared.checked.Checked.{Checked}
@@ -43,10 +45,11 @@ use Rattle.ml_decide.specs.declared.way.Way.TheVariants.{WholeGame, Search}
 use Rattle.ml_driver.specs.declared.status.Status.{Status}
 use Rattle.ml_driver.specs.declared.status.Status.TheVariants.{Yes, Undecided, Text, ReadFault, WriteFault, NoMemory}
 use Rattle.ml_driver.specs.Asked.{IsAsked}
-use Rattle.ml_driver.specs.Automata.{IsRefusedAutomaton, IsWrittenFor, PassesLimit, StandsForOne}
+use Rattle.ml_driver.specs.Automata.{IsRefusedAutomaton, IsWrittenFor, PassesLimit}
 use Rattle.ml_driver.specs.Bench.{IsBenched, gen_text}
 use Rattle.ml_driver.specs.CheckedGames.{IsGameChecked}
 use Rattle.ml_driver.specs.CheckedMachines.{IsMachineTold}
+use Rattle.ml_driver.specs.Confirmed.{IsConfirmed}
 use Rattle.ml_driver.specs.Decision.{IsAnswered}
 use Rattle.ml_driver.specs.Games.{IsSolved, IsRefusedGame}
 use Rattle.ml_driver.specs.MadeTasks.{IsTaskMade}
@@ -54,7 +57,9 @@ use Rattle.ml_driver.specs.Paths.{IsPathTold}
 use Rattle.ml_driver.specs.Quotients.{IsReduced}
 use Rattle.ml_driver.specs.Statuses.{IsSaid, IsUnreadable, length_refused, longest_input, model_said, refutation_said, words_refused}
 use Rattle.ml_driver.specs.Tasks.{IsTaskAnswered}
-use Rattle.ml_driver.specs.Translations.{IsRefusedFormula, IsUntranslated, StandsForFormula}
+use Rattle.ml_driver.specs.Texts.{StandsFor}
+use Rattle.ml_driver.specs.Translations.{IsRefusedFormula, IsUntranslated}
+use Rattle.ml_hoa.specs.Refusals.{IsReadAs as IsAutomatonText}
 use Rattle.ml_translate.specs.Output as translation
 
 -- ---- what is answered
@@ -87,11 +92,11 @@ IsAnswer Quotient text Text out = IsUnreadable (λ fault. IsCheckedAs text (chec
 IsAnswer (SolveGame e) text Yes out = IsSolved e text out
 IsAnswer (SolveGame e) text Text out = IsRefusedGame text out
 IsAnswer CheckGame text s out = IsGameChecked text s out
-IsAnswer (Determinise n) text Yes out = StandsForOne text (λ a. IsWrittenFor a n out)
-IsAnswer (Determinise n) text Undecided out = StandsForOne text (λ a. PassesLimit a n out)
+IsAnswer (Determinise n) text Yes out = StandsFor IsAutomatonText text (λ a. IsWrittenFor a n out)
+IsAnswer (Determinise n) text Undecided out = StandsFor IsAutomatonText text (λ a. PassesLimit a n out)
 IsAnswer (Determinise n) text Text out = IsRefusedAutomaton text out
-IsAnswer (Automaton n) text Yes out = StandsForFormula text (λ f. translation.IsWrittenFor f n out)
-IsAnswer (Automaton n) text Undecided out = StandsForFormula text (λ f. IsUntranslated f n out)
+IsAnswer (Automaton n) text Yes out = StandsFor (IsParsedAs Ltl) text (λ f. translation.IsWrittenFor f n out)
+IsAnswer (Automaton n) text Undecided out = StandsFor (IsParsedAs Ltl) text (λ f. IsUntranslated f n out)
 IsAnswer (Automaton n) text Text out = IsRefusedFormula text out
 IsAnswer Path text s out = IsPathTold text s out
 IsAnswer CheckMachine text s out = IsMachineTold text s out
@@ -149,6 +154,7 @@ pub record Answered (c : Option Command) (w : World) (status : Status) : Type 0 
   pub output : List ℕ
   pub was_read : WasGiven (input_limit c) w.left_before w.left_after text
   pub is_due : IsDue c text status output
+  pub is_confirmed : IsConfirmed c status output
   pub is_whole : IsWhole output
   pub was_taken : w.taken_after ≡ append_known w.taken_before output
   pub is_calm : IsCalm w
@@ -168,6 +174,7 @@ pub record FailedToWrite (c : Option Command) (w : World) : Type 0 where
   pub output : List ℕ
   pub was_read : WasGiven (input_limit c) w.left_before w.left_after text
   pub is_due : IsDue c text status output
+  pub is_confirmed : IsConfirmed c status output
   pub is_whole : IsWhole output
   pub part_taken : AppendsPart w.taken_before w.taken_after output
   pub source_is_calm : w.source_faults_after ≡ w.source_faults_before

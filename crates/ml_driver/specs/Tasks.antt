@@ -3,7 +3,6 @@
 -- Yes comes with the document of a machine that realizes the task, and no with that of an environment that defeats it. Both
 -- are found in the game of the task; but if its automaton or the game is too large, that alone is said.
 --
---   StandsForTask text P   == the text is one of a task, and P is true of this
 --   IsRealized t n out     == out is the document of a machine that realizes t, found in a game of at most n positions
 --   IsDefeated t n out     == out is the document of an environment that defeats t, found in such a game
 --   IsOpenFor t n c        == t stays undecided for the cause c: too large an automaton, or else a game past the limit n
@@ -22,15 +21,9 @@ use Rattle.ml_synthesis.specs.declared.outcome.Outcome.TheVariants.{Made, Defeat
 use Rattle.ml_task.specs.Task.{Task}
 use Rattle.ml_task.specs.TaskText.{IsTaskFault, IsTaskText}
 use Rattle.ml_driver.specs.Statuses.{IsUnreadable}
+use Rattle.ml_driver.specs.Texts.{StandsFor}
 use Rattle.ml_driver.specs.declared.status.Status.{Status}
 use Rattle.ml_driver.specs.declared.status.Status.TheVariants.{Yes, No, Undecided, Text}
-
-pub record StandsForTask (text : List ℕ) (IsSo : Task → Type 0) : Type 0 where
-  pub task : Task
-  pub is_text : IsTaskText text task
-  pub is_so : IsSo task
-
--- ---- answers
 
 pub record IsRealized (t : Task) (limit : ℕ) (out : List ℕ) : Type 0 where
   pub machine : MachineTable
@@ -59,8 +52,6 @@ IsTold t limit No out = IsDefeated t limit out
 IsTold t limit Undecided out = IsLeftOpen t limit out
 IsTold t limit _ out = ⊥
 
--- ---- the answer
-
 abbrev pub IsTaskAnswered : ℕ → List ℕ → Status → List ℕ → Type 0
 IsTaskAnswered limit text Text out = IsUnreadable (IsTaskFault text) out
-IsTaskAnswered limit text status out = StandsForTask text (λ t. IsTold t limit status out)
+IsTaskAnswered limit text status out = StandsFor IsTaskText text (λ t. IsTold t limit status out)

@@ -3,7 +3,6 @@
 -- What is written is the text of a Büchi automaton that accepts exactly the words that satisfy the formula; but if the
 -- formula's word automaton has too many nodes, or has more places than the limit, that alone is said.
 --
---   StandsForFormula text P  == the text stands for a formula of LTL, and P is true of it
 --   large_line               == the line for a formula whose word automaton has too many nodes
 --   many_places_line n       == the line for one whose word automaton has more than n places
 --   IsUntranslated f n out   == f is such a formula, and out is its line
@@ -11,15 +10,10 @@
 use Rattle.std.specs.Prelude.{ℕ, ◌≡◌, List, Some, codes}
 use Rattle.ml_base.specs.declared.parse_refusal.ParseRefusal.{ParseRefusal}
 use Rattle.ml_ctl.specs.Formula.{Formula}
-use Rattle.ml_ctl.specs.Parsing.{IsParsedAs, IsRefusedBy}
+use Rattle.ml_ctl.specs.Parsing.{IsRefusedBy}
 use Rattle.ml_ctl.specs.declared.language.Language.TheVariants.{Ltl}
 use Rattle.ml_translate.specs.Translation.{HasTooManyPlaces, IsLarge, most_nodes}
 use Rattle.ml_driver.specs.Statuses.{refusal_line, undecided_line}
-
-pub record StandsForFormula (text : List ℕ) (IsSo : Formula → Type 0) : Type 0 where
-  pub formula : Formula
-  pub is_parsed : IsParsedAs Ltl text formula
-  pub is_so : IsSo formula
 
 abbrev pub large_line : List ℕ
 large_line = undecided_line (codes "closure") most_nodes

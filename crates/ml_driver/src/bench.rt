@@ -8,9 +8,10 @@ ghost use Rattle.ml_gen.specs.Families.{family_word, formula_text, logic_name};
 ghost use Rattle.ml_gen.specs.FamilyRanges.{is_in_range};
 ghost use Rattle.ml_lines.specs.Lines.{line_text, number};
 ghost use Rattle.ml_driver.specs.Bench as measures;
-ghost use Rattle.ml_driver.specs.Bench.{IsMeant, bench_text, occurrences_of};
+ghost use Rattle.ml_driver.specs.Bench.{IsMeant, bench_text};
 ghost use Rattle.ml_driver.specs.Run.{IsAnswer};
 ghost use Rattle.ml_driver.specs.private.Findings.{nodes_line, positions_line};
+ghost use Rattle.ml_spec.specs.Joined as joined;
 
 use crate::command::GREATEST_LIMIT;
 use crate::output::Output;
@@ -107,7 +108,7 @@ fn logic_for(family: Family) -> Logic
 }
 
 fn occurrences(formula: &AnyFormula) -> u32
-    ensures { result ≡ occurrences_of formula.now }
+    ensures { result ≡ joined.occurrences formula.now }
 {
     match formula {
         AnyFormula::Mu(formula) => ml_mu::occurrences(formula),

@@ -1,7 +1,8 @@
 // Machines and environments checked from their documents.
-ghost use Rattle.std.specs.Prelude.{◌≡◌, [], ◌∷◌, ◌++◌, IfOk, codes};
+ghost use Rattle.std.specs.Prelude.{◌≡◌, [], ◌∷◌, ◌++◌, IfOk, Some, codes};
 ghost use Rattle.ml_lines.specs.Lines.{line_text};
 ghost use Rattle.ml_driver.specs.CheckedMachines.{machine_told};
+ghost use Rattle.ml_driver.specs.Confirmed.{IsConfirmed};
 ghost use Rattle.ml_driver.specs.Run.{IsAnswer};
 
 use crate::check::refused_document;
@@ -14,7 +15,8 @@ use std::alloc::Global;
 
 // the answer to `check-machine` on a document
 pub(crate) fn check_machine(alloc: Global, text: &[u8]) -> Result<Output, NoMemory>
-    ensures { IfOk result (λ output. IsAnswer Command.CheckMachine text.now output.status output.bytes.items) }
+    ensures answer { IfOk result (λ output. IsAnswer Command.CheckMachine text.now output.status output.bytes.items) }
+    ensures confirmed { IfOk result (λ output. IsConfirmed (Some Command.CheckMachine) output.status output.bytes.items) }
 {
     let finding = check_document(alloc, text)?;
     machine_told(alloc, finding)

@@ -1,5 +1,6 @@
 // Paths of documents.
-ghost use Rattle.std.specs.Prelude.{◌≡◌, IfOk};
+ghost use Rattle.std.specs.Prelude.{◌≡◌, IfOk, Some};
+ghost use Rattle.ml_driver.specs.Confirmed.{IsConfirmed};
 ghost use Rattle.ml_driver.specs.Paths.{path_told};
 ghost use Rattle.ml_driver.specs.Run.{IsAnswer};
 
@@ -13,7 +14,8 @@ use std::alloc::Global;
 
 // the answer to `path` on a document
 pub(crate) fn find_path(alloc: Global, text: &[u8]) -> Result<Output, NoMemory>
-    ensures { IfOk result (λ output. IsAnswer Command.Path text.now output.status output.bytes.items) }
+    ensures answer { IfOk result (λ output. IsAnswer Command.Path text.now output.status output.bytes.items) }
+    ensures confirmed { IfOk result (λ output. IsConfirmed (Some Command.Path) output.status output.bytes.items) }
 {
     let finding = path_of(alloc, text)?;
     path_told(alloc, finding)

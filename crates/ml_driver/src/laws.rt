@@ -1,16 +1,18 @@
 // What holds of what is due by its definition alone: the functions do nothing, their contracts are the theorems.
 ghost use Rattle.std.specs.Prelude.{◌≡◌, ◌+◌, ◌^◌};
+ghost use Rattle.ml_machine_check.specs.Checked as machines;
+ghost use Rattle.ml_paths.specs.Paths as paths;
 ghost use Rattle.ml_realize.specs.TaskGame.{most_nodes};
 ghost use Rattle.ml_translate.specs.Translation as translation;
 ghost use Rattle.ml_task.specs.declared.limits.TheConstants.{LONGEST_TASK_TEXT};
 ghost use Rattle.ml_driver.specs.declared.command.TheConstants.{DEFAULT_LIMIT, GREATEST_LIMIT, LONGEST_DOCUMENT, LONGEST_NUMBER, LONGEST_TEXT};
-ghost use Rattle.ml_driver.specs.Laws.{AnswersAreExact, DecideIsChecked, DecidedAreChecked, FindIsChecked, FindsAsDecided, MakesAsRealized, OneAutomatonDue};
+ghost use Rattle.ml_driver.specs.Laws.{AnswersAreExact, DecideIsChecked, DecidedAreChecked, FindIsChecked, FindsAsDecided, MakeIsChecked, MakesAsRealized, OneAutomatonDue};
 ghost use Rattle.ml_driver.specs.Laws.{OneAutomatonWritten, OneCheckDue, OneDue, OneMeasure, OneQuotientDue, OneSolutionDue, OneUnlessOpen, ProveIsChecked, ProvesAsDecided};
-ghost use Rattle.ml_driver.specs.Laws.{QuotientsAreCheckedAlike, QuotientsAreRead, RefutedAreAccepted, SameWinners, SolutionsAreAccepted, SomeDue, SomeDueForWords};
+ghost use Rattle.ml_driver.specs.Laws.{PathsShowWhatFails, PathsShowWhatHolds, QuotientsAreCheckedAlike, QuotientsAreRead, RealizeIsChecked, RefutedAreAccepted, SameWinners, SolutionsAreAccepted, SomeDue, SomeDueForWords};
 ghost use Rattle.ml_driver.specs.Laws.{ValidIsChecked, WrittenAcceptsTheSame, WrittenHoldsTheSame, WrittenIsTranslated};
 
-/// For each command but `find` and `prove`, for words that are none, and for each input exactly one status is due: some
-/// status with some output, and no other status. For `find` and `prove` some status is due too, and two that are due are the
+/// For each command but `find`, `prove`, `make` and `ask`, for words that are none, and for each input exactly one status is
+/// due: some status with some output, and no other status. For these four some status is due too, and two that are due are the
 /// same, or one of them is `Undecided`. Of the limit of a command only this is asked, that it fits 32 bits, as that of each
 /// `Command` does; and of the number for which a formula is measured, that it is of its family's range. So some status is
 /// due for each list of words and each input. For `gen` and `bench` one output is due.
@@ -49,15 +51,34 @@ pub fn decided_are_checked()
     ensures proved { ProveIsChecked }
 {}
 
+/// The documents that are due for `realize` and `make` are right, so where they are no longer than the documents that are read,
+/// `check-machine` answers `holds`. For one with a machine this is always so. For one with an environment it is so unless the
+/// word automaton of the task's formula has more nodes than `check-machine` takes, and then it says so. Of the limit only this is
+/// asked, that it fits 32 bits.
+pub fn made_are_checked()
+    ensures realized { RealizeIsChecked }
+    ensures made { MakeIsChecked }
+{}
+
+/// Where neither leaves it open, `path` finds a path of a document exactly where `check-model` answers `holds`, if the document
+/// has the sense of its path problem: so for LTL, on structures and on words, for `E f` in the plain sense, and for `A f` in the
+/// negated one. It finds one exactly where `check-model` answers `fails`, if the document has the other sense.
+pub fn paths_beside_checking()
+    ensures holds { PathsShowWhatHolds }
+    ensures fails { PathsShowWhatFails }
+{}
+
 /// The text of a formula has at most 1,048,576 bytes, that of a task 2,097,152, a document at most 2^63 - 1. A game may have
 /// 50,000 positions, and a deterministic automaton as many states, where the words don't say, and 200,000 at most; a number
-/// has at most six digits. The word automaton of a task is too large with more than 4,096 nodes, that of a formula for
-/// `automaton` with more than 65,536.
+/// has at most six digits. The word automaton of a task is too large with more than 4,096 nodes, one for `automaton`, `path`
+/// and `check-machine` with more than 65,536.
 pub fn limits()
     ensures text { LONGEST_TEXT ≡ 1048576 }
     ensures task { LONGEST_TASK_TEXT ≡ 2097152 }
     ensures automaton { most_nodes ≡ 4096 }
     ensures translated { translation.most_nodes ≡ 65536 }
+    ensures paths { paths.most_nodes ≡ 65536 }
+    ensures machines { machines.most_nodes ≡ 65536 }
     ensures document { LONGEST_DOCUMENT + 1 ≡ 2 ^ 63 }
     ensures usual { DEFAULT_LIMIT ≡ 50000 }
     ensures greatest { GREATEST_LIMIT ≡ 200000 }
@@ -81,7 +102,7 @@ pub fn one_check_of_a_game()
 {}
 
 /// The solution that is due for `solve-game`, by either engine, put behind the text of the game, is one that `check-game`
-/// accepts, where both together are no longer than the texts that it reads.
+/// accepts: both together are never longer than the texts that it reads.
 pub fn solutions_are_accepted()
     ensures { SolutionsAreAccepted }
 {}

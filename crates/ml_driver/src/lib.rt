@@ -8,10 +8,10 @@
 // `specs/CheckedGames.antt`, what `determinise` answers in `specs/Automata.antt`, what `automaton` answers in
 // `specs/Translations.antt`, what `path` answers in `specs/Paths.antt`, what `check-machine` answers in
 // `specs/CheckedMachines.antt`, what `realize` answers in `specs/Tasks.antt`, what `ask` answers in
-// `specs/Asked.antt`, and what `make` answers in
-// `specs/MadeTasks.antt`. `Status::code` is the number with which the
-// program ends. `laws` says that some status is due for all words and each input, and one alone but for `find` and `prove`;
-// that answers are exact; and that what is written is found to be right.
+// `specs/Asked.antt`, and what `make` answers in `specs/MadeTasks.antt`. Which documents in outputs are confirmed stands in
+// `specs/Confirmed.antt`. `Status::code` is the number with which the program ends. `laws` says that some status is due for all
+// words and each input, and one alone but for `find`, `prove`, `make` and `ask`; that answers are exact; and that what is
+// written is found to be right.
 //
 // Below stand all crates that it calls; above stands only the program `mlsolver`.
 #![tactic(auto)]

@@ -1,7 +1,8 @@
 // The top call.
-ghost use Rattle.std.specs.Prelude.{◌≡◌, map, IfOk};
+ghost use Rattle.std.specs.Prelude.{◌≡◌, map, IfOk, Some};
 ghost use Rattle.std.specs.String.{string_bytes};
 ghost use Rattle.ml_driver.specs.Words as command_line;
+ghost use Rattle.ml_driver.specs.Confirmed.{IsConfirmed};
 ghost use Rattle.ml_driver.specs.Run as answers;
 ghost use Rattle.ml_driver.specs.Run.{Ended, IsAnswer, IsWhole, Wrote};
 ghost use Rattle.ml_driver.specs.private.UsualNumbers.{HasUsualNumbers};
@@ -40,7 +41,7 @@ use std::alloc::Global;
 /// | `decide`, `find` | a structure with a state at which the formula holds | it holds nowhere, with a refutation that is accepted |
 /// | `valid`, `prove` | its negation holds nowhere, with a refutation | a structure with a state at which the negation holds |
 /// | `check-model` | the document's problem holds at the start of its structure | it doesn't |
-/// | `path` | a path from the start of the document's structure that shows its problem | there is none |
+/// | `path` | a path from the start of the document's structure that shows its problem; for `A f` one that breaks f | there is none |
 /// | `check-refutation` | the document's refutation is accepted | it isn't |
 /// | `check-game` | the solution behind the game is right | it isn't |
 /// | `realize`, `make` | a machine that realizes the task | an environment that defeats it |
@@ -54,6 +55,9 @@ use std::alloc::Global;
 /// | `automaton` | the text of an automaton that accepts exactly the words that satisfy the formula | never |
 /// | `gen` | the text of the family's formula | never |
 ///
+/// Behind the two lines of `path`, and behind the line `fails` of `check-machine`, stands a document of LTL on words that
+/// `check-model` answers with `holds`: the word of the labels along the path, and the word that shows it.
+///
 /// `Undecided` comes
 /// - of `decide`, `valid` and `bench` exactly where the closure of the problem has too many nodes, or the decision game passes
 ///   the limit; of `find` and `prove` only there;
@@ -63,7 +67,8 @@ use std::alloc::Global;
 /// - of `determinise` exactly where the deterministic automaton has more states than the limit;
 /// - of `automaton` exactly where the graph of the word automaton has too many nodes, or the word automaton more places than
 ///   the limit;
-/// - of `ask` only where some answer stays open, which comes only where the decision game of the joined problem passes the limit;
+/// - of `ask` only where some answer stays open, which comes only where the closure of the joined problem has too many nodes, or
+///   its decision game passes the limit;
 /// - of `realize` exactly where the graph of the word automaton has too many nodes, or the game of the task passes the limit;
 ///   of `make` only there.
 ///
@@ -114,7 +119,8 @@ pub fn run<S: Source, K: Sink>(
 // the answer to a command on a text
 fn outcome(alloc: Global, command: Command, text: &[u8]) -> Result<Output, NoMemory>
     requires { HasUsualNumbers command }
-    ensures { IfOk result (λ output. IsAnswer command text.now output.status output.bytes.items) }
+    ensures answer { IfOk result (λ output. IsAnswer command text.now output.status output.bytes.items) }
+    ensures confirmed { IfOk result (λ output. IsConfirmed (Some command) output.status output.bytes.items) }
 {
     match command {
         Command::Decide { logic, limit } => {

@@ -2,6 +2,7 @@
 --
 --   right_fits      == a right outcome has the inputs and outputs of its task
 --   right_holds     == so what is written of it is found right
+--   made_small      == for a machine that is found in the game of a task the automaton isn't too large
 --   made_holds, defeated_holds == so what is found in the game of a task
 use Rattle.std.proofs.Common.{ℕ, ◌≤◌, true, arith}
 use Rattle.ml_graph.specs.Graph.{size}
@@ -19,7 +20,7 @@ use Rattle.ml_task.specs.Task.{Task}
 use Rattle.ml_machine_text.specs.Laws.{DefeatedHolds, MadeHolds, RightHolds}
 use Rattle.ml_machine_text.proofs.FewStates.{found_few}
 
-right_fits : (t : Task) (r : Outcome) → IsRight t r → Fits t r
+pub right_fits : (t : Task) (r : Outcome) → IsRight t r → Fits t r
 right_fits t (outcome.Made m) right = right.fits
 right_fits t (outcome.Defeated e) right = right.fits
 
@@ -28,7 +29,7 @@ right_holds t r is well right few small =
     (t, r, written_reads_back t r is well (right_fits t r right) few, (small, right))
 
 -- the automaton of the game is that of the check, and has fewer nodes
-made_small : (t : Task) (limit : ℕ) (m : MachineTable)
+pub made_small : (t : Task) (limit : ℕ) (m : MachineTable)
     → IsFound t limit (outcome.Made m)
     → ¬ (IsLarge t (outcome.Made m))
 made_small t limit m found =

@@ -9,7 +9,8 @@ use Rattle.std.specs.List.{range_with_len}
 use Rattle.std.proofs.lemmas.List.{ext_get_or, get_or-map, length-map, map-append}
 use Rattle.std.proofs.lemmas.List.FromFn.{get_or-map-range_with_len, length-map-range_with_len}
 use Rattle.ml_base.specs.Structure.{Structure}
-use Rattle.ml_paths.specs.Runs.{IsRunOf, pairs_at, pairs_of, word_at}
+use Rattle.ml_paths.specs.Runs.{IsRunOf, word_at}
+use Rattle.ml_paths.specs.private.Built.{pairs_at, pairs_of}
 use Rattle.ml_paths.proofs.Gathered.{pairs_more}
 use Rattle.ml_realize.specs.Realizing.{word_of}
 use Rattle.ml_realize.proofs.PresentNames.{members_append}

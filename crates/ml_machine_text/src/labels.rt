@@ -1,6 +1,7 @@
 // The structure of a word of valuations.
 ghost use Rattle.std.specs.Prelude.{◌≡◌, ◌++◌, ◌<◌, ◌≤◌, ◌^◌, IfOk, OnOk, length};
-ghost use Rattle.ml_paths.specs.Runs.{IsRunOf, pairs_at, pairs_of};
+ghost use Rattle.ml_paths.specs.Runs.{IsRunOf};
+ghost use Rattle.ml_paths.specs.private.Built.{pairs_at, pairs_of};
 ghost use Rattle.ml_realize.specs.Realizing.{word_of};
 ghost use Rattle.ml_task.specs.NameSets.{members};
 ghost use Rattle.ml_trace.specs.WordAutomata.{IsWordLasso};
@@ -73,7 +74,7 @@ pub(crate) fn structure_of(alloc: Global, task: &Task, word: &Run) -> Result<Str
     ensures { IfOk result (IsRunOf (word_of (task.now.inputs.items ++ task.now.outputs.items) word.now)) }
 {
     let valuations = word.letters();
-    // no memory holds more places than a number counts
+    // a word of more places than a number counts is want of memory
     let Ok(places) = u32::try_from(valuations.len()) else {
         return Err(NoMemory);
     };

@@ -1,7 +1,8 @@
-// Whether machines and environments have the inputs and outputs of a task.
-ghost use Rattle.std.specs.Prelude.{◌≡◌, ◌^◌, ◌≤◌, IsTrue, length};
+// Whether machines and environments have the inputs and outputs of a task, and no more states than a document may have.
+ghost use Rattle.std.specs.Prelude.{◌≡◌, ◌^◌, ◌<◌, ◌≤◌, IsTrue, length};
 ghost use Rattle.ml_machine_check.specs.Checked.{Fits};
 ghost use Rattle.ml_make.specs.private.Fitting.{NextsFit, StepsFit};
+ghost use Rattle.ml_realize_text.specs.ReadText.{states_of};
 ghost use Rattle.ml_synthesis.specs.Machines.{EnvironmentFits, MachineFits};
 ghost use Rattle.ml_task.specs.Task.{task_of};
 
@@ -75,4 +76,17 @@ pub(crate) fn fits(task: &Task, outcome: &Outcome) -> bool
         Outcome::Made(machine) => machine_fits(machine, inputs, outputs),
         Outcome::Defeated(environment) => environment_fits(environment, inputs, outputs),
     }
+}
+
+/// Has it as few states as a document may have?
+///
+/// Cost: constant.
+pub(crate) fn has_few_states(outcome: &Outcome) -> bool
+    ensures { IsTrue result → states_of outcome.now < 2 ^ 32 }
+{
+    let states = match outcome {
+        Outcome::Made(machine) => machine.steps().len(),
+        Outcome::Defeated(environment) => environment.plays().len(),
+    };
+    u32::try_from(states).is_ok()
 }

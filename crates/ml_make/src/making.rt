@@ -6,7 +6,7 @@ ghost use Rattle.ml_realize.specs.TaskGame.{IsLarge, PassesLimit};
 ghost use Rattle.ml_realize.specs.declared.refusals.RealizeRefusal.TheVariants as refusal;
 ghost use Rattle.ml_task.specs.Task.{task_of};
 
-use crate::fitting::fits;
+use crate::fitting::{fits, has_few_states};
 use crate::numbering::is_numbered;
 use ml_base::NoMemory;
 use ml_machine_check::{Checked, check};
@@ -16,12 +16,12 @@ use ml_synthesis::Outcome;
 use ml_task::Task;
 use std::alloc::Global;
 
-// are its states numbered breadth first, and does the check say that it holds?
+// are its states numbered breadth first and no more than a document may have, and does the check say that it holds?
 fn is_confirmed(alloc: Global, task: &Task, outcome: &Outcome) -> Result<bool, NoMemory>
     ensures { IfOk result (λ holds. IsTrue holds
         → IsConfirmed (task_of task.now.inputs.items task.now.outputs.items task.now.formula) outcome.now) }
 {
-    if !fits(task, outcome) || !is_numbered(outcome) {
+    if !fits(task, outcome) || !is_numbered(outcome) || !has_few_states(outcome) {
         return Ok(false);
     }
     match check(alloc, task, outcome)? {
@@ -50,8 +50,9 @@ fn confirmed(alloc: Global, task: &Task, limit: u32) -> Result<Option<Outcome>, 
 /// `limit` is 1 or more.
 ///
 /// Back comes the machine, each of whose words satisfies the formula, or the environment, none of whose words does. Either
-/// `ml_machine_check::check` says that it holds, or it is one that `ml_realize::realize` may give for the same task and limit.
-/// Its states are numbered breadth first from 0, sets ascending, so that each of them is reached.
+/// `ml_machine_check::check` says that it holds, and it has fewer than 2^32 states, or it is one that `ml_realize::realize` may
+/// give for the same task and limit. Its states are numbered breadth first from 0, sets ascending, so that each of them is
+/// reached.
 ///
 /// # Errors
 /// Those of `realize` for the same task and limit, and only where it refuses so: `ClosureTooLarge`, where the graph of the

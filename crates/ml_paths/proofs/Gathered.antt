@@ -6,11 +6,13 @@
 --   names_more   == the labels of a place, with one name more
 --   pairs_low    == labels are those of places
 --   none_bad     == so labels and edges name places alone
---   run_is       == what is built of them is the structure of the word
+--   given_iff    == the names that labels give a place are those with its number
+--   run_is       == what is built of them is the structure of the word of the names at each place
+--   gathered_run == so it is of the word of some letters, where the labels are theirs
 --   along_is     == the word of the labels along a path is made of the letters at its places
 use Rattle.std.proofs.Common.{ℕ, suc, ◌≡◌, ◌↔◌, ◌+◌, ◌<◌, ◌≤◌, ◌⊎◌, inl, inr, arith, Bool, true, false, cond, ltb, Contains, None, All, List, [], ◌∷◌, ◌++◌}
-use Rattle.std.proofs.Common.{length, map, get_or, take, refl, sym, ap, ◌∙◌, subst}
-use Rattle.std.specs.List.{flat_map, range_with_len}
+use Rattle.std.proofs.Common.{length, map, get_or, take, refl, sym, ap, ◌∙◌, ◌==◌, eq-eqb, eqb-true, subst}
+use Rattle.std.specs.List.{filter, flat_map, range_with_len}
 use Rattle.std.proofs.lemmas.Bool.{cases_lt, cond-false, cond-true, le-ltb, lt-ltb}
 use Rattle.std.proofs.lemmas.Grind.{flat_map-append}
 use Rattle.std.proofs.lemmas.List.{ext_get_or, get_or-map, length-map, map-append, take_more}
@@ -18,18 +20,18 @@ use Rattle.std.proofs.lemmas.List.FromFn.{get_or-map-range_with_len, length-map-
 use Rattle.ml_base.specs.Structure.{Structure, lists}
 use Rattle.ml_base.specs.declared.structure.Edge.{Edge}
 use Rattle.ml_base.proofs.Listing.{among_iff, lists_iff}
-use Rattle.ml_kripke.specs.Built.{IsBuiltFrom, ends, first_bad_state, named_states}
+use Rattle.ml_kripke.specs.Built.{IsBuiltFrom, ends, first_bad_state, labels_at as given, named_states}
 use Rattle.ml_lists.specs.Lasso.{Lasso}
 use Rattle.ml_lists.specs.Member.{IsMember}
 use Rattle.ml_lists.proofs.Entries.{find-none}
-use Rattle.ml_lists.proofs.Member.{All-member, Image, InList, member-All, member-append, member-flat_map, member-flat_map_from, member-map, member-map_from}
+use Rattle.ml_lists.proofs.Member.{All-member, Image, InList, member-All, member-append, member-filter, member-filter_from, member-flat_map, member-flat_map_from, member-map, member-map_from}
 use Rattle.ml_lists.proofs.Members.{contains_of_member, member_of_contains}
 use Rattle.ml_lists.proofs.Ranges.{member-range, range-member}
 use Rattle.ml_trace.specs.WordAutomata.{WordLasso}
 use Rattle.ml_word_automaton.specs.Words.{Letter, has, word_structure}
 use Rattle.ml_paths.specs.Paths.{labels_at}
-use Rattle.ml_paths.specs.Runs.{IsRunOf, pairs_at, pairs_of, word_along, word_at}
-use Rattle.ml_paths.specs.private.Built.{letter_of, round_edge, round_edges}
+use Rattle.ml_paths.specs.Runs.{IsRunOf, word_along, word_at}
+use Rattle.ml_paths.specs.private.Built.{letter_of, pairs_at, pairs_of, round_edge, round_edges}
 
 abbrev pair : ℕ → List ℕ → ℕ × List ℕ
 pair k p = (k, p)
@@ -158,12 +160,44 @@ same_truth true b same = sym (same.0 refl)
 same_truth false true same = absurd (let wrong = same.1 refl in cc)
 same_truth false false same = refl
 
-pub run_is : (letters : ℕ → Letter) (n start : ℕ) (labels : List (ℕ × List ℕ)) (edges : List Edge) (m : Structure)
-    → labels ≡ pairs_of letters n
+-- the names that labels give a place
+module _ (labels : List (ℕ × List ℕ)) (k : ℕ) (p : List ℕ) where
+  abbrev name : ℕ × List ℕ → List ℕ
+  name label = label.1
+
+  abbrev here : ℕ × List ℕ → Bool
+  here label = label.0 == k
+
+  given_pair : IsMember p (given labels k) → IsMember (pair k p) labels
+  given_pair member =
+      let i = member-map_from name p (filter here labels) member in
+      let from = member-filter_from here i.from labels i.member in
+      let place : i.from.0 ≡ k = eqb-true i.from.0 k from.1 in
+      let text : i.from.1 ≡ p = sym i.holds in
+      subst (λ x. IsMember x labels) (λ j. (place j, text j)) from.0
+
+  pair_given : IsMember (pair k p) labels → IsMember p (given labels k)
+  pair_given member =
+      member-map name (pair k p) (filter here labels) (member-filter here (pair k p) labels member (eq-eqb k k refl))
+
+  pub given_iff : (has (given labels k) p ≡ true) ↔ IsMember (pair k p) labels
+  given_iff = (
+    λ h. given_pair (member_of_contains p (given labels k) ((among_iff (given labels k) p).0 h)),
+    λ h. (among_iff (given labels k) p).1 (contains_of_member p (given labels k) (pair_given h)),
+  )
+
+-- the letter at a place of a word that is made of letters
+letter_is : (letters : ℕ → Letter) (n start k : ℕ) → k < n → get_or (word_at letters n start).word k [] ≡ letters k
+letter_is letters n start k low = get_or-map-range_with_len letters 0 n k k [] low (omega arith)
+
+word_long : (letters : ℕ → Letter) (n start : ℕ) → length (word_at letters n start).word ≡ n
+word_long letters n start = length-map-range_with_len letters 0 n
+
+pub run_is : (n start : ℕ) (labels : List (ℕ × List ℕ)) (edges : List Edge) (m : Structure)
     → edges ≡ round_edges n start
     → IsBuiltFrom n labels edges m
-    → IsRunOf (word_at letters n start) m
-run_is letters n start labels edges m labels_are edges_are built = record {
+    → IsRunOf (word_at (given labels) n start) m
+run_is n start labels edges m edges_are built = record {
   one_each = built.has_states ∙ sym long;
   labels = λ k p low. label k p (omega (arith, low, long));
   edges = λ e. (
@@ -173,34 +207,61 @@ run_is letters n start labels edges m labels_are edges_are built = record {
 }
   where
     w : WordLasso Letter
-    w = word_at letters n start
+    w = word_at (given labels) n start
 
     long : length w.word ≡ n
-    long = length-map-range_with_len letters 0 n
+    long = word_long (given labels) n start
 
     same_edges : edges ≡ (word_structure w).edges
     same_edges = edges_are ∙ ap (λ k. round_edges k start) (sym long)
 
-    letter_is : (k : ℕ) → k < n → get_or w.word k [] ≡ letters k
-    letter_is k low = get_or-map-range_with_len letters 0 n k k [] low (omega arith)
-
     label : (k : ℕ) (p : List ℕ) → k < n → lists m k p ≡ has (get_or w.word k []) p
     label k p low =
-        same_truth (lists m k p) (has (letters k) p) (
+        same_truth (lists m k p) (has (given labels k) p) (
+          λ h.
+              (given_iff labels k p).1
+              (member_of_contains (pair k p) labels ((built.has_labels k p).0 ((lists_iff m k p).0 h))),
+          λ h.
+              (lists_iff m k p).1
+              ((built.has_labels k p).1 (contains_of_member (pair k p) labels ((given_iff labels k p).0 h))),
+        )
+        ∙ ap (λ l. has l p) (sym (letter_is (given labels) n start k low))
+
+pub gathered_run : (letters : ℕ → Letter) (n start : ℕ) (labels : List (ℕ × List ℕ)) (m : Structure)
+    → labels ≡ pairs_of letters n
+    → IsRunOf (word_at (given labels) n start) m
+    → IsRunOf (word_at letters n start) m
+gathered_run letters n start labels m are run = record {
+  one_each = run.one_each ∙ word_long (given labels) n start ∙ sym long;
+  labels = λ k p low. label k p (omega (arith, low, long));
+  edges = λ e. subst (λ k. Contains m.edges e ↔ Contains (round_edges k start) e) same_long (run.edges e);
+}
+  where
+    long : length (word_at letters n start).word ≡ n
+    long = word_long letters n start
+
+    same_long : length (word_at (given labels) n start).word ≡ length (word_at letters n start).word
+    same_long = word_long (given labels) n start ∙ sym long
+
+    has_same : (k : ℕ) (p : List ℕ) → k < n → has (given labels k) p ≡ has (letters k) p
+    has_same k p low =
+        same_truth (has (given labels k) p) (has (letters k) p) (
           λ h.
               (among_iff (letters k) p).1
               (contains_of_member p (letters k)
-              (pair_of letters n k p
-              (subst (IsMember (pair k p)) labels_are
-              (member_of_contains (pair k p) labels ((built.has_labels k p).0 ((lists_iff m k p).0 h))))).1),
+              (pair_of letters n k p (subst (IsMember (pair k p)) are ((given_iff labels k p).0 h))).1),
           λ h.
-              (lists_iff m k p).1
-              ((built.has_labels k p).1
-              (contains_of_member (pair k p) labels
-              (subst (IsMember (pair k p)) (sym labels_are)
-              (of_pair letters n k p low (member_of_contains p (letters k) ((among_iff (letters k) p).0 h)))))),
+              (given_iff labels k p).1
+              (subst (IsMember (pair k p)) (sym are)
+              (of_pair letters n k p low (member_of_contains p (letters k) ((among_iff (letters k) p).0 h)))),
         )
-        ∙ ap (λ l. has l p) (sym (letter_is k low))
+
+    label : (k : ℕ) (p : List ℕ) → k < n → lists m k p ≡ has (get_or (word_at letters n start).word k []) p
+    label k p low =
+        run.labels k p (omega (arith, low, word_long (given labels) n start))
+        ∙ ap (λ l. has l p) (letter_is (given labels) n start k low)
+        ∙ has_same k p low
+        ∙ ap (λ l. has l p) (sym (letter_is letters n start k low))
 
 pub along_is : (m : Structure) (l : Lasso) → word_at (letter_of m l.entries) (length l.entries) l.start ≡ word_along m l
 along_is m l = λ j. record { word = at j; loop_start = l.start }

@@ -6,10 +6,8 @@
 --   IsRunOf w m    == m is the structure of the word w
 --   word_along m l == the word of the labels along the lasso l of m
 --   word_at ls n s == the word of the letters ls at the first n places, with the loop start s
---   pairs_at k ps  == the names ps, each with the place k
---   pairs_of ls n  == the names of the letters ls at the first n places, each with its place
 use Rattle.std.specs.Prelude.{ℕ, ◌≡◌, ◌<◌, ◌↔◌, List, [], length, map, get_or, Contains}
-use Rattle.std.specs.List.{flat_map, range_with_len}
+use Rattle.std.specs.List.{range_with_len}
 use Rattle.ml_base.specs.Structure.{Structure, lists}
 use Rattle.ml_base.specs.declared.structure.Edge.{Edge}
 use Rattle.ml_lists.specs.Lasso.{Lasso}
@@ -27,9 +25,3 @@ word_along m l = record { word = map (labels_at m) l.entries; loop_start = l.sta
 
 abbrev pub word_at : (ℕ → Letter) → ℕ → ℕ → WordLasso Letter
 word_at letters n start = record { word = map letters (range_with_len 0 n); loop_start = start }
-
-abbrev pub pairs_at : ℕ → List (List ℕ) → List (ℕ × List ℕ)
-pairs_at k names = map (λ p. (k, p)) names
-
-abbrev pub pairs_of : (ℕ → Letter) → ℕ → List (ℕ × List ℕ)
-pairs_of letters n = flat_map (λ k. pairs_at k (letters k)) (range_with_len 0 n)

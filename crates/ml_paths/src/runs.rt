@@ -1,9 +1,9 @@
 // Words as structures.
-ghost use Rattle.std.specs.Prelude.{ℕ, ◌≡◌, ◌<◌, ◌++◌, ◌^◌, None, suc, cond, ltb, length, All, IfOk, OnOk};
+ghost use Rattle.std.specs.Prelude.{◌≡◌, ◌<◌, ◌++◌, ◌^◌, None, suc, cond, ltb, length, All, IfOk, OnOk};
+ghost use Rattle.ml_kripke.specs.Built as given;
 ghost use Rattle.ml_kripke.specs.Built.{IsBuiltFrom, first_bad_state};
-ghost use Rattle.ml_word_automaton.specs.Words.{Letter};
-ghost use Rattle.ml_paths.specs.Runs.{IsRunOf, pairs_at, pairs_of, word_along, word_at};
-ghost use Rattle.ml_paths.specs.private.Built.{letter_of, round_edges};
+ghost use Rattle.ml_paths.specs.Runs.{IsRunOf, word_along, word_at};
+ghost use Rattle.ml_paths.specs.private.Built.{letter_of, pairs_at, pairs_of, round_edges};
 
 use crate::found::Path;
 use ml_base::{Action, Edge, Name, NoMemory};
@@ -60,7 +60,7 @@ fn built(
 /// The structure of a word: a state for each place, in order, with the labels that are given for it, and with an edge by `_` to
 /// the next place, from the last one to the loop start.
 ///
-/// The labels are those of places, in their order.
+/// The labels are those of places, in any order.
 ///
 /// # Errors
 /// `NoMemory` alone.
@@ -74,8 +74,7 @@ pub fn run_of(
 ) -> Result<Structure, NoMemory>
     requires loops { loop_start < places }
     requires inside { All (λ label. label.0 < places) labels.items }
-    ensures { IfOk result (λ m. (letters : ℕ → Letter) → labels.items ≡ pairs_of letters places
-        → IsRunOf (word_at letters places loop_start) m) }
+    ensures { IfOk result (IsRunOf (word_at (given.labels_at labels.items) places loop_start)) }
 {
     let edges = edges_of(alloc, places, loop_start)?;
     let structure = built(alloc, places, labels, edges)?;
@@ -123,7 +122,7 @@ pub fn run_along(alloc: Global, structure: &Structure, path: &Path) -> Result<St
     ensures { IfOk result (IsRunOf (word_along structure.now path.now)) }
 {
     let states = path.states();
-    // no memory holds more places than a number counts
+    // a path of more places than a number counts is want of memory
     let Ok(places) = u32::try_from(states.len()) else {
         return Err(NoMemory);
     };

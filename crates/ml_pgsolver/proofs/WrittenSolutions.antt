@@ -65,7 +65,7 @@ module _ (text : List ℕ) (named : NamedGame) (game : IsReadAs text named) wher
       let same = one_draft game.stands.draft whole_game.1.draft (sym game.stands.spelled ∙ whole_game.1.spelled) in
       subst (λ vs. IsGameOf (map row_of_vertex vs) named) same game.stands.is_game
 
-  few_ids : length named.ids ≤ most_vertices
+  pub few_ids : length named.ids ≤ most_vertices
   few_ids =
       let x = game_of_rows in
       omega (
@@ -78,7 +78,7 @@ module _ (text : List ℕ) (named : NamedGame) (game : IsReadAs text named) wher
         ap length x.ids,
       )
 
-  small_ids : (n : ℕ) → IsMember n named.ids → n ≤ greatest_number
+  pub small_ids : (n : ℕ) → IsMember n named.ids → n ≤ greatest_number
   small_ids n member =
       let x = game_of_rows in
       whole_game.1.small n (subst (IsMember n) (sym whole_game.1.ids)

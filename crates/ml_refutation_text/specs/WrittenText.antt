@@ -1,5 +1,5 @@
 -- The text that is written of a refutation, in both versions, line by line. It is the only one of which `Canonical` speaks;
--- so nobody has to believe this.
+-- the documents of `ask files` cite it themselves.
 --
 --   place_in xs x          == the place of x in xs
 --   Writing                == how the first lines of an entry and the words for a stack are written

@@ -1,4 +1,4 @@
--- The document that is written, as bytes. It is the only one of which `IsDocumentOf` speaks, so nobody has to believe this.
+-- The document that is written, as bytes. It is the only one of which `IsDocumentOf` speaks; `ask files` cites it itself.
 --
 --   document_of p r == the document that is written for the problem p and the refutation r
 use Rattle.std.specs.Prelude.{ℕ, List, ◌++◌}

@@ -1,6 +1,6 @@
 use Rattle.std.proofs.Common.{◌≡◌, ◌++◌, ◌/◌, ◌^◌, length}
 use Rattle.std.proofs.lemmas.Result.{on_ok_weaker}
-use Rattle.ml_paths.specs.Runs.{pairs_at}
+use Rattle.ml_paths.specs.private.Built.{pairs_at}
 use Rattle.ml_task.specs.NameSets.{members}
 use Rattle.ml_machine_text.proofs.WordLetters.{letter_added}
 use Rattle.ml_machine_text.proofs.labels.add_letter.Goals as goal

@@ -1,5 +1,5 @@
 use Rattle.std.proofs.Common.{◌≡◌, ◌++◌}
-use Rattle.ml_paths.specs.Runs.{pairs_of}
+use Rattle.ml_paths.specs.private.Built.{pairs_of}
 use Rattle.ml_machine_text.specs.private.Letters.{letter_at}
 use Rattle.ml_machine_text.proofs.labels.labels_of.Given as goal
 

@@ -1,5 +1,5 @@
 use Rattle.std.proofs.Common.{◌≡◌, ◌++◌, take}
-use Rattle.ml_paths.specs.Runs.{pairs_at}
+use Rattle.ml_paths.specs.private.Built.{pairs_at}
 use Rattle.ml_paths.proofs.runs.add_labels.Given as goal
 
 abbrev pub invariant-loop-name : goal.invariant-loop-name

@@ -1,6 +1,5 @@
 use Rattle.std.proofs.Common.{◌++◌, ◌∙◌, sym}
-use Rattle.ml_paths.specs.Runs.{pairs_at}
-use Rattle.ml_paths.specs.private.Built.{letter_of}
+use Rattle.ml_paths.specs.private.Built.{letter_of, pairs_at}
 use Rattle.ml_paths.proofs.Gathered.{pairs_more}
 use Rattle.ml_paths.proofs.runs.labels_along.Goals as goal
 

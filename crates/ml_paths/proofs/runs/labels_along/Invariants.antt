@@ -1,6 +1,5 @@
 use Rattle.std.proofs.Common.{◌≡◌}
-use Rattle.ml_paths.specs.Runs.{pairs_of}
-use Rattle.ml_paths.specs.private.Built.{letter_of}
+use Rattle.ml_paths.specs.private.Built.{letter_of, pairs_of}
 use Rattle.ml_paths.proofs.runs.labels_along.Given as goal
 
 abbrev pub invariant-loop-place : goal.invariant-loop-place

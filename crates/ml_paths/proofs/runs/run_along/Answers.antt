@@ -1,7 +1,7 @@
 use Rattle.std.proofs.Common.{ℕ, ◌<◌, ◌∙◌, All, List, ap, length, sym, subst}
-use Rattle.ml_paths.specs.Runs.{IsRunOf, pairs_of, word_at}
-use Rattle.ml_paths.specs.private.Built.{letter_of}
-use Rattle.ml_paths.proofs.Gathered.{along_is, pairs_low}
+use Rattle.ml_paths.specs.Runs.{IsRunOf, word_at}
+use Rattle.ml_paths.specs.private.Built.{letter_of, pairs_of}
+use Rattle.ml_paths.proofs.Gathered.{along_is, gathered_run, pairs_low}
 use Rattle.ml_paths.proofs.runs.run_along.Goals as goal
 
 pub run_of-requires-clause-inside : goal.run_of-requires-clause-inside
@@ -18,8 +18,9 @@ returns c =
     let path = c.args.path.now in
     let letters = letter_of m c.states-states.result.now in
     let x = c.in_ok-structure.structure in
-    let made = c.in_ok-structure.ensures letters
-    (c.in_ok-labels.ensures ∙ ap (pairs_of letters) (sym c.in-Ok.ensures.1)) in
+    let made =
+    gathered_run letters c.in-Ok.places _ c.in_ok-labels.labels.items x
+    (c.in_ok-labels.ensures ∙ ap (pairs_of letters) (sym c.in-Ok.ensures.1)) c.in_ok-structure.ensures in
     subst (λ w. IsRunOf w x) (along_is m path)
     (subst (λ xs. IsRunOf (word_at (letter_of m xs) (length xs) path.start) x) c.states-states.ensures
     (subst (λ k. IsRunOf (word_at letters k path.start) x) c.in-Ok.ensures.1

@@ -7,6 +7,6 @@ built-requires-clause-inside c =
     c.in_ok-edges.ensures
 
 pub returns : goal.returns
-returns c = λ letters are.
-    run_is letters c.args.places c.args.loop_start c.args.labels.items c.in_ok-edges.edges.items c.in_ok-structure.structure
-    are c.in_ok-edges.ensures c.in_ok-structure.ensures.built
+returns c =
+    run_is c.args.places c.args.loop_start c.args.labels.items c.in_ok-edges.edges.items c.in_ok-structure.structure
+    c.in_ok-edges.ensures c.in_ok-structure.ensures.built
