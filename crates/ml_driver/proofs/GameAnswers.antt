@@ -25,7 +25,7 @@ use Rattle.ml_driver.specs.Laws.{OneSolutionDue, SameWinners}
 use Rattle.ml_driver.specs.Run.{IsAnswer}
 use Rattle.ml_driver.specs.declared.command.Command.TheVariants.{SolveGame}
 use Rattle.ml_driver.specs.declared.engine.Engine.{Engine}
-use Rattle.ml_driver.specs.declared.engine.Engine.TheVariants.{Recursive, Measures}
+use Rattle.ml_driver.specs.declared.engine.Engine.TheVariants.{Recursive, Measures, Tangles}
 use Rattle.ml_driver.specs.declared.status.Status.{Status}
 use Rattle.ml_driver.specs.declared.status.Status.TheVariants.{Yes, Text}
 
@@ -64,6 +64,7 @@ game_line cause.NoMemory told = absurd (told refl)
 
 solution_by : (e : Engine) (g : ParityGame) → IsGame g → (s : GameSolution) × IsSolution g s × IsMadeBy e g s
 solution_by Recursive g ok = let s = some_solution g ok in (s.0, s.1, tt)
+solution_by Tangles g ok = let s = some_solution g ok in (s.0, s.1, tt)
 solution_by Measures g ok =
     let m = some_measures g ok in
     (m.0.solution, m.1.solution, record { measured = m.0; is_measured = m.1; is_solution = refl })

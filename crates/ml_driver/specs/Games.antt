@@ -1,8 +1,8 @@
 -- What `solve-game` answers of the text of a parity game.
 --
--- Both engines answer with a solution of the game that the text stands for: who wins each vertex, and at each vertex whose
+-- All engines answer with a solution of the game that the text stands for: who wins each vertex, and at each vertex whose
 -- owner wins it a move of one positional strategy that wins from all vertices of its player. Which moves these are is left
--- open for `recursive`; for `measures` they are the first ones that progress in the owner's least progress measure.
+-- open for `recursive` and `tangles`; for `measures` they are the first ones that progress in the owner's least progress measure.
 --
 --   engine_word e        == the word that names the engine e
 --   engine_named w       == the engine that the word w names, if it names one
@@ -24,18 +24,20 @@ use Rattle.ml_pgsolver.specs.declared.refusal.GameTextRefusal.TheVariants as cau
 use Rattle.ml_progress.specs.Measured.{IsMeasured, MeasuredGame}
 use Rattle.ml_driver.specs.Statuses.{refused_at}
 use Rattle.ml_driver.specs.declared.engine.Engine.{Engine}
-use Rattle.ml_driver.specs.declared.engine.Engine.TheVariants.{Recursive, Measures}
+use Rattle.ml_driver.specs.declared.engine.Engine.TheVariants.{Recursive, Measures, Tangles}
 
 -- ---- engines
 
 abbrev pub engine_word : Engine → Word
 engine_word Recursive = codes "recursive"
 engine_word Measures = codes "measures"
+engine_word Tangles = codes "tangles"
 
 abbrev pub engine_named : Word → Option Engine
 engine_named word =
     if bytes_eq word (engine_word Recursive) then Some Recursive
-    else (if bytes_eq word (engine_word Measures) then Some Measures else None)
+    else (if bytes_eq word (engine_word Measures) then Some Measures
+    else (if bytes_eq word (engine_word Tangles) then Some Tangles else None))
 
 -- ---- games that are solved
 
@@ -47,6 +49,7 @@ pub record IsByMeasures (g : ParityGame) (s : GameSolution) : Type 0 where
 abbrev pub IsMadeBy : Engine → ParityGame → GameSolution → Type 0
 IsMadeBy Recursive g s = Unit {0}
 IsMadeBy Measures g s = IsByMeasures g s
+IsMadeBy Tangles g s = Unit {0}
 
 pub record IsSolved (e : Engine) (text out : List ℕ) : Type 0 where
   pub named : NamedGame

@@ -9,6 +9,8 @@ pub enum Engine {
     Recursive,
     /// By the least progress measures of both players.
     Measures,
+    /// By tangles and a counted recursion, checked.
+    Tangles,
 }
 
 impl Engine {
@@ -19,6 +21,7 @@ impl Engine {
         match self {
             Engine::Recursive => b"recursive",
             Engine::Measures => b"measures",
+            Engine::Tangles => b"tangles",
         }
     }
 
@@ -30,6 +33,8 @@ impl Engine {
             Some(Engine::Recursive)
         } else if word == Engine::Measures.word() {
             Some(Engine::Measures)
+        } else if word == Engine::Tangles.word() {
+            Some(Engine::Tangles)
         } else {
             None
         }

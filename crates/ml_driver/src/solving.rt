@@ -39,6 +39,7 @@ fn solution_by(alloc: Global, engine: Engine, game: &Game) -> Result<Solution, N
     match engine {
         Engine::Recursive => solve(alloc, game),
         Engine::Measures => Ok(measures(alloc, game)?.solution),
+        Engine::Tangles => ml_tangles::solve(alloc, game),
     }
 }
 

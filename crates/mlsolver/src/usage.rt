@@ -35,7 +35,7 @@ pub(crate) fn explain(rt: &(impl Eprint + AllocGlobal), words: &[String]) -> io:
     for call in CALLS {
         eprintln!(rt; "  mlsolver {call}")?;
     }
-    eprintln!(rt; "LOGIC is mu, pdl, ctl, ltl or word; ENGINE recursive or measures;")?;
+    eprintln!(rt; "LOGIC is mu, pdl, ctl, ltl or word; ENGINE recursive, measures or tangles;")?;
     eprintln!(rt; "FAMILY and, or, step, fair or loop; N has one to six digits.")?;
     eprintln!(rt;
         "All but gen and bench read standard input. The exit status is 0 for yes or done,"
