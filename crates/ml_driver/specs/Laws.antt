@@ -14,11 +14,11 @@
 --   MakesAsRealized  == what `realize` answers, `make` may answer; and what this answers is yes, or no, or is due for `realize`, with
 --                       the same output
 --   OneMeasure       == one output is due at most for `gen` and `bench`
---   SameWinners      == both engines of `solve-game` name the same winners
+--   SameWinners      == all engines of `solve-game` name the same winners
 --   OneSolutionDue   == one status and one output are due at most for `solve-game measures`
 --   OneCheckDue      == one status is due at most for `check-game`, with one output, but for the vertex that is named with the
 --                       fourth rule
---   SolutionsAreAccepted == what is due for `solve-game`, by either engine, put behind the text of the game, is accepted by
+--   SolutionsAreAccepted == what is due for `solve-game`, by any engine, put behind the text of the game, is accepted by
 --                       `check-game`
 --   OneQuotientDue   == one status and one output are due at most for `quotient`
 --   QuotientsAreRead == what is written for `quotient` is read as a document of the same problem, with the quotient

@@ -101,7 +101,7 @@ pub fn one_check_of_a_game()
     ensures { OneCheckDue }
 {}
 
-/// The solution that is due for `solve-game`, by either engine, put behind the text of the game, is one that `check-game`
+/// The solution that is due for `solve-game`, by any engine, put behind the text of the game, is one that `check-game`
 /// accepts: both together are never longer than the texts that it reads.
 pub fn solutions_are_accepted()
     ensures { SolutionsAreAccepted }

@@ -42,7 +42,7 @@ const ROWS: [(&str, &str); 25] = [
     ),
     (
         "solve-game fast",
-        "`fast` is no engine: `recursive` or `measures`",
+        "`fast` is no engine: `recursive`, `measures` or `tangles`",
     ),
     (
         "solve-game recursive game.txt",

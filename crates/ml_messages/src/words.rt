@@ -172,11 +172,11 @@ fn further_fault(
                 "logic: `mu`, `pdl`, `ctl`, `ltl` or `word`",
             )
         }
-        (Further::Engine, Some(word)) if matches!(word, "recursive" | "measures") => {
+        (Further::Engine, Some(word)) if matches!(word, "recursive" | "measures" | "tangles") => {
             called_fault(alloc, command, word, parts.count)
         }
         (Further::Engine, word) => {
-            word_fault(alloc, command, word, "engine: `recursive` or `measures`")
+            word_fault(alloc, command, word, "engine: `recursive`, `measures` or `tangles`")
         }
         (Further::Family, word) => family_fault(alloc, command, word, parts),
     }
