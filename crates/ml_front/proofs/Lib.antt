@@ -5,6 +5,8 @@ pub mod PdlLines
 pub mod CtlLines
 -- what each logic proves of its texts, said of all
 pub mod Logics
+-- formulas made of others
+pub mod Connected
 -- the lines of a head
 pub mod HeadLines
 -- a text is readable as a head exactly where it is one
