@@ -5,13 +5,23 @@
 --   all_grows    == formulas that are joined to others have no fewer occurrences
 --   all_append   == to join formulas to one is to join the first ones, and then the others
 --   joined_more, joined_grows == formulas joined with one more behind them; with others behind them they have no fewer occurrences
-use Rattle.std.proofs.Common.{◌≡◌, ◌≤◌, ◌+◌, List, [], ◌∷◌, ◌++◌, refl, sym, ap, subst, ◌∙◌, arith}
-use Rattle.ml_front.specs.Connectives.{all_of, both, joined, negation, occurrences, truth}
+--   with_fits, with_joined, with_large == one formula more is joined to those that were joined so far
+--   front_more   == a list begins with its first elements and the next one
+use Rattle.std.proofs.Common.{◌≡◌, ◌≤◌, ◌<◌, ◌+◌, List, [], ◌∷◌, ◌++◌, drop, get_or, length, take, Option, None, Some, MatchOption, refl, sym, ap, subst, ◌∙◌, arith}
+use Rattle.std.proofs.lemmas.List.{take-append-drop, take_more}
+use Rattle.ml_text.specs.Limits.{most_occurrences}
+use Rattle.ml_text.proofs.Names.{all_parts}
+use Rattle.ml_front.specs.Connectives.{all_of, both, joined, negation, occurrences, truth, AreOf}
 use Rattle.ml_front.specs.Logics.{logic_of}
 use Rattle.ml_front.specs.declared.logic.Logic.{Logic}
 use Rattle.ml_front.specs.declared.logic.Logic.TheVariants as logic
 use Rattle.ml_front.specs.declared.problem.AnyFormula.{AnyFormula}
 use Rattle.ml_front.specs.declared.problem.AnyFormula.TheVariants.{Mu, Pdl, Ctl, Ltl, Word}
+use Rattle.ml_front.specs.private.JoinedSoFar.{IsJoined, IsWith}
+
+append_some : (fs : List AnyFormula) (g : AnyFormula) → fs ++ g ∷ [] ≡ [] → ⊥
+append_some [] g e = cc
+append_some (f ∷ fs) g e = cc
 
 -- ---- their logic
 
@@ -41,11 +51,9 @@ pub all_logic : (f : AnyFormula) (gs : List AnyFormula) → logic_of (all_of f g
 all_logic f [] = refl
 all_logic f (g ∷ gs) = all_logic (both f g) gs ∙ both_logic f g
 
-pub joined_logic : (l : Logic) (fs : List AnyFormula)
-    → ((f : AnyFormula) (gs : List AnyFormula) → fs ≡ f ∷ gs → logic_of f ≡ l)
-    → logic_of (joined l fs) ≡ l
-joined_logic l [] first = truth_logic l
-joined_logic l (f ∷ gs) first = all_logic f gs ∙ first f gs refl
+pub joined_logic : (l : Logic) (fs : List AnyFormula) → AreOf l fs → logic_of (joined l fs) ≡ l
+joined_logic l [] are = truth_logic l
+joined_logic l (f ∷ fs) are = all_logic f fs ∙ are.0
 
 -- ---- their size
 
@@ -94,3 +102,56 @@ pub joined_grows : (l : Logic) (fs gs : List AnyFormula)
 joined_grows l [] gs some = absurd (some refl)
 joined_grows l (f ∷ fs) gs some =
     subst (λ h. occurrences (all_of f fs) ≤ occurrences h) (sym (all_append f fs gs)) (all_grows (all_of f fs) gs)
+
+-- ---- one formula after the other
+
+pub with_joined : (l : Logic) (ys : List AnyFormula) (g : AnyFormula) (before made : Option AnyFormula) (more : AnyFormula)
+    → IsJoined l ys before
+    → IsWith before g made
+    → made ≡ Some more
+    → IsJoined l (ys ++ g ∷ []) (Some more)
+with_joined l ys g None made more is one some =
+    let same : more ≡ g = (let e : Some more ≡ Some g = sym some ∙ one in cc) in
+    (same ∙ ap (λ hs. joined l (hs ++ g ∷ [])) (sym is), append_some ys g)
+with_joined l ys g (Some f) made more is one some =
+    let two = subst (λ o. MatchOption o (most_occurrences < occurrences (both f g)) (λ h. h ≡ both f g)) some one in
+    (two ∙ ap (λ h. both h g) is.0 ∙ sym (joined_more l ys g is.1), append_some ys g)
+
+-- the formulas begin with those that came and the next one
+module _ (l : Logic) (xs ys zs : List AnyFormula) (g : AnyFormula) (whole : xs ≡ (ys ++ g ∷ []) ++ zs) where
+  of_front : AreOf l xs → AreOf l ys × (logic_of g ≡ l)
+  of_front are =
+      let front = all_parts (λ f. logic_of f ≡ l) (ys ++ g ∷ []) zs (subst (AreOf l) whole are) in
+      let parts = all_parts (λ f. logic_of f ≡ l) ys (g ∷ []) front.0 in
+      (parts.0, parts.1.0)
+
+  pub with_fits : (before : Option AnyFormula)
+      → AreOf l xs
+      → IsJoined l ys before
+      → MatchOption before (Unit {0}) (λ f. logic_of f ≡ logic_of g)
+  with_fits None are is = tt
+  with_fits (Some f) are is =
+      let of = of_front are in ap logic_of is.0 ∙ joined_logic l ys of.0 ∙ sym of.1
+
+  pub with_large : (before made : Option AnyFormula)
+      → IsJoined l ys before
+      → IsWith before g made
+      → made ≡ None
+      → most_occurrences < occurrences (joined l xs)
+  with_large None made is one none = let e : None ≡ Some g = sym none ∙ one in cc
+  with_large (Some f) made is one none =
+      let large = subst (λ o. MatchOption o (most_occurrences < occurrences (both f g)) (λ h. h ≡ both f g)) none one in
+      let same : both f g ≡ joined l (ys ++ g ∷ []) = ap (λ h. both h g) is.0 ∙ sym (joined_more l ys g is.1) in
+      let first : most_occurrences < occurrences (joined l (ys ++ g ∷ [])) =
+      subst (λ h. most_occurrences < occurrences h) same large in
+      let grows = joined_grows l (ys ++ g ∷ []) zs (append_some ys g) in
+      subst (λ fs. most_occurrences < occurrences (joined l fs)) (sym whole) (omega (arith, first, grows))
+
+pub front_more : {X : Type 0} (xs ys : List X) (g : X)
+    → ys ≡ take (length ys) xs
+    → (length ys < length xs) × (g ≡ get_or xs (length ys) g)
+    → xs ≡ (ys ++ g ∷ []) ++ drop (length ys + 1) xs
+front_more xs ys g front next =
+    sym (take-append-drop (length ys + 1) xs)
+    ∙ ap (λ f. f ++ drop (length ys + 1) xs)
+    (take_more xs (length ys) g next.0 ∙ ap (λ y. take (length ys) xs ++ y ∷ []) (sym next.1) ∙ ap (λ zs. zs ++ g ∷ []) (sym front))

@@ -5,7 +5,7 @@ ghost use Rattle.ml_front.specs.Connectives as connectives;
 ghost use Rattle.ml_front.specs.Connectives.{both, AreOf};
 ghost use Rattle.ml_front.specs.Logics.{logic_of};
 ghost use Rattle.ml_front.specs.WellFormed.{IsWellFormed};
-ghost use Rattle.ml_front.specs.private.JoinedSoFar.{IsJoined};
+ghost use Rattle.ml_front.specs.private.JoinedSoFar.{IsWith};
 
 use crate::{AnyFormula, Logic};
 use ml_base::NoMemory;
@@ -18,7 +18,6 @@ use std::alloc::Global;
 pub fn occurrences(formula: &AnyFormula) -> u32
     ensures number { result ≡ connectives.occurrences formula.now }
     ensures most { result ≤ MOST_OCCURRENCES }
-    ensures well_formed { IsWellFormed formula.now }
 {
     match formula {
         AnyFormula::Mu(formula) => ml_mu::occurrences(formula),
@@ -26,6 +25,26 @@ pub fn occurrences(formula: &AnyFormula) -> u32
         AnyFormula::Ctl(formula) => ml_ctl::occurrences(formula),
         AnyFormula::Ltl(formula) => ml_ltl::occurrences(formula),
         AnyFormula::Word(formula) => ml_ltl::occurrences(formula),
+    }
+}
+
+/// What the types of formulas keep: each formula that the program holds is well formed. Does nothing when called.
+pub fn keeps(formula: &AnyFormula)
+    ensures { IsWellFormed formula.now }
+{
+    match formula {
+        AnyFormula::Mu(formula) => {
+            let _root = formula.root();
+        }
+        AnyFormula::Pdl(formula) => {
+            let _root = formula.root();
+        }
+        AnyFormula::Ctl(formula) => {
+            let _root = formula.root();
+        }
+        AnyFormula::Ltl(formula) | AnyFormula::Word(formula) => {
+            let _root = formula.root();
+        }
     }
 }
 
@@ -105,9 +124,7 @@ fn with(
     part: AnyFormula,
 ) -> Result<Option<AnyFormula>, NoMemory>
     requires { MatchOption before (Unit {0}) (λ f. logic_of f ≡ logic_of part) }
-    ensures { IfOk result (λ made. MatchOption before
-        (made ≡ Some part)
-        (λ f. MatchOption made (most_occurrences < connectives.occurrences (both f part)) (λ g. g ≡ both f part))) }
+    ensures { IfOk result (IsWith before part) }
 {
     match before {
         Some(before) => conjunction(alloc, before, part),

@@ -33,9 +33,11 @@ mod title;
 mod writing;
 
 pub use answer::Answer;
-pub use connecting::{conjunction, joined, negation, occurrences, truth};
+pub use connecting::{conjunction, joined, keeps, negation, occurrences, truth};
 pub use head_rule::HeadRule;
 pub use logic::Logic;
-pub use problem::{AnyFormula, MOST_NODES, Problem, copy, graph, negated, print, read};
+pub use problem::{
+    AnyFormula, MOST_NODES, Problem, copy, copy_formula, graph, negated, print, read,
+};
 pub use reading::{Head, read_head};
 pub use writing::{append_head, write_head};
