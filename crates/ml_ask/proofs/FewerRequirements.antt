@@ -23,12 +23,14 @@ use Rattle.ml_front.specs.declared.logic.Logic.{Logic}
 use Rattle.ml_front.specs.declared.logic.Logic.TheVariants as logic
 use Rattle.ml_front.specs.declared.problem.AnyFormula.{AnyFormula}
 use Rattle.ml_front.specs.declared.problem.AnyFormula.TheVariants.{Mu, Pdl, Ctl, Ltl, Word}
-use Rattle.ml_spec.specs.Joined.{all_of, both, joined, requirements, truth}
+use Rattle.ml_front.specs.Connectives.{all_of, both, joined, truth}
+use Rattle.ml_spec.specs.Joined.{requirements}
 use Rattle.ml_spec.specs.Kinds.{is_requirement}
 use Rattle.ml_spec.specs.Questions.{asked_by, chosen, chosen_from, joined_of, parts_of}
 use Rattle.ml_spec.specs.declared.specification.Item.{Item}
 use Rattle.ml_spec.proofs.ChosenItems.{parts_in}
-use Rattle.ml_spec.proofs.JoinedSizes.{both_logic, AreOf}
+use Rattle.ml_front.specs.Connectives.{AreOf}
+use Rattle.ml_front.proofs.Connected.{both_logic}
 use Rattle.ml_ask.specs.Laws.{FewerAreMet, NeverBoth}
 use Rattle.ml_ask.specs.Meeting.{everything}
 use Rattle.ml_ask.proofs.RightAnswers.{no_is_refuted, yes_is_met}

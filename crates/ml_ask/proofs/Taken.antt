@@ -17,14 +17,15 @@ use Rattle.std.proofs.lemmas.List.Sums.{sum_by-set}
 use Rattle.std.proofs.lemmas.Option.{slice_get_cases}
 use Rattle.ml_front.specs.Logics.{logic_of}
 use Rattle.ml_front.specs.declared.logic.Logic.{Logic}
-use Rattle.ml_spec.specs.Joined.{joined, requirements}
+use Rattle.ml_front.specs.Connectives.{joined}
+use Rattle.ml_spec.specs.Joined.{requirements}
 use Rattle.ml_spec.specs.Kinds.{is_requirement}
 use Rattle.ml_spec.specs.Questions.{asked_by, chosen_from, is_in, joined_of, parts_of, IsQuestion}
 use Rattle.ml_spec.specs.Specification.{IsSpecified}
 use Rattle.ml_spec.specs.declared.question.Question.{Question}
 use Rattle.ml_spec.specs.declared.specification.Item.{Item}
 use Rattle.ml_spec.proofs.ChosenItems.{parts_in}
-use Rattle.ml_spec.proofs.JoinedTexts.{joined_logic}
+use Rattle.ml_front.proofs.Connected.{joined_logic}
 use Rattle.ml_refutation.specs.declared.refutation.Refutation.{Refutation}
 use Rattle.ml_ask.specs.Meeting.{everything, numbers_from, numbers_in, problem_of, without}
 use Rattle.ml_ask.specs.declared.seeking.Refuted.{Refuted}

@@ -12,16 +12,18 @@ use Rattle.ml_front.proofs.Logics.{parsed_well}
 use Rattle.ml_spec.specs.Comments.{uncommented}
 use Rattle.ml_spec.specs.ItemParts.{text_of}
 use Rattle.ml_spec.specs.Items.{ItemText}
-use Rattle.ml_spec.specs.Joined.{asked, joined, requirements}
+use Rattle.ml_front.specs.Connectives.{joined}
+use Rattle.ml_spec.specs.Joined.{asked, requirements}
 use Rattle.ml_spec.specs.Kinds.{is_requirement}
 use Rattle.ml_spec.specs.Questions.{asked_by, asking_from, chosen, chosen_from, joined_of, parts_of, questions, with_consistency, IsQuestion}
 use Rattle.ml_spec.specs.Specification.{items_behind, AreItemsOf, IsSpecification}
 use Rattle.ml_spec.specs.declared.question.Question.{Question}
 use Rattle.ml_spec.specs.declared.question.Question.TheVariants as question
 use Rattle.ml_spec.specs.declared.specification.Item.{Item}
-use Rattle.ml_spec.specs.private.JoinedTexts.{IsSound}
+use Rattle.ml_front.specs.private.Sound.{IsSound}
 use Rattle.ml_spec.proofs.ChosenItems.{parts_small}
-use Rattle.ml_spec.proofs.JoinedTexts.{asked_sound, joined_sound, sound_well, well_sound}
+use Rattle.ml_front.proofs.Sound.{joined_sound, sound_well, well_sound}
+use Rattle.ml_spec.proofs.JoinedSizes.{asked_sound}
 use Rattle.ml_spec.proofs.Readings.{specified}
 
 abbrev pub AreSoundItems : List Item → Type 0

@@ -34,3 +34,5 @@ pub mod CanonicalParsed
 pub mod TotalPaths
 -- formulas are equal or not
 pub mod FormulaEquality
+-- formulas made of formulas
+pub mod Connected

@@ -14,6 +14,8 @@ pub mod Eventualities
 pub mod Laws
 -- state formulas, and formulas of LTL
 pub mod Sorts
+-- formulas that begin with a quantifier
+pub mod Quantifiers
 -- the plain formula of a term
 pub mod Term
 -- which words are propositions

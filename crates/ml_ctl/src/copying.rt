@@ -23,7 +23,7 @@ pub fn copy<W: Words>(alloc: Global, formula: &FormulaOf<W>) -> Result<FormulaOf
 
 // an equal tree
 #[cycle(copier)]
-fn copy_term(alloc: Global, term: &Term) -> Result<Term, NoMemory>
+pub(crate) fn copy_term(alloc: Global, term: &Term) -> Result<Term, NoMemory>
     ensures { IfOk result (λ copied. formula_of copied ≡ formula_of term.now) }
 {
     match term {

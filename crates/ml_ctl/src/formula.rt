@@ -52,4 +52,12 @@ impl<W: Words> FormulaOf<W> {
     {
         &self.root
     }
+
+    /// The tree of the formula, which is given up.
+    pub(crate) fn into_root(self) -> Term
+        ensures tree { formula_of result ≡ self }
+        ensures well_formed { IsWellFormed W.language self }
+    {
+        self.root
+    }
 }

@@ -10,6 +10,7 @@
 // structures.
 #![tactic(auto)]
 
+mod connecting;
 mod copying;
 mod forms;
 mod formula;
@@ -21,6 +22,7 @@ mod printing;
 mod signs;
 mod term;
 
+pub use connecting::{conjunction, negation, quantified, truth};
 pub use copying::{copy, count_term, occurrences};
 pub use formula::{Formula, FormulaOf};
 pub use language::{Ctl, Language, Ltl, Sort, Words};

@@ -5,6 +5,10 @@ pub mod PdlLines
 pub mod CtlLines
 -- what each logic proves of its texts, said of all
 pub mod Logics
+-- formulas made of others
+pub mod Connected
+-- formulas that are well formed but for their size
+pub mod Sound
 -- the lines of a head
 pub mod HeadLines
 -- a text is readable as a head exactly where it is one

@@ -2,6 +2,8 @@
 pub mod Logics
 -- which formulas mean something, and which the program holds
 pub mod WellFormed
+-- formulas made of others, and how large they are
+pub mod Connectives
 -- problems, and where they hold
 pub mod Problems
 -- the graphs of problems

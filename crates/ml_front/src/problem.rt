@@ -90,7 +90,13 @@ pub fn copy(alloc: Global, problem: &Problem) -> Result<Problem, NoMemory>
     })
 }
 
-fn copy_formula(alloc: Global, formula: &AnyFormula) -> Result<AnyFormula, NoMemory>
+/// An equal formula.
+///
+/// # Errors
+/// `NoMemory` alone.
+///
+/// Cost: that of the logic's `copy`.
+pub fn copy_formula(alloc: Global, formula: &AnyFormula) -> Result<AnyFormula, NoMemory>
     ensures { IfOk result (λ copied. copied ≡ formula.now) }
 {
     match formula {

@@ -36,3 +36,5 @@ pub mod CanonicalLimits
 pub mod CanonicalParsed
 -- each formula has an occurrence
 pub mod SomeOccurrence
+-- formulas made of formulas
+pub mod Connected

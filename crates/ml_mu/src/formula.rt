@@ -45,4 +45,12 @@ impl Formula {
     {
         &self.root
     }
+
+    /// The tree of the formula, which is given up.
+    pub(crate) fn into_root(self) -> Term
+        ensures tree { formula_of result ≡ self }
+        ensures well_formed { IsWellFormed self }
+    {
+        self.root
+    }
 }

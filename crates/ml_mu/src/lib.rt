@@ -10,6 +10,7 @@
 // `ml_text` (tokens and grammars) and `ml_lists` (iterates); above stand the graph of a formula and the program.
 #![tactic(auto)]
 
+mod connecting;
 mod copying;
 mod evaluator;
 mod forms;
@@ -22,6 +23,7 @@ mod signs;
 mod term;
 mod variables;
 
+pub use connecting::{conjunction, negation, truth};
 pub use copying::{copy, occurrences};
 pub use evaluator::{evaluate, holds};
 pub use formula::Formula;

@@ -40,3 +40,5 @@ pub mod CanonicalLimits
 pub mod CanonicalParsed
 -- each formula has an occurrence, and so does each program
 pub mod SomeOccurrence
+-- formulas made of formulas
+pub mod Connected

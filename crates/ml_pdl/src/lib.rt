@@ -9,6 +9,7 @@
 // structures; above stands `ml_pdl_graph`, with their graphs.
 #![tactic(auto)]
 
+mod connecting;
 mod copying;
 mod forms;
 mod formula;
@@ -20,6 +21,7 @@ mod printing;
 mod signs;
 mod term;
 
+pub use connecting::{conjunction, negation, truth};
 pub use copying::{copy, occurrences};
 pub use formula::Formula;
 pub use parsing::parse;

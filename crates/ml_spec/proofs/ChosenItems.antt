@@ -5,6 +5,7 @@
 --   chosen_in      == chosen items are of the logic of all
 --   chosen_total   == their requirements' total is no larger than that of all
 --   all_total      == which is small
+--   asked_fits     == what a question asks for is small
 --   parts_in, parts_small == what is joined for a question is of the logic, and small
 use Rattle.std.proofs.Common.{◌≡◌, ℕ, suc, ◌+◌, ◌<◌, ◌≤◌, ◌⊎◌, inl, inr, Bool, true, false, ◌&&◌, cond, List, [], ◌∷◌}
 use Rattle.std.proofs.Common.{◌++◌, drop, filter, get_or, length, map, take, None, Some, slice_get, refl, sym, ap, subst, ◌∙◌, arith, append_assoc, length-take}
@@ -17,7 +18,8 @@ use Rattle.ml_front.specs.Logics.{logic_of}
 use Rattle.ml_front.specs.declared.logic.Logic.{Logic}
 use Rattle.ml_front.specs.declared.logic.Logic.TheVariants as logic
 use Rattle.ml_front.specs.declared.problem.AnyFormula.{AnyFormula}
-use Rattle.ml_spec.specs.Joined.{asked, joined, occurrences, parts_as, requirements, truth}
+use Rattle.ml_front.specs.Connectives.{joined, occurrences, truth}
+use Rattle.ml_spec.specs.Joined.{asked, parts_as, requirements}
 use Rattle.ml_spec.specs.Kinds.{is_requirement}
 use Rattle.ml_spec.specs.Questions.{asked_by, asked_by_item, chosen, chosen_from, joined_of, parts_of, IsQuestion}
 use Rattle.ml_spec.specs.Specification.{IsSpecified}
@@ -27,7 +29,8 @@ use Rattle.ml_spec.specs.declared.question.Question.{Question}
 use Rattle.ml_spec.specs.declared.question.Question.TheVariants as question
 use Rattle.ml_spec.specs.declared.specification.Item.{Item}
 use Rattle.ml_spec.specs.private.Sizes.{total, AreSmallBehind}
-use Rattle.ml_spec.proofs.JoinedSizes.{asked_logic, joined_size, last_size, requirements_in, AreItemsIn, AreOf}
+use Rattle.ml_front.specs.Connectives.{AreOf}
+use Rattle.ml_spec.proofs.JoinedSizes.{asked_logic, joined_size, last_size, requirements_in, AreItemsIn}
 use Rattle.ml_spec.proofs.SmallItems.{in_append, question_total, required_total, small_behind}
 
 -- ---- one item more
@@ -242,6 +245,10 @@ module _ (l : Logic) (S : ℕ → Bool) (xs : List Item) (specified : IsSpecifie
           last_size l (requirements (chosen S xs)) (asked x) chosen_of asks_of,
           chosen_from_total S 0 xs,
         )
+
+  pub asked_fits : (n : ℕ) (x : Item) → slice_get xs n ≡ Some x → is_requirement x.kind ≡ false → occurrences (asked x) ≤ most_occurrences
+  asked_fits n x is asks =
+      omega (arith, asked_small n x is asks, last_size l (requirements (chosen S xs)) (asked x) chosen_of (asks_of n x is))
 
   pub parts_in : (q : Question) → IsQuestion xs q → AreOf l (parts_of S xs q)
   parts_in question.Consistent is = subst (AreOf l) (sym (append-nil (requirements (chosen S xs)))) chosen_of

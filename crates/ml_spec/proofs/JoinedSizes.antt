@@ -1,6 +1,7 @@
 -- How many occurrences joined formulas have.
 --
---   both_size      == two formulas that are joined have one occurrence more than both
+--   asked_sound    == what an item with a sound formula asks for is sound
+--   asked_required == a requirement asks for its formula
 --   joined_size    == formulas that are joined have one occurrence less than their total
 --   part_size      == so has the formula that an item must keep small
 use Rattle.std.proofs.Common.{◌≡◌, ◌+◌, Bool, true, false, cond, List, [], ◌∷◌, ◌++◌, filter, map, refl, sym, ap, ◌∙◌, arith}
@@ -9,8 +10,11 @@ use Rattle.std.proofs.lemmas.List.Sums.{sum_by-append, sum_by-cons}
 use Rattle.ml_front.specs.Logics.{logic_of}
 use Rattle.ml_front.specs.declared.logic.Logic.{Logic}
 use Rattle.ml_front.specs.declared.problem.AnyFormula.{AnyFormula}
-use Rattle.ml_front.specs.declared.problem.AnyFormula.TheVariants.{Mu, Pdl, Ctl, Ltl, Word}
-use Rattle.ml_spec.specs.Joined.{all_of, asked, asked_as, both, joined, joined_at, negation, occurrences, parts_as, requirements}
+use Rattle.ml_front.specs.private.Sound.{IsSound}
+use Rattle.ml_front.proofs.Connected.{both_logic, both_size, negation_logic}
+use Rattle.ml_front.proofs.Sound.{negation_sound}
+use Rattle.ml_front.specs.Connectives.{AreOf, all_of, both, joined, negation, occurrences}
+use Rattle.ml_spec.specs.Joined.{asked, asked_as, joined_at, parts_as, requirements}
 use Rattle.ml_spec.specs.Kinds.{is_requirement}
 use Rattle.ml_spec.specs.declared.kind.Kind.{Kind}
 use Rattle.ml_spec.specs.declared.kind.Kind.TheVariants as kind
@@ -18,25 +22,6 @@ use Rattle.ml_spec.specs.declared.specification.Item.{Item}
 use Rattle.ml_spec.specs.private.Sizes.{due_of, total}
 
 -- ---- formulas
-
-pub both_size : (f g : AnyFormula) → logic_of f ≡ logic_of g → occurrences (both f g) ≡ occurrences f + (1 + occurrences g)
-both_size (Mu f) (Mu g) e = omega arith
-both_size (Pdl f) (Pdl g) e = omega arith
-both_size (Ctl f) (Ctl g) e = omega arith
-both_size (Ltl f) (Ltl g) e = omega arith
-both_size (Word f) (Word g) e = omega arith
-both_size f g e = cc
-
-pub both_logic : (f g : AnyFormula) → logic_of (both f g) ≡ logic_of f
-both_logic (Mu f) (Mu g) = refl
-both_logic (Pdl f) (Pdl g) = refl
-both_logic (Ctl f) (Ctl g) = refl
-both_logic (Ltl f) (Ltl g) = refl
-both_logic (Word f) (Word g) = refl
-both_logic f g = refl
-
-abbrev pub AreOf : Logic → List AnyFormula → Type 0
-AreOf l fs = AllByRecursion (λ f. logic_of f ≡ l) fs
 
 all_size : (l : Logic) (f : AnyFormula) (gs : List AnyFormula)
     → logic_of f ≡ l
@@ -86,24 +71,15 @@ requirements_in l (x ∷ xs) are = by (is_requirement x.kind) (requirements_in l
     by true rest = (are.0, rest)
     by false rest = rest
 
-negation_logic : (f : AnyFormula) → logic_of (negation f) ≡ logic_of f
-negation_logic (Mu f) = refl
-negation_logic (Pdl f) = refl
-negation_logic (Ctl f) = refl
-negation_logic (Ltl f) = refl
-negation_logic (Word f) = refl
-
 pub asked_logic : (k : Kind) (f : AnyFormula) → logic_of (asked_as k f) ≡ logic_of f
 asked_logic kind.Require f = refl
 asked_logic kind.Possible f = refl
 asked_logic kind.Follows f = negation_logic f
 
-pub negation_size : (f : AnyFormula) → occurrences (negation f) ≡ 1 + occurrences f
-negation_size (Mu f) = refl
-negation_size (Pdl f) = refl
-negation_size (Ctl f) = refl
-negation_size (Ltl f) = refl
-negation_size (Word f) = refl
+pub asked_sound : (k : Kind) (f : AnyFormula) → IsSound f → IsSound (asked_as k f)
+asked_sound kind.Require f sound = sound
+asked_sound kind.Possible f sound = sound
+asked_sound kind.Follows f sound = negation_sound f sound
 
 pub part_size : (l : Logic) (xs before : List Item) (x : Item)
     → AreItemsIn l xs
@@ -124,3 +100,8 @@ part_size l xs before x are earlier is = by x.kind refl
         ∙ ap (λ k. total (requirements before) + (1 + occurrences (asked_as k x.formula))) (sym e)
     by kind.Possible e = last_size l (requirements xs) (asked x) (requirements_in l xs are) (of_item x.kind)
     by kind.Follows e = last_size l (requirements xs) (asked x) (requirements_in l xs are) (of_item x.kind)
+
+pub asked_required : (k : Kind) (f : AnyFormula) → is_requirement k ≡ true → asked_as k f ≡ f
+asked_required kind.Require f is = refl
+asked_required kind.Possible f is = cc
+asked_required kind.Follows f is = cc

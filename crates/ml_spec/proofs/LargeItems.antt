@@ -11,7 +11,8 @@ use Rattle.ml_text.specs.Limits.{most_occurrences}
 use Rattle.ml_front.specs.declared.logic.Logic.{Logic}
 use Rattle.ml_spec.specs.Faults.{HasLargeItem, IsFirstFault}
 use Rattle.ml_spec.specs.Items.{ItemText}
-use Rattle.ml_spec.specs.Joined.{joined_at, occurrences}
+use Rattle.ml_front.specs.Connectives.{occurrences}
+use Rattle.ml_spec.specs.Joined.{joined_at}
 use Rattle.ml_spec.specs.Laws.{AreApart}
 use Rattle.ml_spec.specs.RuleNumbers.{rule_number}
 use Rattle.ml_spec.specs.Specification.{items_behind, AreItemsOf, IsReadAs}

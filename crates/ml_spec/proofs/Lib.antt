@@ -22,7 +22,5 @@ pub mod SmallItems
 pub mod LargeItems
 -- each text has one answer
 pub mod OneAnswer
--- the texts of joined formulas
-pub mod JoinedTexts
 -- requirements that are chosen
 pub mod ChosenItems

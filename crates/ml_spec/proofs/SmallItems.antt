@@ -14,7 +14,8 @@ use Rattle.std.proofs.lemmas.List.Sums.{sum_by-append}
 use Rattle.ml_text.specs.Limits.{most_occurrences}
 use Rattle.ml_front.specs.Logics.{logic_of}
 use Rattle.ml_front.specs.declared.logic.Logic.{Logic}
-use Rattle.ml_spec.specs.Joined.{asked_as, joined_at, occurrences, requirements}
+use Rattle.ml_front.specs.Connectives.{occurrences}
+use Rattle.ml_spec.specs.Joined.{asked_as, joined_at, requirements}
 use Rattle.ml_spec.specs.Kinds.{is_requirement}
 use Rattle.ml_spec.specs.Specification.{AreSmall}
 use Rattle.ml_spec.specs.declared.kind.Kind.{Kind}

@@ -22,7 +22,8 @@ use Rattle.ml_front.specs.declared.logic.Logic.{Logic}
 use Rattle.ml_spec.specs.Comments.{uncommented}
 use Rattle.ml_spec.specs.ItemParts.{behind_kind, behind_name, name_of, place_of, text_of, HasColon, HasKind, HasName, IsOfKind}
 use Rattle.ml_spec.specs.Items.{ItemText, begins_with_colon, is_name}
-use Rattle.ml_spec.specs.Joined.{joined_at, occurrences}
+use Rattle.ml_front.specs.Connectives.{occurrences}
+use Rattle.ml_spec.specs.Joined.{joined_at}
 use Rattle.ml_spec.specs.Places.{column_at, line_at}
 use Rattle.ml_spec.specs.RuleNumbers.{rule_number}
 use Rattle.ml_spec.specs.Specification.{first_filled, items_behind, most_items, IsReadAs, TellsLogic}

@@ -25,7 +25,8 @@ use Rattle.ml_front.specs.declared.logic.Logic.{Logic}
 use Rattle.ml_spec.specs.Comments.{uncommented}
 use Rattle.ml_spec.specs.ItemParts.{behind_name, name_of, text_of, HasKind}
 use Rattle.ml_spec.specs.Items.{ItemText, behind_word, begins_with_colon, first_word, is_name, items_of}
-use Rattle.ml_spec.specs.Joined.{joined_at, occurrences}
+use Rattle.ml_front.specs.Connectives.{occurrences}
+use Rattle.ml_spec.specs.Joined.{joined_at}
 use Rattle.ml_spec.specs.declared.specification.Item.{Item}
 use Rattle.ml_spec.specs.declared.specification.TheConstants.{MOST_ITEMS}
 

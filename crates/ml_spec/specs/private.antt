@@ -2,5 +2,3 @@
 pub mod Stages
 -- how large joined formulas are
 pub mod Sizes
--- the texts of joined formulas
-pub mod JoinedTexts

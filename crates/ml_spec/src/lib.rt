@@ -23,7 +23,6 @@
 
 mod comments;
 mod fault;
-mod formulas;
 mod head;
 mod items;
 mod joining;
@@ -40,7 +39,6 @@ mod sizes;
 mod specification;
 
 pub use comments::uncommented;
-pub use formulas::occurrences;
 pub use items::{ItemText, next_item};
 pub use joining::joined;
 pub use kind::{Kind, kind_named};

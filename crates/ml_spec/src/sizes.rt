@@ -8,18 +8,18 @@ ghost use Rattle.ml_front.specs.Logics.{logic_of};
 ghost use Rattle.ml_front.specs.declared.logic.Logic.{Logic};
 ghost use Rattle.ml_spec.specs.Joined.{asked, requirements};
 ghost use Rattle.ml_spec.specs.Kinds.{is_requirement};
-ghost use Rattle.ml_spec.specs.Joined as spec;
+ghost use Rattle.ml_front.specs.Connectives as connectives;
 ghost use Rattle.ml_spec.specs.Specification.{AreSmall};
 ghost use Rattle.ml_spec.specs.private.Sizes.{due_of, total, IsFirstLarge};
 
-use crate::formulas::occurrences;
 use crate::kind::Kind;
 use crate::specification::{Item, MOST_ITEMS};
+use ml_front::occurrences;
 use ml_text::MOST_OCCURRENCES;
 
 // how many occurrences what the item asks for has, and one more
 fn part(item: &Item) -> u32
-    ensures number { result ≡ 1 + spec.occurrences (asked item.now) }
+    ensures number { result ≡ 1 + connectives.occurrences (asked item.now) }
     ensures most { result ≤ MOST_OCCURRENCES + 2 }
 {
     match item.kind {

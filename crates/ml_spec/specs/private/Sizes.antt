@@ -11,7 +11,8 @@ use Rattle.std.specs.Prelude.{ℕ, ◌≡◌, ◌+◌, ◌<◌, ◌≤◌, ⊤, 
 use Rattle.ml_text.specs.Limits.{most_occurrences}
 use Rattle.ml_front.specs.declared.logic.Logic.{Logic}
 use Rattle.ml_front.specs.declared.problem.AnyFormula.{AnyFormula}
-use Rattle.ml_spec.specs.Joined.{asked, joined_at, occurrences, requirements}
+use Rattle.ml_front.specs.Connectives.{occurrences}
+use Rattle.ml_spec.specs.Joined.{asked, joined_at, requirements}
 use Rattle.ml_spec.specs.Kinds.{is_requirement}
 use Rattle.ml_spec.specs.declared.specification.Item.{Item}
 

@@ -1,24 +1,25 @@
-use Rattle.std.proofs.Common.{sym, subst, ◌∙◌}
-use Rattle.ml_front.specs.Logics.{IsParsedAs}
-use Rattle.ml_front.proofs.Logics.{formula_once, parsed_well, text_parsed}
-use Rattle.ml_spec.specs.Questions.{is_in, joined_of, parts_of}
-use Rattle.ml_spec.proofs.ChosenItems.{parts_in}
-use Rattle.ml_spec.proofs.JoinedTexts.{joined_logic}
+use Rattle.std.proofs.Common.{◌≡◌, ◌<◌, MatchOption, sym, ap, subst, ◌∙◌, arith}
+use Rattle.ml_text.specs.Limits.{most_occurrences}
+use Rattle.ml_front.specs.Connectives.{joined, occurrences, AreOf}
+use Rattle.ml_spec.specs.Questions.{is_in, parts_of}
+use Rattle.ml_spec.proofs.ChosenItems.{parts_in, parts_small}
 use Rattle.ml_spec.proofs.joining.joined.Goals as goal
 
-pub returns-in-Ok-clause-formula : goal.returns-in-Ok-clause-formula
-returns-in-Ok-clause-formula c =
+pub joined-requires : goal.joined-requires
+joined-requires c =
+    let S = is_in c.args.taken.now in
+    let parts = c.in_ok-parts.ensures ∙ ap (λ ys. parts_of S ys c.args.question) c.deref.ensures.value in
+    subst (AreOf c.args.specification.now.logic) (sym parts)
+    (parts_in c.args.specification.now.logic S c.args.specification.now.items.items c.requires.specified c.args.question
+    c.requires.question)
+
+pub unreachable-requires : goal.unreachable-requires
+unreachable-requires c =
     let l = c.args.specification.now.logic in
     let S = is_in c.args.taken.now in
-    let xs = c.args.specification.now.items.items in
-    let f = joined_of l S xs c.args.question in
-    let text = c.deref.result.now in
-    let of_logic = joined_logic l (parts_of S xs c.args.question)
-    (parts_in l S xs c.requires.specified c.args.question c.requires.question) in
-    formula_once text c.in-Ok.problem.formula f (c.in-Ok.ensures.of_logic ∙ sym of_logic) c.in-Ok.ensures.parsed
-    (subst (λ t. IsParsedAs t f) (sym (c.deref.ensures.value ∙ c.in_ok-text.ensures.text))
-    (text_parsed f c.in_ok-text.ensures.well_formed))
-
-pub returns-in-Ok-clause-well_formed : goal.returns-in-Ok-clause-well_formed
-returns-in-Ok-clause-well_formed c =
-    parsed_well c.deref.result.now c.in-Ok.problem.formula c.in-Ok.ensures.parsed
+    let parts = c.in_ok-parts.ensures ∙ ap (λ ys. parts_of S ys c.args.question) c.deref.ensures.value in
+    let large = subst (λ o. MatchOption o (most_occurrences < occurrences (joined l c.in_ok-parts.parts.items))
+    (λ f. f ≡ joined l c.in_ok-parts.parts.items)) c.in-None.is c.in_ok-formula.ensures in
+    let too_large = subst (λ fs. most_occurrences < occurrences (joined l fs)) parts large in
+    let fits = parts_small l S c.args.specification.now.items.items c.requires.specified c.args.question c.requires.question in
+    omega (arith, too_large, fits)
