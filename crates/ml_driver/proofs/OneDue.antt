@@ -28,7 +28,7 @@ use Rattle.ml_refute_check.proofs.OneVerdict.{one_verdict, shown_fault}
 use Rattle.ml_gen.specs.declared.family.Family.{Family}
 use Rattle.ml_decide.specs.Measures.{IsFinding, answer_of}
 use Rattle.ml_driver.specs.Bench.{IsBenched, bench_text, gen_text, status_of}
-use Rattle.ml_spec.specs.Joined.{occurrences}
+use Rattle.ml_front.specs.Connectives.{occurrences}
 use Rattle.ml_driver.specs.declared.command.TheConstants.{GREATEST_LIMIT}
 use Rattle.ml_driver.proofs.AutomatonAnswers.{one_automaton_answer}
 use Rattle.ml_driver.proofs.FamilyProblems.{one_family_problem}

@@ -21,7 +21,7 @@ use Rattle.ml_driver.specs.declared.command.Command.{Command}
 use Rattle.ml_driver.specs.declared.command.TheConstants.{GREATEST_LIMIT}
 use Rattle.ml_decide.specs.Measures.{answer_of}
 use Rattle.ml_driver.specs.Bench.{bench_text, gen_text, status_of}
-use Rattle.ml_spec.specs.Joined.{occurrences}
+use Rattle.ml_front.specs.Connectives.{occurrences}
 use Rattle.ml_driver.proofs.AutomatonAnswers.{on_automaton}
 use Rattle.ml_driver.proofs.FamilyProblems.{family_problem}
 use Rattle.ml_driver.proofs.CheckedGameAnswers.{on_checked_game}

@@ -11,6 +11,7 @@
 --   bench_text f n k x   == the five lines about a formula with k occurrences of which x is found
 --   IsBenched f n s out  == this status and this output are due for `bench f n`
 use Rattle.std.specs.Prelude.{ℕ, ◌≡◌, false, List, [], ◌∷◌, ◌++◌, codes}
+use Rattle.ml_front.specs.Connectives.{occurrences}
 use Rattle.ml_front.specs.Head.{answer_line}
 use Rattle.ml_front.specs.Logics.{logic_of, some_logic, IsParsedAs}
 use Rattle.ml_front.specs.declared.answer.Answer.{Answer}
@@ -19,7 +20,6 @@ use Rattle.ml_front.specs.declared.problem.Problem.{Problem}
 use Rattle.ml_gen.specs.Families.{family_word, formula_text, logic_name}
 use Rattle.ml_gen.specs.declared.family.Family.{Family}
 use Rattle.ml_lines.specs.Lines.{Line, line_text, number, text_of}
-use Rattle.ml_spec.specs.Joined.{occurrences}
 use Rattle.ml_decide.specs.Measures.{IsFinding, answer_of}
 use Rattle.ml_decide.specs.declared.finding.Finding.{Finding}
 use Rattle.ml_decide.specs.declared.finding.Finding.TheVariants.{Decided, GamePassed, ClosurePassed}

@@ -11,14 +11,13 @@ ghost use Rattle.ml_driver.specs.Bench as measures;
 ghost use Rattle.ml_driver.specs.Bench.{IsMeant, bench_text};
 ghost use Rattle.ml_driver.specs.Run.{IsAnswer};
 ghost use Rattle.ml_driver.specs.private.Findings.{nodes_line, positions_line};
-ghost use Rattle.ml_spec.specs.Joined as joined;
 
 use crate::command::GREATEST_LIMIT;
 use crate::output::Output;
 use crate::{Command, Status};
 use ml_base::{NoMemory, ParseRefusal};
 use ml_decide::Finding;
-use ml_front::{Answer, AnyFormula, Logic, Problem, read};
+use ml_front::{Answer, Logic, Problem, occurrences, read};
 use ml_gen::{Family, GenRefusal, formula};
 use ml_lines::{end_line, write_next_number, write_next_word, write_word};
 use std::alloc::Global;
@@ -104,17 +103,6 @@ fn logic_for(family: Family) -> Logic
         Family::And | Family::Or => Logic::Mu,
         Family::Step | Family::Loop => Logic::Pdl,
         Family::Fair => Logic::Ltl,
-    }
-}
-
-fn occurrences(formula: &AnyFormula) -> u32
-    ensures { result ≡ joined.occurrences formula.now }
-{
-    match formula {
-        AnyFormula::Mu(formula) => ml_mu::occurrences(formula),
-        AnyFormula::Pdl(formula) => ml_pdl::occurrences(formula),
-        AnyFormula::Ctl(formula) => ml_ctl::occurrences(formula),
-        AnyFormula::Ltl(formula) | AnyFormula::Word(formula) => ml_ltl::occurrences(formula),
     }
 }
 

@@ -176,7 +176,12 @@ fn further_fault(
             called_fault(alloc, command, word, parts.count)
         }
         (Further::Engine, word) => {
-            word_fault(alloc, command, word, "engine: `recursive`, `measures` or `tangles`")
+            word_fault(
+                alloc,
+                command,
+                word,
+                "engine: `recursive`, `measures` or `tangles`",
+            )
         }
         (Further::Family, word) => family_fault(alloc, command, word, parts),
     }

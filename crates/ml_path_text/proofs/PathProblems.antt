@@ -4,23 +4,17 @@
 --   one_problem   == it has one at most
 --   asked_linear  == its formula has no quantifier
 --   asked_well    == and is one that the program holds
---   operand_read  == what is read behind the quantifier of a canonical text is the operand
---   operand_not_refused == and it is refused for want of memory alone
-use Rattle.std.proofs.Common.{◌≡◌, ℕ, ◌⊎◌, Bool, true, false, List, length, take, drop, ◌-◌, inl, inr, refl, sym, ap, subst, ◌∙◌, arith}
-use Rattle.std.proofs.lemmas.List.{length-drop, take_all}
-use Rattle.ml_base.specs.declared.parse_refusal.ParseRefusal.{ParseRefusal}
-use Rattle.ml_base.specs.declared.parse_refusal.ParseRefusal.TheVariants as refusal
-use Rattle.ml_ctl.specs.Canonical.{canonical_text}
+--   asks_behind   == what stands behind a quantifier is its formula
+--   asks_none     == a formula that begins with none has no path problem
+use Rattle.std.proofs.Common.{◌≡◌, ◌⊎◌, Bool, true, false, inl, inr, refl, sym, ap, subst, ◌∙◌, arith}
 use Rattle.ml_ctl.specs.Formula.{Binary, Const, Formula, Not, Paired, Prop, Quantified, Temporal}
-use Rattle.ml_ctl.specs.Parsing.{IsParsedAs, IsRefusedBy}
+use Rattle.ml_ctl.specs.Quantifiers.{Quantifies, QuantifiesNone}
 use Rattle.ml_ctl.specs.Sorts.{is_linear}
 use Rattle.ml_ctl.specs.WellFormed as ctl
 use Rattle.ml_ctl.specs.declared.language.Language.TheVariants as language
 use Rattle.ml_ctl.specs.declared.term.Quantifier.{Quantifier}
 use Rattle.ml_ctl.specs.declared.term.Quantifier.TheVariants.{Exists, Forall}
-use Rattle.ml_ctl.proofs.CanonicalParsed.{canonical_parsed}
-use Rattle.ml_ctl.proofs.OneAnswer.{one_answer}
-use Rattle.ml_ctl.proofs.Parsed.{parsed_well}
+use Rattle.ml_ctl.proofs.Connected.{operand_is_held}
 use Rattle.ml_front.specs.WellFormed.{IsWellFormed}
 use Rattle.ml_front.specs.declared.problem.AnyFormula.{AnyFormula}
 use Rattle.ml_front.specs.declared.problem.AnyFormula.TheVariants.{Mu, Pdl, Ctl, Ltl, Word}
@@ -103,17 +97,6 @@ one_problem p f g b c x y = one_as p.formula p.negated f g b c x y
 
 -- ---- of LTL
 
-well_behind : (q : Quantifier) (f : Formula)
-    → is_linear f ≡ true
-    → ctl.IsWellFormed language.Ctl (Quantified q f)
-    → ctl.IsWellFormed language.Ltl f
-well_behind q f linear well = record {
-  is_small = omega (arith, well.is_small);
-  names_are_short = well.names_are_short;
-  names_are_spelled = well.names_are_spelled;
-  is_of_logic = linear;
-}
-
 well_as : (h : AnyFormula) (d : Bool) (f : Formula) (b : Bool)
     → AsksForAs h d f b
     → IsWellFormed h
@@ -121,7 +104,7 @@ well_as : (h : AnyFormula) (d : Bool) (f : Formula) (b : Bool)
 well_as (Ltl h) d f b x well = subst (ctl.IsWellFormed language.Ltl) (sym x.0) well
 well_as (Word h) d f b x well = subst (ctl.IsWellFormed language.Ltl) (sym x.0) well
 well_as (Ctl h) d f b x well =
-    well_behind (quantifier_of b) f x.1 (subst (ctl.IsWellFormed language.Ctl) x.0 well)
+    operand_is_held (quantifier_of b) f (subst (ctl.IsWellFormed language.Ctl) x.0 well) x.1
 well_as (Mu h) d f b x well = absurd x
 well_as (Pdl h) d f b x well = absurd x
 
@@ -134,25 +117,13 @@ asked_well p f b x well = well_as p.formula p.negated f b x well
 pub asked_linear : (p : Problem) (f : Formula) (b : Bool) → AsksFor p f b → IsWellFormed p.formula → is_linear f ≡ true
 asked_linear p f b x well = (asked_well p f b x well).is_of_logic
 
--- ---- read behind the quantifier
+-- ---- what stands behind a quantifier
 
--- a slice from its third byte on, as the program has it
-pub behind_two : (text shown : List ℕ) → shown ≡ text → take (length shown - 2) (drop 2 shown) ≡ drop 2 text
-behind_two text shown is =
-    let long = length-drop 2 shown in
-    take_all (length shown - 2) (drop 2 shown) (omega (arith, long)) ∙ ap (drop 2) is
+pub asks_behind : (h : Formula) (q : Quantifier) (f : Formula) (b negated : Bool)
+    → Quantifies h q f
+    → q ≡ quantifier_of negated
+    → AsksForAs (Ctl h) b f negated
+asks_behind h q f b negated is sense = (is.0 ∙ ap (λ r. Quantified r f) sense, is.1)
 
-module _ (h f : Formula) (q : Quantifier) (text given : List ℕ)
-    (begins : h ≡ Quantified q f) (linear : is_linear f ≡ true)
-    (read : IsParsedAs language.Ctl text h) (is : text ≡ canonical_text h) (behind : given ≡ drop 2 text) where
-  operand_parsed : IsParsedAs language.Ltl given f
-  operand_parsed =
-      let well = subst (ctl.IsWellFormed language.Ctl) begins (parsed_well language.Ctl text h read) in
-      let left : canonical_text f ≡ given = sym (behind ∙ ap (drop 2) (is ∙ ap canonical_text begins)) in
-      subst (λ t. IsParsedAs language.Ltl t f) left (canonical_parsed language.Ltl f (well_behind q f linear well))
-
-  pub operand_read : (g : Formula) → IsParsedAs language.Ltl given g → g ≡ f
-  operand_read g parsed = (one_answer language.Ltl).parsed given g f parsed operand_parsed
-
-  pub operand_not_refused : (e : ParseRefusal) → IsRefusedBy language.Ltl given e → e ≡ refusal.NoMemory
-  operand_not_refused e refused = (one_answer language.Ltl).exclusive given f e operand_parsed refused
+pub asks_none : (h : Formula) (b : Bool) → QuantifiesNone h → NoneAs (Ctl h) b
+asks_none h b none f negated asks = none (quantifier_of negated) f asks
