@@ -13,9 +13,10 @@ use crate::answer::{Answer, Answered};
 use crate::deciding::{decide_on, for_all, holds_on};
 use ml_base::NoMemory;
 use ml_decide::{Cause, Decision};
+use ml_front::occurrences;
 use ml_kripke::Model;
 use ml_refutation::Refutation;
-use ml_spec::{Question, Specification, occurrences};
+use ml_spec::{Question, Specification};
 use std::alloc::Global;
 
 // how many positions a search with few requirements may look at
