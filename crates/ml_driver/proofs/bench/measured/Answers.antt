@@ -12,5 +12,5 @@ returns c = record {
   status_is = c.status_of-status.ensures ∙ ap measures.status_of c.answer.ensures;
   is_written =
       c.in_ok-report.ensures
-      ∙ ap (λ k. measures.bench_text c.args.family c.args.n k c.in_ok-finding.finding) c.occurrences-count.ensures;
+      ∙ ap (λ k. measures.bench_text c.args.family c.args.n k c.in_ok-finding.finding) c.occurrences-count.ensures.number;
 }
