@@ -21,11 +21,10 @@ use crate::words::{name_at, write_next_question};
 use ml_ask::{Answer, Answered, Core, Part, Without, for_all, problem_on};
 use ml_base::NoMemory;
 use ml_decide::Cause;
-use ml_decision_text::{write_refuted, write_undecided};
+use ml_decision_text::{append_satisfied, append_undecided};
 use ml_front::Problem;
 use ml_kripke::Model;
 use ml_lines::{end_line, write_next_word, write_word};
-use ml_model_check::write_document;
 use ml_refutation::Refutation;
 use ml_spec::{Item, Question, Specification};
 use std::alloc::Global;
@@ -56,18 +55,11 @@ fn write_without_line(
 }
 
 // the document of a structure
-fn put_met(
-    alloc: Global,
-    out: &mut Vec<u8>,
-    problem: &Problem,
-    model: &Model,
-) -> Result<(), NoMemory>
+fn put_met(out: &mut Vec<u8>, problem: &Problem, model: &Model) -> Result<(), NoMemory>
     ensures text { OnOk result (out.new.items ≡ out.old.items ++ satisfiable_document problem.now model.now.structure model.now.start) }
     ensures shown { OnOk result (IsShown model.now.structure model.now.start) }
 {
-    let document = write_document(alloc, problem, model)?;
-    out.extend_from_slice(&document)?;
-    Ok(())
+    append_satisfied(out, problem, model)
 }
 
 // the one of a refutation
@@ -80,23 +72,14 @@ fn put_refuted(
     ensures { OnOk result (out.new.items ≡ out.old.items ++ document_of problem.now
         (of_parts refutation.now.names refutation.now.sequents refutation.now.stacks refutation.now.entries)) }
 {
-    let document = write_refuted(alloc, problem, refutation)?;
-    out.extend_from_slice(&document)?;
-    Ok(())
+    ml_decision_text::append_refuted(alloc, out, problem, refutation)
 }
 
 // the one of a cause
-fn put_undecided(
-    alloc: Global,
-    out: &mut Vec<u8>,
-    problem: &Problem,
-    cause: Cause,
-) -> Result<(), NoMemory>
+fn put_undecided(out: &mut Vec<u8>, problem: &Problem, cause: Cause) -> Result<(), NoMemory>
     ensures { OnOk result (out.new.items ≡ out.old.items ++ undecided_document problem.now cause) }
 {
-    let document = write_undecided(alloc, problem, cause)?;
-    out.extend_from_slice(&document)?;
-    Ok(())
+    append_undecided(out, problem, cause)
 }
 
 // the document of a structure for these requirements and a question
@@ -117,7 +100,7 @@ fn append_met(
     ensures shown { OnOk result (IsShown model.now.structure model.now.start) }
 {
     let problem = problem_on(alloc, specification, taken, question)?;
-    put_met(alloc, out, &problem, model)
+    put_met(out, &problem, model)
 }
 
 // the document of a refutation of them
@@ -176,7 +159,7 @@ fn append_all_open(
         (problem_of specification.now.logic specification.now.items.items everything question) cause) }
 {
     let problem = problem_on(alloc, specification, all, question)?;
-    put_undecided(alloc, out, &problem, cause)
+    put_undecided(out, &problem, cause)
 }
 
 // the document of a structure without one requirement, behind its line

@@ -5,18 +5,17 @@
 --   merged       == what is built from them is the quotient
 --   some_states, parts_in_range, quotient_is == the same, as the program has the classes
 --   few_classes, small_classes == classes are few, and their numbers small
-use Rattle.std.proofs.Common.{ℕ, ◌≡◌, ◌+◌, ◌^◌, ◌<◌, ◌≤◌, ◌↔◌, ◌⊎◌, inl, inr, ⊎_elim, true, List, [], ◌++◌, map, None, All, Contains, refl, sym, ap, ◌∙◌, subst, arith}
-use Rattle.std.specs.List.{flat_map}
+use Rattle.std.proofs.Common.{ℕ, ◌≡◌, ◌+◌, ◌^◌, ◌<◌, ◌≤◌, ◌↔◌, ◌⊎◌, inl, inr, true, List, [], ◌++◌, map, None, All, Contains, refl, sym, ap, ◌∙◌, subst, arith}
 use Rattle.std.proofs.lemmas.Bool.{cases_eq}
 use Rattle.ml_base.specs.declared.structure.Edge.{Edge}
 use Rattle.ml_base.specs.Structure.{Structure, IsStructure, lists}
 use Rattle.ml_lists.specs.Member.{IsMember}
-use Rattle.ml_lists.proofs.Entries.{find-none}
-use Rattle.ml_lists.proofs.Member.{member-append, member-append_left, member-append_right, member-map, Image, member-map_from, InList, member-flat_map_from, Place, member-place, member-All}
+use Rattle.ml_lists.proofs.Member.{member-append, member-append_left, member-append_right, member-map, Image, member-map_from, Place, member-place, member-All}
 use Rattle.ml_lists.proofs.Members.{member_of_contains, contains_of_member}
 use Rattle.ml_lists.proofs.Says.{same_truth}
 use Rattle.ml_kripke.specs.Ordered.{IsOrdered}
-use Rattle.ml_kripke.specs.Built.{IsBuiltFrom, ends, first_bad_state, named_states}
+use Rattle.ml_kripke.specs.Built.{IsBuiltFrom, first_bad_state}
+use Rattle.ml_kripke.proofs.Range.{none_bad}
 use Rattle.ml_bisim.specs.Bisimilar.{HasEdge}
 use Rattle.ml_bisim.specs.Quotient.{AreClasses, IsQuotientOf, SomeEdge, class_of}
 use Rattle.ml_bisim.specs.private.Merged.{AreClassLabels, between_classes}
@@ -91,30 +90,21 @@ module _ (m : Structure) (m_ok : IsStructure m) (class : List ℕ) (n : ℕ) (cl
   edge_of e h = member-map_from (between_classes class) e m.edges (subst (λ es. IsMember e es) between h)
 
   pub in_range : first_bad_state n labels edges ≡ None
-  in_range = find-none n (named_states labels edges) (λ x h.
-      ⊎_elim (λ (l : IsMember x (map (λ (label : ℕ × List ℕ). label.0) labels)).
-      of_label x (member-map_from (λ (label : ℕ × List ℕ). label.0) x labels l))
-      (λ (e : IsMember x (flat_map ends edges)). of_edge x (member-flat_map_from ends x edges e))
-      (member-append x (map (λ (label : ℕ × List ℕ). label.0) labels) (flat_map ends edges) h))
+  in_range = none_bad n labels edges label_low (λ e h. of_image e (edge_of e h))
     where
-      of_label : (x : ℕ) → Image (λ (label : ℕ × List ℕ). label.0) x labels → x < n
-      of_label x i =
-          let there = (are i.from.0 i.from.1).0 (contains_of_member i.from labels i.member) in
-          subst (λ c. c < n) (there.2 ∙ sym i.holds) (class_low there.0 there.1)
+      label_low : (label : ℕ × List ℕ) → IsMember label labels → label.0 < n
+      label_low label h =
+          let there = (are label.0 label.1).0 (contains_of_member label labels h) in
+          subst (λ c. c < n) there.2 (class_low there.0 there.1)
 
-      of_image : (x : ℕ) (e : Edge) → IsMember x (ends e) → Image (between_classes class) e m.edges → x < n
-      of_image x e (inl is) i =
-          subst (λ c. c < n) (sym (is ∙ ap (λ (f : Edge). f.source) i.holds))
-          (class_low i.from.source
-          (source_low m m_ok i.from.source i.from.action i.from.target (contains_of_member i.from m.edges i.member)))
-      of_image x e (inr (inl is)) i =
-          subst (λ c. c < n) (sym (is ∙ ap (λ (f : Edge). f.target) i.holds))
-          (class_low i.from.target
-          (target_low m m_ok i.from.source i.from.action i.from.target (contains_of_member i.from m.edges i.member)))
-      of_image x e (inr (inr none)) i = absurd none
-
-      of_edge : (x : ℕ) → InList ends x edges → x < n
-      of_edge x i = of_image x i.from i.inside (edge_of i.from i.member)
+      of_image : (e : Edge) → Image (between_classes class) e m.edges → (e.source < n) × (e.target < n)
+      of_image e i =
+          let there = contains_of_member i.from m.edges i.member in (
+            subst (λ c. c < n) (sym (ap (λ (f : Edge). f.source) i.holds))
+                (class_low i.from.source (source_low m m_ok i.from.source i.from.action i.from.target there)),
+            subst (λ c. c < n) (sym (ap (λ (f : Edge). f.target) i.holds))
+                (class_low i.from.target (target_low m m_ok i.from.source i.from.action i.from.target there)),
+          )
 
   module _ (q : Structure) (q_ok : IsStructure q) (q_ordered : IsOrdered q) (built : IsBuiltFrom n labels edges q) where
     same_labels : (s : ℕ) → s < m.states → (p : List ℕ) → lists q (class_of class s) p ≡ lists m s p

@@ -13,10 +13,10 @@
 --   without, fewer, gone == a list of pairs without one of them
 --   rounds           == the claim, by the number of pairs that are joined
 --   alike_are_bisimilar == the theorem
-use Rattle.std.proofs.Common.{ℕ, zero, suc, ◌≡◌, ◌<◌, ◌≤◌, ◌==◌, ◌&&◌, ◌||◌, ◌⊎◌, inl, inr, Bool, true, false, not, if◌then◌else◌, List, [], ◌∷◌, length, map, IsTrue, refl, sym, ap, ◌∙◌, subst, ⊎_elim, arith}
+use Rattle.std.proofs.Common.{ℕ, zero, suc, ◌≡◌, ◌<◌, ◌≤◌, ◌==◌, ◌&&◌, ◌||◌, ◌⊎◌, inl, inr, Bool, true, false, not, if◌then◌else◌, List, [], ◌∷◌, length, map, refl, sym, ap, ◌∙◌, subst, ⊎_elim, arith}
 use Rattle.std.specs.List.{flat_map, list_any, range_with_len}
 use Rattle.std.specs.Str.{bytes_eq}
-use Rattle.std.proofs.lemmas.Bool.{cases_Bool, cases_lt, cases_eq, and_parts, and_from, eqb-true, eq-eqb, true≢false}
+use Rattle.std.proofs.lemmas.Bool.{cases_Bool, cases_lt, and_parts, and_from, eqb-true, eq-eqb, true≢false, false_from_ne_true}
 use Rattle.std.proofs.lemmas.List.{get_or-map}
 use Rattle.ml_base.specs.declared.structure.Edge.{Edge}
 use Rattle.ml_base.specs.Structure.{Structure, IsStructure, is_member, lists}
@@ -24,12 +24,12 @@ use Rattle.ml_base.proofs.StateSets.{member_where}
 use Rattle.ml_lists.specs.Found.{Found}
 use Rattle.ml_lists.specs.Member.{IsMember}
 use Rattle.ml_lists.proofs.Decided.{Decided, decided_both, decided_bytes, decided_number, decided_test}
-use Rattle.ml_lists.proofs.Deciding.{Having, decided_and, decided_member, decided_not, some_member}
+use Rattle.ml_lists.proofs.Deciding.{Having, decided_member, decided_not, some_member}
 use Rattle.ml_lists.proofs.Member.{Passing, list_any-member, member-flat_map, member-list_any, member-map}
 use Rattle.ml_lists.proofs.Members.{member_of_contains, contains_of_member}
 use Rattle.ml_lists.proofs.Ranges.{member-range}
 use Rattle.ml_lists.proofs.Search.{search}
-use Rattle.ml_mu.specs.Formula.{Formula, Const, Prop, Var, Not, Binary, Modal, Binder}
+use Rattle.ml_mu.specs.Formula.{Formula, Const, Prop, Not, Binary, Modal}
 use Rattle.ml_mu.specs.declared.term.Modality.TheVariants.{Diamond}
 use Rattle.ml_mu.specs.Meaning.{meaning, some_edge}
 use Rattle.ml_mu.proofs.MeaningFlags.{meaning_flags}
@@ -40,10 +40,6 @@ use Rattle.ml_bisim_problems.specs.Told.{HasNoBinder, ToldApart}
 use Rattle.ml_bisim.proofs.Classes.{edge_from, leaves, leaves_from, from_leaves, target_low}
 use Rattle.ml_bisim.proofs.DecidedBisimilar.{AllMatch, HasLabels, HasSteps, Matches, cut, cut_is, flipped, joins}
 use Rattle.ml_bisim.proofs.Labels.{listed, row}
-
-not_true : (b : Bool) → (b ≡ true → ⊥) → b ≡ false
-not_true true none = absurd (none refl)
-not_true false none = refl
 
 and_false : (a b : Bool) → (a ≡ false) ⊎ (b ≡ false) → (a && b) ≡ false
 and_false false b (inl e) = refl
@@ -151,7 +147,7 @@ module _ (m : Structure) (ok : IsStructure m) where
             (and_from (leaves s a (edge_from s a x)) (holds p.formula x) (from_leaves s a x) p.here);
         not_there =
             member_where m (some_edge m a (meaning m [] p.formula)) t t_low
-            ∙ not_true (some_edge m a (meaning m [] p.formula) t) (λ some. none
+            ∙ false_from_ne_true (some_edge m a (meaning m [] p.formula) t) (λ some. none
             (list_any-member (λ (e : Edge). leaves t a e && holds p.formula e.target) m.edges some));
       }
         where
@@ -173,7 +169,7 @@ module _ (m : Structure) (ok : IsStructure m) where
           ∙ (listed m s h.item).1 (contains_of_member h.item (row m s) h.member);
       not_there =
           member_where m (λ u. lists m u h.item) t t_low
-          ∙ not_true (lists m t h.item) (λ is. h.holds (member_of_contains h.item (row m t) ((listed m t h.item).0 is)));
+          ∙ false_from_ne_true (lists m t h.item) (λ is. h.holds (member_of_contains h.item (row m t) ((listed m t h.item).0 is)));
     }
 
     labels : (s t : ℕ) → s < m.states → t < m.states → HasLabels m ok s t ⊎ ToldApart m s t
@@ -208,7 +204,7 @@ module _ (m : Structure) (ok : IsStructure m) where
           (subst (λ u. HasEdge m u e.action e.target) at (contains_of_member e m.edges h))
           (λ d i is.
           parted e.target d.target (low_end e h) (low_end d i)
-          (not_true (T e.target d.target) (λ related.
+          (false_from_ne_true (T e.target d.target) (λ related.
           let parts = and_parts (d.source == t) (bytes_eq d.action e.action) is in
           let same = leaves_from t e.action d is in
           none (record {

@@ -8,6 +8,7 @@
 use Rattle.std.proofs.Common.{ℕ, ◌≡◌, ◌+◌, ◌*◌, ◌<◌, ◌≤◌, ◌⊎◌, ◌||◌, inl, inr, arith, Bool, true, false, not, List, [], ◌∷◌, ◌++◌, refl, sym, ap, ◌∙◌, subst, map, filter, Some}
 use Rattle.std.proofs.lemmas.List.{map-append}
 use Rattle.std.proofs.lemmas.List.Elements.{filter-append}
+use Rattle.std.proofs.lemmas.Bool.{or_cases, or_left, or_right}
 use Rattle.ml_lists.specs.Ascending.{IsAscending, ascending}
 use Rattle.ml_lists.specs.Member.{IsMember}
 use Rattle.ml_lists.proofs.Ascending.{ascending-is, ascending-member, member-ascending, ascending_same}
@@ -69,28 +70,15 @@ module _ (plus minus : Bool) (k : ℕ) where
   swapped_back X (inl m) = inr m
   swapped_back X (inr m) = inl m
 
--- asked both ways
-or_true : (p m : Bool) → (p || m) ≡ true → (p ≡ true) ⊎ (m ≡ true)
-or_true true m e = inl refl
-or_true false m e = inr e
-
-or_first : (p m : Bool) → p ≡ true → (p || m) ≡ true
-or_first true m e = refl
-or_first false m e = absurd (cc)
-
-or_second : (p m : Bool) → m ≡ true → (p || m) ≡ true
-or_second true m e = refl
-or_second false m e = e
-
 both_ways : (plus minus : Bool) (k : ℕ) (X : Bool → List ℕ)
     → Of (plus || minus) (plus || minus) k X
     → Of plus minus k (λ b. X true ++ X false)
-both_ways plus minus k X (inl m) = from (or_true plus minus m.0)
+both_ways plus minus k X (inl m) = from (or_cases plus minus m.0)
   where
     from : (plus ≡ true) ⊎ (minus ≡ true) → Of plus minus k (λ b. X true ++ X false)
     from (inl e) = inl (e, member-append_left k (X true) (X false) m.1)
     from (inr e) = inr (e, member-append_left k (X true) (X false) m.1)
-both_ways plus minus k X (inr m) = from (or_true plus minus m.0)
+both_ways plus minus k X (inr m) = from (or_cases plus minus m.0)
   where
     from : (plus ≡ true) ⊎ (minus ≡ true) → Of plus minus k (λ b. X true ++ X false)
     from (inl e) = inl (e, member-append_right k (X true) (X false) m.1)
@@ -106,8 +94,8 @@ some_way plus minus k X of = from of
     part e (inr i) = inr (e, i)
 
     from : Of plus minus k (λ b. X true ++ X false) → Of (plus || minus) (plus || minus) k X
-    from (inl m) = part (or_first plus minus m.0) (member-append k (X true) (X false) m.1)
-    from (inr m) = part (or_second plus minus m.0) (member-append k (X true) (X false) m.1)
+    from (inl m) = part (or_left plus minus m.0) (member-append k (X true) (X false) m.1)
+    from (inr m) = part (or_right plus minus m.0) (member-append k (X true) (X false) m.1)
 
 -- ---- an eventuality itself
 

@@ -25,7 +25,8 @@ use Rattle.ml_ctl.specs.Formula.{occurrences}
 use Rattle.ml_ctl.specs.Meaning.{Property, Everywhere, iterate_of, HoldsAt}
 use Rattle.ml_ctl.specs.Paths.{IsPath, IsPathFrom, places, has_step}
 use Rattle.ml_ctl.specs.Unrolled.{IsPlace, after}
-use Rattle.ml_ctl.proofs.PlaceWalks.{walk-shift, walk-sum}
+use Rattle.ml_ctl.proofs.PlaceWalks.{walk-shift}
+use Rattle.ml_lists.proofs.Walks.{walk-sum}
 use Rattle.ml_blocks.specs.Items.{Item, Row, OfState, Waits, Becomes, Either, row, put_off, behind_next, is_least}
 use Rattle.ml_blocks.specs.ItemSets.{key, due, next_of, next_items, eventualities}
 use Rattle.ml_blocks.specs.Laws.{Asks, AllSay, SaysBy, RowSays, by_time, signed, QuantifiersAreDecided}

@@ -1,6 +1,7 @@
 -- The modal graph of a formula of CTL* or LTL.
 --
--- It is the graph of a closure: of the nodes, as values, that are reached from the root of the problem (`ml_nodes/specs/ClosureGraph`).
+-- It is the graph of a closure: of the nodes, as values, that are reached from the root of the problem
+-- (`ml_nodes/specs/ClosureGraph`).
 --
 --   start_of f negated          == the node that a problem of CTL* starts with
 --   linear_start_of f negated   == that of a problem of LTL: some path satisfies f, or the negation of f

@@ -68,8 +68,8 @@ pub fn closures_are_finite()
     ensures { ClosuresAreFinite }
 {}
 
-/// Where the graph of a closure holds at a state of a structure, whatever structure it is, each state that is reached from there
-/// along edges by `_` has an edge by `_`.
+/// Where the graph of a closure holds at a state of a structure, whatever structure it is, each state that is reached from
+/// there along edges by `_` has an edge by `_`.
 pub fn edges_go_on()
     ensures { EdgesGoOn }
 {}

@@ -14,8 +14,6 @@ pub mod SameWords
 mod MadeDeterministic
 -- what is made deterministic can be written
 mod Writable
--- what is written part by part
-mod WrittenParts
 -- parity conditions
 mod Conditions
 -- lines of the text

@@ -25,7 +25,8 @@ fn copied(alloc: Global, names: &[Quoted]) -> Result<Vec<Quoted>, NoMemory>
 }
 
 /// The deterministic parity automaton of a Büchi automaton, if it has at most so many states. It accepts exactly the
-/// ultimately periodic words of valuations that the Büchi automaton accepts (`laws::same_words`), and it is determined (`laws::one_automaton`).
+/// ultimately periodic words of valuations that the Büchi automaton accepts (`laws::same_words`), and it is determined
+/// (`laws::one_automaton`).
 ///
 /// `limit` is 1 or more.
 ///

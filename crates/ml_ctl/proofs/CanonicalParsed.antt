@@ -3,6 +3,7 @@
 --   canonical_parsed  == the canonical text of a well-formed formula is parsed as it
 --   canonical_one     == that of a formula with spelled names stands for it and for no other
 use Rattle.std.proofs.Common.{[], refl, arith}
+use Rattle.ml_text.proofs.TableItems.{counted_items}
 use Rattle.ml_text.specs.declared.token.WordStart.TheVariants.{LowerCase}
 use Rattle.ml_text.specs.Tokens.{tokens}
 use Rattle.ml_text.specs.Refusals.{signs_of}
@@ -15,7 +16,7 @@ use Rattle.ml_ctl.specs.Signs.{own}
 use Rattle.ml_ctl.specs.Text.{ctl_signs, items}
 use Rattle.ml_ctl.proofs.CanonicalLimits.{few_open, tokens_short}
 use Rattle.ml_ctl.proofs.CanonicalTexts.{canonical_tokens, canonical_stands, sign_spelt, tokens_onto}
-use Rattle.ml_ctl.proofs.Counting.{counts, counted_items}
+use Rattle.ml_ctl.proofs.Counting.{counts}
 use Rattle.ml_ctl.proofs.CtlGrammar.{one_formula}
 
 pub canonical_parsed : CanonicalIsParsed
@@ -26,7 +27,7 @@ canonical_parsed w f well =
       tokens_are = canonical_tokens f well.names_are_spelled;
       brackets = λ p. refl;
       stands = read;
-      few = omega (arith, counted_items text (tokens LowerCase text), counts read, well.is_small);
+      few = omega (arith, counted_items ctl_signs text tt (tokens LowerCase text), counts read, well.is_small);
       flat = omega (arith, few_open f [], well.is_small);
       short = tokens_short f well.names_are_short [] tt;
     })

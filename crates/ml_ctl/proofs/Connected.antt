@@ -1,14 +1,15 @@
 -- Formulas made of formulas that the program holds.
 --
---   negation_is_held, conjunction_is_held == negations and conjunctions of formulas of a language that the program holds are such
---                        formulas, where they are small enough
+--   negation_is_held, conjunction_is_held == negations and conjunctions of formulas of a language that the program holds are
+--                        such formulas, where they are small enough
 --   operand_is_held   == so is the operand of a quantifier in LTL, if it has no quantifier
-use Rattle.std.proofs.Common.{◌≡◌, ◌≤◌, true, refl, arith}
+use Rattle.std.proofs.Common.{◌≡◌, ◌≤◌, true, arith}
 use Rattle.std.proofs.lemmas.Bool.{and_from}
 use Rattle.ml_text.specs.Limits.{most_occurrences}
 use Rattle.ml_text.specs.Names.{IsShortName}
 use Rattle.ml_text.specs.declared.token.Operator.TheVariants.{And}
-use Rattle.ml_text.proofs.Names.{all_both, spelled_both}
+use Rattle.ml_lists.proofs.AllOf.{all_both}
+use Rattle.ml_text.proofs.Names.{spelled_both}
 use Rattle.ml_ctl.specs.Formula.{Binary, Formula, Not, Quantified, occurrences}
 use Rattle.ml_ctl.specs.FormulaNames.{names}
 use Rattle.ml_ctl.specs.Signs.{own}

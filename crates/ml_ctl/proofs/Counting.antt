@@ -1,15 +1,11 @@
 -- What a text counts is what its formula has.
 --
 --   count_signs ts  == the occurrences that the signs count
---   counted_items   == the items of a text count what its signs do
 --   counts          == what is read has as many occurrences as its signs count
 --   few_names       == a formula has no more names than occurrences
-use Rattle.std.proofs.Common.{◌≡◌, ℕ, ◌+◌, ◌≤◌, List, [], ◌∷◌, length, refl, arith, length-append}
-use Rattle.std.proofs.lemmas.List.Sums.{sum_by-cons}
-use Rattle.ml_text.specs.declared.token.Placed.{Placed}
+use Rattle.std.proofs.Common.{◌≡◌, ℕ, ◌+◌, ◌≤◌, List, length, arith, length-append}
 use Rattle.ml_text.specs.Levels.{Level}
-use Rattle.ml_text.specs.Refusals.{Item, signs_of, counted}
-use Rattle.ml_text.specs.Items as text_items
+use Rattle.ml_text.proofs.TableItems.{count_from}
 use Rattle.ml_ctl.specs.Formula as plain
 use Rattle.ml_ctl.specs.Formula.{Formula, occurrences}
 use Rattle.ml_ctl.specs.FormulaNames.{names}
@@ -17,20 +13,10 @@ use Rattle.ml_ctl.specs.declared.language.Language.{Language}
 use Rattle.ml_ctl.specs.Signs.{Sign}
 use Rattle.ml_ctl.specs.Grammar.{Reads, alone, joined, pair_alone, pair, negation, temporal, quantified, group, constant, proposition}
 use Rattle.ml_ctl.specs.declared.language.Sort.{Sort}
-use Rattle.ml_ctl.specs.Text.{weight_of, ctl_signs}
-use Rattle.ml_ctl.specs.TextLaws.{items_from}
+use Rattle.ml_ctl.specs.Text.{ctl_signs}
 
 abbrev pub count_signs : List Sign → ℕ
-count_signs [] = 0
-count_signs (t ∷ ts) = weight_of t + count_signs ts
-
-pub counted_items : (text : List ℕ) (ps : List Placed)
-    → counted (items_from text ps) ≡ count_signs (signs_of (items_from text ps))
-counted_items text [] = refl
-counted_items text (p ∷ ps) =
-    let here = sum_by-cons (λ (i : Item Sign). i.weight) (text_items.item_at ctl_signs text tt p) (items_from text ps) in
-    let later = counted_items text ps in
-    omega (arith, here, later)
+count_signs = count_from ctl_signs tt
 
 module _ {w : Language} where
   pub counts : {s : Sort} {l : Level} {ts rest : List Sign} {f : Formula}

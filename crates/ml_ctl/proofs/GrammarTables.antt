@@ -9,7 +9,7 @@ use Rattle.ml_text.specs.Grammar.{Whole, More, Read, Inner, Opens, Part, Rest, B
 use Rattle.ml_text.specs.Grammar.{form, whole, sign, read, inner, opens, takes, front}
 use Rattle.ml_text.specs.declared.forms.Role.TheVariants.{Infix}
 use Rattle.ml_text.specs.Operators.{operator_level}
-use Rattle.ml_text.specs.Levels.{Level, Joined, Operand, Tight}
+use Rattle.ml_text.specs.Levels.{Level, Joined, Tight}
 use Rattle.ml_text.proofs.LevelNumbers.{number, level_of, GroupsConnectives, tighter_above, left_below, right_below}
 use Rattle.ml_text.proofs.LevelNumbers.{joined_is, left_is, right_is, loosened, from_top}
 use Rattle.ml_ctl.specs.Formula as plain

@@ -36,3 +36,5 @@ pub mod TotalPaths
 pub mod FormulaEquality
 -- formulas made of formulas
 pub mod Connected
+-- the canonical text of a formula stands in one line
+pub mod CanonicalLines

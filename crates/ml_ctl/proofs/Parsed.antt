@@ -7,6 +7,7 @@
 --   parsed_well      == what is parsed is well formed
 --   found_well       == so is what was found
 use Rattle.std.proofs.Common.{◌≡◌, ℕ, List, length, subst, arith}
+use Rattle.ml_text.proofs.TableItems.{counted_items}
 use Rattle.ml_base.specs.declared.parse_refusal.ParseRefusal.{ParseRefusal}
 use Rattle.ml_text.specs.declared.token.WordStart.TheVariants.{LowerCase}
 use Rattle.ml_text.specs.Tokens.{tokens}
@@ -20,10 +21,10 @@ use Rattle.ml_ctl.specs.declared.language.Language.{Language}
 use Rattle.ml_ctl.specs.Grammar.{IsReadAs}
 use Rattle.ml_ctl.specs.Parsing.{IsParsedAs, IsRefusedBy}
 use Rattle.ml_ctl.specs.ParsingLaws.{ParsedAreWellFormed}
-use Rattle.ml_ctl.specs.Text.{items}
+use Rattle.ml_ctl.specs.Text.{ctl_signs, items}
 use Rattle.ml_ctl.specs.WellFormed.{IsWellFormed}
 use Rattle.ml_ctl.specs.private.Tables.{ctl_grammar}
-use Rattle.ml_ctl.proofs.Counting.{counts, counted_items}
+use Rattle.ml_ctl.proofs.Counting.{counts}
 use Rattle.ml_ctl.proofs.CtlGrammar.{ctl_fits}
 use Rattle.ml_ctl.proofs.ReadNames.{text_short, text_spelled}
 use Rattle.ml_ctl.proofs.Sorts.{reads_fits, fits_is_of}
@@ -54,7 +55,7 @@ refused_first w text e = answer.refused_first (IsReadAs w) (items text) (length 
 pub parsed_well : ParsedAreWellFormed
 parsed_well w text f parsed =
     let few = few_items (items text) (λ k fault. parsed.keeps TooMany k fault) in
-    let same = counted_items text (tokens LowerCase text) in
+    let same = counted_items ctl_signs text tt (tokens LowerCase text) in
     let has = counts parsed.stands in
     record {
       is_small = omega (arith, few, same, has);

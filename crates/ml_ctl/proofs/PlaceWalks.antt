@@ -1,23 +1,18 @@
 -- Walks among finitely many places.
 --
 --   walk-shift   == a walk that begins one step later
---   walk-sum     == a walk that begins where another one ends
 --   Early        == one of the first n steps leads where the step j leads, and is not behind it
 --   early        == among n places each step of a walk has an early one
-use Rattle.std.proofs.Common.{ℕ, zero, suc, ◌≡◌, ◌+◌, ◌-◌, ◌<◌, ◌≤◌, ◌⊎◌, inl, inr, arith, refl, sym, ap, ◌∙◌, add-zero, add-suc}
+use Rattle.std.proofs.Common.{ℕ, zero, suc, ◌≡◌, ◌+◌, ◌-◌, ◌<◌, ◌≤◌, ◌⊎◌, inl, inr, arith, refl, sym, ap, ◌∙◌}
 use Rattle.std.proofs.lemmas.Bool.{cases_lt}
 use Rattle.ml_lists.specs.Walk.{walk}
 use Rattle.ml_lists.specs.Pigeons.{Twice}
 use Rattle.ml_lists.proofs.Pigeons.{pigeons}
-use Rattle.ml_lists.proofs.Walks.{walk_keeps}
+use Rattle.ml_lists.proofs.Walks.{walk-sum, walk_keeps}
 
 pub walk-shift : (next : ℕ → ℕ) (x k : ℕ) → walk next (next x) k ≡ walk next x (suc k)
 walk-shift next x zero = refl
 walk-shift next x (suc k) = ap next (walk-shift next x k)
-
-pub walk-sum : (next : ℕ → ℕ) (x d k : ℕ) → walk next (walk next x d) k ≡ walk next x (d + k)
-walk-sum next x d zero = sym (ap (walk next x) (add-zero d))
-walk-sum next x d (suc k) = ap next (walk-sum next x d k) ∙ sym (ap (walk next x) (add-suc d k))
 
 -- what is reached twice is left twice in the same way
 same_onward : (next : ℕ → ℕ) (x a b k : ℕ) → walk next x a ≡ walk next x b → walk next x (a + k) ≡ walk next x (b + k)

@@ -13,7 +13,8 @@ use Rattle.ml_text.specs.Items.{bytes_of}
 use Rattle.ml_text.specs.Names.{KindedName, IsShortName}
 use Rattle.ml_text.proofs.Cover.{are_tokens}
 use Rattle.ml_text.proofs.NamedSigns.{short_name, spelled_sign}
-use Rattle.ml_text.proofs.Names.{Bears, IsSpelledName, all_both, bears_short, bears_spelled, spelled_all}
+use Rattle.ml_lists.proofs.AllOf.{all_both}
+use Rattle.ml_text.proofs.Names.{Bears, IsSpelledName, bears_short, bears_spelled, spelled_all}
 use Rattle.ml_text.proofs.TableItems.{signs_all, signs_short}
 use Rattle.ml_ctl.specs.Formula.{Formula}
 use Rattle.ml_ctl.specs.FormulaNames.{names}

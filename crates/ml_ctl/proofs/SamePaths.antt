@@ -15,7 +15,7 @@ use Rattle.ml_ctl.specs.Meaning.{Nowhere, Everywhere, TruthAt, quantified}
 use Rattle.ml_ctl.specs.Paths.{places}
 use Rattle.ml_ctl.specs.Unrolled.{IsPlace, after}
 use Rattle.ml_ctl.proofs.Iterated.{Meets, Met, until_exactly, release_exactly}
-use Rattle.ml_ctl.proofs.PlaceWalks.{walk-sum}
+use Rattle.ml_lists.proofs.Walks.{walk-sum}
 use Rattle.ml_ctl.proofs.StepByStep.{closed}
 
 pub after_is_place : (l : Lasso) (i d : ℕ) → IsPlace l i → IsPlace l (after l i d)

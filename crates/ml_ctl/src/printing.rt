@@ -1,6 +1,5 @@
 // The canonical text of a formula.
 ghost use Rattle.std.specs.Prelude.{◌≡◌, ◌++◌, ◌∷◌, take, IfOk, OnOk, OnErr, codes, vec_len};
-ghost use Rattle.ml_text.specs.Operators.{spelling_of};
 ghost use Rattle.ml_ctl.specs.Canonical.{canonical_text, pairing_letter, quantifier_letter, tense_letter};
 ghost use Rattle.ml_ctl.specs.Parsing.{IsParsedAs};
 ghost use Rattle.ml_ctl.specs.Term.{formula_of};
@@ -9,7 +8,7 @@ ghost use Rattle.ml_ctl.specs.WellFormed.{IsWellFormed};
 use crate::{FormulaOf, Pairing, Quantifier, Tense, Term, Words};
 use ml_base::NoMemory;
 use ml_lines::whole_or_none;
-use ml_text::Operator;
+use ml_text::infix;
 use std::alloc::{AllocError, Global};
 
 /// The canonical text of a formula, which is read back as the same formula.
@@ -41,18 +40,6 @@ pub fn append_text<W: Words>(out: &mut Vec<u8>, formula: &FormulaOf<W>) -> Resul
     let end = out.len();
     let written = write_term(out, formula.root());
     Ok(whole_or_none(out, end, written)?)
-}
-
-// a connective with its blanks
-fn operator_sign(operator: Operator) -> &'static [u8]
-    ensures { result.now ≡ codes " " ++ spelling_of operator ++ codes " " }
-{
-    match operator {
-        Operator::And => b" & ",
-        Operator::Or => b" | ",
-        Operator::Implies => b" -> ",
-        Operator::Iff => b" <-> ",
-    }
 }
 
 // U, R or W with its blanks
@@ -98,9 +85,7 @@ fn write_term(text: &mut Vec<u8>, term: &Term) -> Result<(), AllocError>
         Term::Const(false) => text.extend_from_slice(b"ff"),
         Term::Prop(name) => text.extend_from_slice(name.bytes()),
         Term::Not(operand) => write_prefix(text, b"!", operand),
-        Term::Binary(operator, left, right) => {
-            write_binary(text, left, operator_sign(*operator), right)
-        }
+        Term::Binary(operator, left, right) => { write_binary(text, left, infix(*operator), right) }
         Term::Temporal(tense, operand) => write_prefix(text, tense_sign(*tense), operand),
         Term::Paired(pairing, left, right) => {
             write_binary(text, left, pairing_sign(*pairing), right)

@@ -32,7 +32,7 @@ use Rattle.ml_history.proofs.definition.NamesInUse.{live-has}
 use Rattle.ml_history.proofs.definition.StepKeeps.{start-is, step_is_history}
 use Rattle.ml_history.proofs.definition.StepNames.{step_names}
 use Rattle.ml_history.proofs.definition.SteppedStates.{steps_follow_letters}
-use Rattle.ml_history.proofs.plain_step.PlainStep.{live-length, ascending_length}
+use Rattle.ml_history.proofs.definition.SmallHistories.{live-length, ascending_length}
 use Rattle.ml_product.proofs.bound.HistoryCodes.{parent_of, parent_low, tip_of, tip_of_low, same_histories}
 use Rattle.ml_product.proofs.bound.Packs.{pair_low, pair_same, pack, pack_low, pack_same}
 use Rattle.ml_determinise.specs.Histories.{StaysBelow, letter_at, neutral}

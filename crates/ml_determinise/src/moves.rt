@@ -14,8 +14,8 @@ ghost use Rattle.ml_determinise.specs.declared.refusals.DetRefusal.TheVariants a
 use crate::refusals::DetRefusal;
 use indexmap::IndexSet;
 use ml_base::NoMemory;
-use ml_history::{History, Mark};
-use ml_trace::Letter;
+use ml_history::History;
+use ml_trace::{Letter, priority_of};
 use std::alloc::Global;
 
 /// A move of the deterministic automaton along a letter: its priority, and the number of the state that it leads to.
@@ -23,18 +23,6 @@ use std::alloc::Global;
 pub struct DetMove {
     pub priority: u32,
     pub to: u32,
-}
-
-// the priority of a mark
-fn priority_of(mark: Mark, neutral: u32) -> u32
-    requires { FitsBelow neutral mark }
-    ensures { result ≡ priority neutral mark }
-{
-    match mark {
-        Mark::Red(name) => 2 * name,
-        Mark::Green(name) => 2 * name + 1,
-        Mark::Neutral => neutral,
-    }
 }
 
 // the number of a history

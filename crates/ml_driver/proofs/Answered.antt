@@ -19,9 +19,9 @@ use Rattle.ml_decide.specs.declared.deciding.Decision.{Decision}
 use Rattle.ml_decide.specs.declared.deciding.Decision.TheVariants as decision
 use Rattle.ml_model_check.specs.WrittenDocument.{satisfiable_document}
 use Rattle.ml_driver.specs.Decision.{IsAnswered, IsProblem, LeftOpen, Refuted, Satisfied, if_open, if_refuted, if_satisfied}
-use Rattle.ml_decision_text.specs.Documents.{undecided_document}
+use Rattle.ml_decision_text.specs.Documents.{decision_document, IsShown, undecided_document}
 use Rattle.ml_driver.specs.declared.question.Question.{Question}
-use Rattle.ml_driver.specs.private.Decisions.{IsDocumentFor, status_in}
+use Rattle.ml_driver.specs.private.Decisions.{status_in}
 
 module _ (q : Question) (text : List ℕ) (p : Problem) (is_problem : IsProblem q text p) (out : List ℕ) where
   pub satisfied : (m : Structure) (start : ℕ)
@@ -64,10 +64,10 @@ module _ (q : Question) (text : List ℕ) (p : Problem) (is_problem : IsProblem 
   left_open c stays written =
       record { problem = p; cause = c; is_problem = is_problem; stays_open = stays; is_written = written }
 
-  pub answered : (d : Decision) → IsDecided q.way q.limit p d → IsDocumentFor p d out
+  pub answered : (d : Decision) → IsDecided q.way q.limit p d → out ≡ decision_document p d → IsShown d
       → IsAnswered q text (status_in q.negated d) out
-  answered (decision.Satisfiable m) x written =
-      if_satisfied refl (satisfied m.structure m.start x.0 x.1 written.1 written.2 written.0)
-  answered (decision.Unsatisfiable r) x written =
+  answered (decision.Satisfiable m) x written shown =
+      if_satisfied refl (satisfied m.structure m.start x.0 x.1 shown.0 shown.1 written)
+  answered (decision.Unsatisfiable r) x written shown =
       if_refuted refl (refuted (of_parts r.names r.sequents r.stacks r.entries) x.0 x.1 written)
-  answered (decision.Undecided c) x written = if_open refl (left_open c x written)
+  answered (decision.Undecided c) x written shown = if_open refl (left_open c x written)

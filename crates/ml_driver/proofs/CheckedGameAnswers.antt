@@ -1,16 +1,16 @@
--- What is the answer to `check-game`: exactly one status, with one output, but for the vertex that is named with the fourth rule.
+-- What is the answer to `check-game`: exactly one status, with one output, but for the vertex that is named with the fourth
+-- rule.
 --
 --   one_game_check  == one answer at most
 --   on_checked_game == some status is the answer, with some output
 --   one_check_due   == one is due
 --   solutions_are_accepted == the solution that is due for `solve-game` is accepted
 use Rattle.std.proofs.Common.{◌≡◌, ◌≢◌, ℕ, ◌≤◌, ◌⊎◌, ⊎_elim, List, ◌++◌, length, length-append, Some, refl, sym, ap, subst, ◌∙◌, inl, inr, arith}
-use Rattle.ml_lines.specs.Lines.{line_text}
 use Rattle.ml_pgsolver.specs.CheckedText.{IsCheckRefusedBy, IsFoundIn}
 use Rattle.ml_pgsolver.specs.Laws.{NamesFour as FindsFour}
 use Rattle.ml_pgsolver.specs.declared.limits.TheConstants.{LONGEST_CHECKED_TEXT}
-use Rattle.ml_pgsolver.specs.declared.finding.Finding.{Finding}
-use Rattle.ml_pgsolver.specs.declared.finding.Finding.TheVariants.{Accepted}
+use Rattle.ml_pgsolver.specs.declared.finding.SolutionFinding.{SolutionFinding}
+use Rattle.ml_pgsolver.specs.declared.finding.SolutionFinding.TheVariants.{Accepted}
 use Rattle.ml_pgsolver.specs.declared.refusal.GameTextRefusal.{GameTextRefusal}
 use Rattle.ml_pgsolver.specs.declared.refusal.GameTextRefusal.TheVariants as cause
 use Rattle.ml_pgsolver.proofs.OneChecked.{one_check_refusal}
@@ -23,7 +23,7 @@ use Rattle.ml_driver.specs.Codes.{code_of}
 use Rattle.ml_driver.specs.CheckedGames.{IsGameChecked, finding_said, if_found, if_unread}
 use Rattle.ml_driver.specs.Games.{game_refusal_line}
 use Rattle.ml_driver.specs.Laws.{NamesFour, OneCheckDue, SolutionsAreAccepted}
-use Rattle.ml_driver.specs.Statuses.{IsSaid}
+use Rattle.ml_driver.specs.Said.{IsSaid, said_text, status_said}
 use Rattle.ml_driver.specs.declared.command.Command.TheVariants.{CheckGame}
 use Rattle.ml_driver.specs.declared.status.Status.{Status}
 use Rattle.ml_driver.specs.declared.status.Status.TheVariants.{Text}
@@ -33,21 +33,21 @@ use Rattle.ml_driver.specs.declared.status.Status.TheVariants.{Text}
 abbrev pub Alike : Status → Status → List ℕ → List ℕ → Type 0
 Alike s t out more = (s ≡ t) × ((out ≡ more) ⊎ (NamesFour out × NamesFour more))
 
-same_finding : (f h : Finding) (s t : Status) (out more : List ℕ)
+same_finding : (f h : SolutionFinding) (s t : Status) (out more : List ℕ)
     → IsSaid (finding_said f) s out
     → IsSaid (finding_said h) t more
     → (f ≡ h) ⊎ (FindsFour f × FindsFour h)
     → Alike s t out more
 same_finding f h s t out more x y (inl same) = (
-  x.0 ∙ ap (λ k. (finding_said k).0) same ∙ sym y.0,
-  inl (x.1 ∙ ap (λ k. line_text (finding_said k).1) same ∙ sym y.1),
+  x.0 ∙ ap (λ k. status_said (finding_said k)) same ∙ sym y.0,
+  inl (x.1 ∙ ap (λ k. said_text (finding_said k)) same ∙ sym y.1),
 )
 same_finding f h s t out more x y (inr (four, also)) = (
-  x.0 ∙ ap (λ k. (finding_said k).0) four.1 ∙ sym (y.0 ∙ ap (λ k. (finding_said k).0) also.1),
-  inr ((four.0, x.1 ∙ ap (λ k. line_text (finding_said k).1) four.1), (also.0, y.1 ∙ ap (λ k. line_text (finding_said k).1) also.1)),
+  x.0 ∙ ap (λ k. status_said (finding_said k)) four.1 ∙ sym (y.0 ∙ ap (λ k. status_said (finding_said k)) also.1),
+  inr ((four.0, x.1 ∙ ap (λ k. said_text (finding_said k)) four.1), (also.0, y.1 ∙ ap (λ k. said_text (finding_said k)) also.1)),
 )
 
-found_or_unread : (text : List ℕ) (f : Finding) (e : GameTextRefusal) (out : List ℕ) → IsFoundIn text f
+found_or_unread : (text : List ℕ) (f : SolutionFinding) (e : GameTextRefusal) (out : List ℕ) → IsFoundIn text f
     → IsCheckRefusedBy text e
     → Some out ≡ game_refusal_line e
     → ⊥
@@ -79,9 +79,9 @@ one_game_check text s t out more (if_unread e x is line) (if_unread d y also oth
 pub on_checked_game : (text : List ℕ) → SomeAnswer CheckGame text
 on_checked_game text =
     ⊎_elim
-    (λ (found : (f : Finding) × IsFoundIn text f).
+    (λ (found : (f : SolutionFinding) × IsFoundIn text f).
     let said = finding_said found.0 in
-    (said.0, (line_text said.1, if_found found.0 found.1 (refl, refl))))
+    (status_said said, (said_text said, if_found found.0 found.1 (refl, refl))))
     (λ (refused : (e : GameTextRefusal) × (e ≢ cause.NoMemory) × IsCheckRefusedBy text e).
     let line = game_line refused.0 refused.1 in
     (Text, (line.0, if_unread refused.0 refused.2 refl line.1)))

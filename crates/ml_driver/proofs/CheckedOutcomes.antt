@@ -9,8 +9,8 @@ use Rattle.ml_ctl.specs.declared.language.Language.TheVariants.{Ltl}
 use Rattle.ml_ctl.proofs.Parsed.{parsed_well}
 use Rattle.ml_machine_check.specs.Checked.{IsLarge, most_nodes}
 use Rattle.ml_machine_text.specs.Found.{IsFoundIn}
-use Rattle.ml_machine_text.specs.declared.finding.Finding.{Finding}
-use Rattle.ml_machine_text.specs.declared.finding.Finding.TheVariants.{ClosureTooLarge, Holds}
+use Rattle.ml_machine_text.specs.declared.finding.MachineFinding.{MachineFinding}
+use Rattle.ml_machine_text.specs.declared.finding.MachineFinding.TheVariants.{ClosureTooLarge, Holds}
 use Rattle.ml_machine_text.proofs.FewStates.{found_few}
 use Rattle.ml_machine_text.proofs.RightOutcomes.{made_small, right_fits, right_holds}
 use Rattle.ml_make.specs.Making.{IsAnswer}
@@ -27,19 +27,20 @@ use Rattle.ml_task.proofs.OneAnswer.{one_task}
 use Rattle.ml_word_automaton.specs.WordAutomaton.{start_block}
 use Rattle.ml_driver.specs.CheckedMachines.{machine_told}
 use Rattle.ml_driver.specs.Laws.{IsFoundToWork, IsLargeTask, IsLeftUnchecked, MakeIsChecked, RealizeIsChecked}
-use Rattle.ml_driver.specs.MadeTasks.{IsMadeOf}
+use Rattle.ml_driver.specs.Tasks.{IsMadeOf}
 use Rattle.ml_driver.specs.Run.{IsDue, IsWhole}
+use Rattle.ml_decide.specs.declared.way.Way.TheVariants.{Search}
 use Rattle.ml_driver.specs.declared.command.Command.TheVariants.{CheckMachine, Make}
 use Rattle.ml_driver.specs.declared.status.Status.TheVariants.{Yes, No}
 use Rattle.ml_driver.proofs.InputLimits.{answer_due}
-use Rattle.ml_driver.proofs.MadeAnswers.{makes_as_realized}
+use Rattle.ml_driver.proofs.TaskAnswers.{makes_as_realized}
 
 -- ---- the document of an outcome that is right
 
 module _ (t : Task) (r : Outcome) (out : List ℕ)
     (is : IsTask t) (well : IsWellFormed Ltl t.formula) (right : IsRight t r) (few : states_of r < 2 ^ 32)
     (written : out ≡ outcome_text t r) (whole : IsWhole out) where
-  told : (x : Finding) → IsFoundIn (outcome_text t r) x → IsDue (Some CheckMachine) out (machine_told x).0 (machine_told x).1
+  told : (x : MachineFinding) → IsFoundIn (outcome_text t r) x → IsDue (Some CheckMachine) out (machine_told x).0 (machine_told x).1
   told x found =
       inl (
         whole,
@@ -72,14 +73,14 @@ formula_well text t x = parsed_well Ltl x.formula_text t.formula x.is_parsed
 
 -- the document of an outcome that is made for the task of a text
 module _ (n : ℕ) (text out : List ℕ) (low : n < 2 ^ 32) (whole : IsWhole out)
-    (t : Task) (r : Outcome) (is : IsTaskText text t) (made : IsMadeOf t n r out) where
+    (t : Task) (r : Outcome) (is : IsTaskText text t) (made : IsMadeOf Search t n r out) where
   made_works : ¬ (IsLarge t r) → IsFoundToWork out
   made_works =
-      works t r out is.is_task (formula_well text t is) made.is_right (answer_few t n r low made.is_answer) made.is_written whole
+      works t r out is.is_task (formula_well text t is) made.is_right (answer_few t n r low made.is_found) made.is_written whole
 
   made_unchecked : IsLarge t r → IsLeftUnchecked out
   made_unchecked =
-      unchecked t r out is.is_task (formula_well text t is) made.is_right (answer_few t n r low made.is_answer) made.is_written
+      unchecked t r out is.is_task (formula_well text t is) made.is_right (answer_few t n r low made.is_found) made.is_written
       whole
 
 pub make_is_checked : MakeIsChecked
@@ -89,7 +90,7 @@ make_is_checked n text out low whole = (with_machine, with_environment, too_larg
     with_machine due =
         let x = answer_due (Make n) text Yes out (λ is. cc) due in
         made_works n text out low whole x.meant (Made x.is_so.0) x.is_meant x.is_so.1
-        (machine_small x.meant n x.is_so.0 x.is_so.1.is_answer)
+        (machine_small x.meant n x.is_so.0 x.is_so.1.is_found)
 
     with_environment : IsDue (Some (Make n)) text No out → ¬ (IsLargeTask text) → IsFoundToWork out
     with_environment due small =

@@ -13,17 +13,15 @@ use Rattle.ml_base.specs.Faults.{Rose}
 use Rattle.ml_base.specs.Whole.{AppendsPart}
 use Rattle.ml_front.specs.declared.answer.Answer.{Answer}
 use Rattle.ml_front.specs.declared.answer.Answer.TheVariants as answer
-use Rattle.ml_lines.specs.Lines.{line_text}
 use Rattle.ml_model_check.specs.declared.checked.Checked.{Checked}
 use Rattle.ml_model_check.specs.declared.checked.Checked.TheVariants as checked
 use Rattle.ml_refute_check.specs.declared.verdict.Verdict.{Verdict}
 use Rattle.ml_refute_check.specs.declared.verdict.Verdict.TheVariants as verdict
-use Rattle.ml_pgsolver.specs.declared.finding.Finding.{Finding}
-use Rattle.ml_pgsolver.specs.declared.finding.Finding.TheVariants as finding
+use Rattle.ml_pgsolver.specs.declared.finding.SolutionFinding.{SolutionFinding}
+use Rattle.ml_pgsolver.specs.declared.finding.SolutionFinding.TheVariants as finding
 use Rattle.ml_driver.specs.Confirmed.{IsConfirmed}
 use Rattle.ml_driver.specs.CheckedGames.{IsGameChecked, finding_said, if_found, if_unread}
 use Rattle.ml_driver.specs.Decision.{IsAnswered, if_open, if_refused, if_refuted, if_satisfied}
-use Rattle.ml_driver.specs.Tasks.{IsTaskAnswered}
 use Rattle.ml_driver.specs.declared.question.Question.{Question}
 use Rattle.ml_decide.specs.declared.way.Way.TheVariants.{WholeGame, Search}
 use Rattle.ml_driver.specs.declared.command.Command.{Command}
@@ -32,11 +30,13 @@ use Rattle.ml_driver.specs.declared.status.Status.{Status}
 use Rattle.ml_driver.specs.declared.status.Status.TheVariants.{Yes, No, Undecided, Text, ReadFault, WriteFault, NoMemory}
 use Rattle.ml_decide.specs.Measures.{answer_of}
 use Rattle.ml_driver.specs.Bench.{status_of}
-use Rattle.ml_driver.specs.Statuses.{length_refused, longest_input, model_said, refutation_said}
+use Rattle.ml_driver.specs.Said.{said_text, status_said}
+use Rattle.ml_driver.specs.Statuses.{longest_input, model_said, refutation_said}
+use Rattle.ml_driver.specs.declared.said.Said.TheVariants.{TooLong}
 use Rattle.ml_driver.proofs.AskedAnswers.{calm_asked}
 use Rattle.ml_driver.proofs.MachineAnswers.{calm_machine}
-use Rattle.ml_driver.proofs.MadeAnswers.{calm_made}
 use Rattle.ml_driver.proofs.PathAnswers.{calm_path}
+use Rattle.ml_driver.proofs.TaskAnswers.{calm_task}
 use Rattle.ml_driver.specs.Codes.{code_of}
 use Rattle.ml_driver.specs.Run.{asked, input_limit, GaveUpTo, IsAnswer, IsCalm, IsDue, LackedMemory}
 use Rattle.ml_driver.specs.Run.{World, IsWithin, WasGiven, IsWhole, Answered, FailedToWrite, Ended, Wrote}
@@ -48,7 +48,7 @@ calm_status answer.Satisfiable s is = omega (arith, ap code_of is)
 calm_status answer.Unsatisfiable s is = omega (arith, ap code_of is)
 calm_status answer.Undecided s is = omega (arith, ap code_of is)
 
-calm_check : (c : Checked) (s : Status) → s ≡ (model_said c).0 → code_of s ≤ 4
+calm_check : (c : Checked) (s : Status) → s ≡ status_said (model_said c) → code_of s ≤ 4
 calm_check checked.Holds s is = omega (arith, ap code_of is)
 calm_check checked.Fails s is = omega (arith, ap code_of is)
 calm_check checked.ClosureTooLarge s is = omega (arith, ap code_of is)
@@ -56,7 +56,7 @@ calm_check (checked.NotTotal state) s is = omega (arith, ap code_of is)
 calm_check (checked.NotAWord state) s is = omega (arith, ap code_of is)
 calm_check (checked.Unreadable fault) s is = omega (arith, ap code_of is)
 
-calm_verdict : (v : Verdict) (s : Status) → s ≡ (refutation_said v).0 → code_of s ≤ 4
+calm_verdict : (v : Verdict) (s : Status) → s ≡ status_said (refutation_said v) → code_of s ≤ 4
 calm_verdict verdict.Accepted s is = omega (arith, ap code_of is)
 calm_verdict (verdict.Rejected line rule) s is = omega (arith, ap code_of is)
 calm_verdict (verdict.Unreadable fault) s is = omega (arith, ap code_of is)
@@ -71,14 +71,7 @@ calm_answered q text s out (if_refuted is x) = yes_or_no q.negated s Yes No (ome
 calm_answered q text s out (if_open is x) = omega (arith, ap code_of is)
 calm_answered q text s out (if_refused is x) = omega (arith, ap code_of is)
 
-calm_task : (n : ℕ) (text : List ℕ) (s : Status) (out : List ℕ) → IsTaskAnswered n text s out → code_of s ≤ 4
-calm_task n text Yes out x = omega arith
-calm_task n text No out x = omega arith
-calm_task n text Undecided out x = omega arith
-calm_task n text Text out x = omega arith
-calm_task n text _ out x = absurd x.is_so
-
-calm_finding : (f : Finding) (s : Status) → s ≡ (finding_said f).0 → code_of s ≤ 4
+calm_finding : (f : SolutionFinding) (s : Status) → s ≡ status_said (finding_said f) → code_of s ≤ 4
 calm_finding finding.Accepted s is = omega (arith, ap code_of is)
 calm_finding (finding.Rejected id rule) s is = omega (arith, ap code_of is)
 
@@ -98,8 +91,8 @@ calm_answer CheckGame text s out x = calm_game text s out x
 calm_answer Path text s out x = calm_path x.finding s x.status_is
 calm_answer CheckMachine text s out x = calm_machine x.finding s x.status_is
 calm_answer (Ask f n) text s out x = calm_asked x.told s x.status_is
-calm_answer (Make n) text s out x = calm_made n text s out x
-calm_answer (Realize n) text s out x = calm_task n text s out x
+calm_answer (Make n) text s out x = calm_task Search n text s out x
+calm_answer (Realize n) text s out x = calm_task WholeGame n text s out x
 calm_answer (Bench f n) text s out x = calm_status (answer_of x.finding) s x.status_is
 calm_answer c text Yes out x = omega arith
 calm_answer c text Undecided out x = omega arith
@@ -173,7 +166,7 @@ ended_with c d w status same ended = subst (λ k. Ended k w status) (sym same) e
 pub too_long_due : (c : Command) (k : ℕ) (text : List ℕ)
     → longest_input c ≡ Some k
     → k < length text
-    → IsDue (Some c) text length_refused.0 (line_text length_refused.1)
+    → IsDue (Some c) text Text (said_text TooLong)
 too_long_due c k text is long =
     let past : length text ≤ k → ⊥ = λ short. absurd (omega (arith, long, short)) in
     inr ((λ within. past (subst (λ o. IfSome o (λ n. length text ≤ n)) is within)), (refl, refl))

@@ -13,15 +13,16 @@ use Rattle.ml_front.specs.Logics.{logic_named}
 use Rattle.ml_gen.specs.FamilyRanges.{family_named, is_in_range}
 use Rattle.ml_gen.specs.declared.family.Family.{Family}
 use Rattle.ml_front.specs.declared.logic.Logic.{Logic}
+use Rattle.ml_ask_text.specs.declared.told.Form.{Form}
 use Rattle.ml_ask_text.specs.declared.told.Form.TheVariants.{Lines, Files}
 use Rattle.ml_driver.specs.declared.command.Command.{Command}
-use Rattle.ml_driver.specs.declared.command.Command.TheVariants.{Decide, Valid, Find, Prove, CheckModel, CheckRefutation, Migrate, Quotient, SolveGame, CheckGame, Path, CheckMachine, Determinise, Automaton, Realize, Make, Ask, Gen, Bench}
 use Rattle.ml_driver.specs.declared.command.TheConstants.{GREATEST_LIMIT, LONGEST_NUMBER}
 use Rattle.ml_driver.specs.declared.engine.Engine.{Engine}
 use Rattle.ml_driver.specs.Games.{engine_named}
 use Rattle.ml_driver.specs.Laws.{HasFitNumbers}
-use Rattle.ml_driver.specs.Words.{about, alone, asked_by, at_least_one, bare_by, command_of, count_named, counted_by, decided_by, digit_on, faults_of, filed_by, if_faultless, solved_by}
-use Rattle.ml_driver.specs.Words.{if_in_range, is_digit, limit_named, number_named, parts_in, row, row_of, rows_in, unlimited, value_from}
+use Rattle.ml_driver.specs.Words.{about_logic, alone, by_engine, limited, of_family, with_files}
+use Rattle.ml_driver.specs.Words.{Shape, at_least_one, command_by, command_of, count_named, digit_on, faults_of, if_faultless, if_in_range}
+use Rattle.ml_driver.specs.Words.{is_digit, limit_named, number_named, parts_in, row, row_of, rows_in, shape_in, table, value_from}
 
 -- what a test lets through
 passed : (t : Bool) (x n : ℕ) → (if t then Some x else None) ≡ Some n → (t ≡ true) × (x ≡ n)
@@ -65,136 +66,143 @@ limit_small (Some w) n e = by_test (nat_le 1 (length w) && nat_le (length w) LON
 
 -- ---- the table
 
-decided_fits : (w : Word) (l : Logic) (n : ℕ) → n < 2 ^ 32 → HasFitNumbers (decided_by w l n)
-decided_fits w l n small =
-    by_words (bytes_eq w (codes "decide")) (bytes_eq w (codes "valid")) (bytes_eq w (codes "find"))
-    (bytes_eq w (codes "prove"))
-  where
-    by_words : (a b c d : Bool)
-        → HasFitNumbers (if a then Some (Decide l n)
-        else (if b then Some (Valid l n)
-        else (if c then Some (Find l n) else (if d then Some (Prove l n) else None))))
-    by_words true b c d = small
-    by_words false true c d = small
-    by_words false false true d = small
-    by_words false false false true = small
-    by_words false false false false = tt
+-- a shape gives commands whose numbers are fit
+abbrev IsFit : Shape → Type 0
+IsFit (alone c) = HasFitNumbers (Some c)
+IsFit (limited c) = (n : ℕ) → n < 2 ^ 32 → HasFitNumbers (Some (c n))
+IsFit (about_logic c) = (l : Logic) (n : ℕ) → n < 2 ^ 32 → HasFitNumbers (Some (c l n))
+IsFit (with_files c) = (f : Form) (n : ℕ) → n < 2 ^ 32 → HasFitNumbers (Some (c f n))
+IsFit (by_engine c) = (e : Engine) → HasFitNumbers (Some (c e))
+IsFit (of_family c) = (f : Family) (n : ℕ) → is_in_range f n ≡ true → HasFitNumbers (Some (c f n))
 
-bare_fits : (w : Word) → HasFitNumbers (bare_by w)
-bare_fits w =
-    by_words (bytes_eq w (codes "check-model")) (bytes_eq w (codes "check-refutation")) (bytes_eq w (codes "migrate"))
-    (bytes_eq w (codes "quotient")) (bytes_eq w (codes "check-game")) (bytes_eq w (codes "path"))
-    (bytes_eq w (codes "check-machine"))
-  where
-    by_words : (a b c d e f g : Bool)
-        → HasFitNumbers (if a then Some CheckModel
-        else (if b then Some CheckRefutation
-        else (if c then Some Migrate
-        else (if d then Some Quotient
-        else (if e then Some CheckGame else (if f then Some Path else (if g then Some CheckMachine else None)))))))
-    by_words true b c d e f g = tt
-    by_words false true c d e f g = tt
-    by_words false false true d e f g = tt
-    by_words false false false true e f g = tt
-    by_words false false false false true f g = tt
-    by_words false false false false false true g = tt
-    by_words false false false false false false true = tt
-    by_words false false false false false false false = tt
+limited_fits : (c : ℕ → Command) → ((n : ℕ) → n < 2 ^ 32 → HasFitNumbers (Some (c n))) → (limit : Option Word) (o : Option ℕ)
+    → limit_named limit ≡ o
+    → HasFitNumbers (option_map c o)
+limited_fits c fit limit None is = tt
+limited_fits c fit limit (Some n) is = fit n (limit_small limit n is)
 
-counted_fits : (w : Word) (f : Family) (n : ℕ) → is_in_range f n ≡ true → HasFitNumbers (counted_by w f n)
-counted_fits w f n inside = by_words (bytes_eq w (codes "gen")) (bytes_eq w (codes "bench"))
-  where
-    by_words : (a b : Bool)
-        → HasFitNumbers (if a then Some (Gen f n) else (if b then Some (Bench f n) else None))
-    by_words true b = tt
-    by_words false true = inside
-    by_words false false = tt
+logic_fits : (c : Logic → ℕ → Command) → IsFit (about_logic c) → (limit : Option Word) (o : Option Logic)
+    → HasFitNumbers (option_and_then (λ (l : Logic). option_map (c l) (limit_named limit)) o)
+logic_fits c fit limit None = tt
+logic_fits c fit limit (Some l) = limited_fits (c l) (fit l) limit (limit_named limit) refl
 
-of_number : (w : Word) (f : Family) (o : Option ℕ)
-    → HasFitNumbers (option_and_then (counted_by w f) (option_and_then (if_in_range f) o))
-of_number w f None = tt
-of_number w f (Some n) = by_range (is_in_range f n) refl
+files_fit : (c : Form → ℕ → Command) → IsFit (with_files c) → (limit : Option Word) (t : Bool)
+    → HasFitNumbers (if t then option_map (c Files) (limit_named limit) else None)
+files_fit c fit limit true = limited_fits (c Files) (fit Files) limit (limit_named limit) refl
+files_fit c fit limit false = tt
+
+engine_fits : (c : Engine → Command) → IsFit (by_engine c) → (o : Option Engine) → HasFitNumbers (option_map c o)
+engine_fits c fit None = tt
+engine_fits c fit (Some e) = fit e
+
+number_fits : (c : ℕ → Command) (f : Family) → ((n : ℕ) → is_in_range f n ≡ true → HasFitNumbers (Some (c n))) → (o : Option ℕ)
+    → HasFitNumbers (option_map c (option_and_then (if_in_range f) o))
+number_fits c f fit None = tt
+number_fits c f fit (Some n) = by_range (is_in_range f n) refl
   where
-    by_range : (t : Bool)
-        → is_in_range f n ≡ t
-        → HasFitNumbers (option_and_then (counted_by w f) (if t then Some n else None))
-    by_range true is = counted_fits w f n is
+    by_range : (t : Bool) → is_in_range f n ≡ t → HasFitNumbers (option_map c (if t then Some n else None))
+    by_range true is = fit n is
     by_range false is = tt
 
-of_family : (w count : Word) (o : Option Family)
-    → HasFitNumbers (option_and_then (λ (f : Family). option_and_then (counted_by w f) (count_named f count)) o)
-of_family w count None = tt
-of_family w count (Some f) = of_number w f (number_named count)
+family_fits : (c : Family → ℕ → Command) → IsFit (of_family c) → (count : Word) (o : Option Family)
+    → HasFitNumbers (option_and_then (λ (f : Family). option_map (c f) (count_named f count)) o)
+family_fits c fit count None = tt
+family_fits c fit count (Some f) = number_fits (c f) f (fit f) (number_named count)
 
-of_limit : (w : Word) (l : Logic) (limit : Option Word) (o : Option ℕ) → limit_named limit ≡ o
-    → HasFitNumbers (option_and_then (decided_by w l) o)
-of_limit w l limit None is = tt
-of_limit w l limit (Some n) is = decided_fits w l n (limit_small limit n is)
+shape_fits : (x : Shape) → IsFit x → (subject count limit : Option Word) → HasFitNumbers (command_by x subject count limit)
+shape_fits (alone c) fit None None None = fit
+shape_fits (alone c) fit None None (Some limit) = tt
+shape_fits (alone c) fit None (Some count) limit = tt
+shape_fits (alone c) fit (Some subject) count limit = tt
+shape_fits (limited c) fit None None limit = limited_fits c fit limit (limit_named limit) refl
+shape_fits (limited c) fit None (Some count) limit = tt
+shape_fits (limited c) fit (Some subject) count limit = tt
+shape_fits (about_logic c) fit (Some subject) None limit = logic_fits c fit limit (logic_named subject)
+shape_fits (about_logic c) fit (Some subject) (Some count) limit = tt
+shape_fits (about_logic c) fit None count limit = tt
+shape_fits (with_files c) fit None None limit = limited_fits (c Lines) (fit Lines) limit (limit_named limit) refl
+shape_fits (with_files c) fit None (Some count) limit = tt
+shape_fits (with_files c) fit (Some subject) None limit = files_fit c fit limit (bytes_eq subject (codes "files"))
+shape_fits (with_files c) fit (Some subject) (Some count) limit = tt
+shape_fits (by_engine c) fit (Some subject) None None = engine_fits c fit (engine_named subject)
+shape_fits (by_engine c) fit (Some subject) None (Some limit) = tt
+shape_fits (by_engine c) fit (Some subject) (Some count) limit = tt
+shape_fits (by_engine c) fit None count limit = tt
+shape_fits (of_family c) fit (Some subject) (Some count) None = family_fits c fit count (family_named subject)
+shape_fits (of_family c) fit (Some subject) (Some count) (Some limit) = tt
+shape_fits (of_family c) fit (Some subject) None limit = tt
+shape_fits (of_family c) fit None count limit = tt
 
-of_logic : (w : Word) (limit : Option Word) (o : Option Logic)
-    → HasFitNumbers (option_and_then (λ (l : Logic). option_and_then (decided_by w l) (limit_named limit)) o)
-of_logic w limit None = tt
-of_logic w limit (Some l) = of_limit w l limit (limit_named limit) refl
+abbrev AreFit : List (Word × Shape) → Type 0
+AreFit [] = Unit {0}
+AreFit (r ∷ rows) = IsFit r.1 × AreFit rows
 
-solved_fits : (subject : Word) (limit : Option Word) → HasFitNumbers (solved_by subject limit)
-solved_fits subject (Some limit) = tt
-solved_fits subject None = by_engine (engine_named subject)
+rows_fit : (rows : List (Word × Shape)) → AreFit rows → (w : Word) (subject count limit : Option Word)
+    → HasFitNumbers (option_and_then (λ (x : Shape). command_by x subject count limit) (shape_in rows w))
+rows_fit [] fit w subject count limit = tt
+rows_fit (r ∷ rows) fit w subject count limit = by_word (bytes_eq w r.0) (rows_fit rows fit.1 w subject count limit)
   where
-    by_engine : (e : Option Engine) → HasFitNumbers (option_map SolveGame e)
-    by_engine None = tt
-    by_engine (Some e) = tt
+    by_word : (t : Bool)
+        → HasFitNumbers (option_and_then (λ (x : Shape). command_by x subject count limit) (shape_in rows w))
+        → HasFitNumbers
+        (option_and_then (λ (x : Shape). command_by x subject count limit) (if t then Some r.1 else shape_in rows w))
+    by_word true later = shape_fits r.1 fit.0 subject count limit
+    by_word false later = later
 
-filed_fits : (subject : Word) (limit : Option Word) → HasFitNumbers (filed_by subject limit)
-filed_fits subject limit = by_word (bytes_eq subject (codes "files")) (limit_named limit) refl
-  where
-    by_word : (t : Bool) (n : Option ℕ)
-        → limit_named limit ≡ n
-        → HasFitNumbers (if t then option_map (Ask Files) n else None)
-    by_word true None is = tt
-    by_word true (Some n) is = limit_small limit n is
-    by_word false n is = tt
-
-about_fits : (w subject : Word) (limit : Option Word) → HasFitNumbers (about w subject limit)
-about_fits w subject limit = by_word (bytes_eq w (codes "solve-game")) (bytes_eq w (codes "ask"))
-  where
-    by_word : (t s : Bool)
-        → HasFitNumbers (if t then solved_by subject limit
-        else (if s then filed_by subject limit else asked_by w subject limit))
-    by_word true s = solved_fits subject limit
-    by_word false true = filed_fits subject limit
-    by_word false false = of_logic w limit (logic_named subject)
-
-alone_fits : (w : Word) (limit : Option Word) → HasFitNumbers (alone w limit)
-alone_fits w limit =
-    by_word (bytes_eq w (codes "determinise")) (bytes_eq w (codes "realize")) (bytes_eq w (codes "automaton"))
-    (bytes_eq w (codes "make")) (bytes_eq w (codes "ask")) limit (limit_named limit) refl
-  where
-    by_word : (t s r q p : Bool) (limit : Option Word) (n : Option ℕ)
-        → limit_named limit ≡ n
-        → HasFitNumbers (if t then option_map Determinise n
-        else (if s then option_map Realize n
-        else (if r then option_map Automaton n
-        else (if q then option_map Make n
-        else (if p then option_map (Ask Lines) n else unlimited w limit)))))
-    by_word true s r q p limit None is = tt
-    by_word true s r q p limit (Some n) is = tt
-    by_word false true r q p limit None is = tt
-    by_word false true r q p limit (Some n) is = tt
-    by_word false false true q p limit None is = tt
-    by_word false false true q p limit (Some n) is = tt
-    by_word false false false true p limit None is = tt
-    by_word false false false true p limit (Some n) is = tt
-    by_word false false false false true limit None is = tt
-    by_word false false false false true limit (Some n) is = limit_small limit n is
-    by_word false false false false false None n is = bare_fits w
-    by_word false false false false false (Some word) n is = tt
+table_fits : AreFit table
+unfolding table
+table_fits = (
+  λ l n small. small,
+  (
+    λ l n small. small,
+    (
+      λ l n small. small,
+      (
+        λ l n small. small,
+        (
+          λ f n small. small,
+          (
+            tt,
+            (
+              tt,
+              (
+                tt,
+                (
+                  tt,
+                  (
+                    tt,
+                    (
+                      λ e. tt,
+                      (
+                        tt,
+                        (
+                          λ n small. tt,
+                          (
+                            λ n small. tt,
+                            (
+                              λ n small. tt,
+                              (
+                                λ n small. tt,
+                                (tt, (λ f n inside. tt, (λ f n inside. inside, tt))),
+                              ),
+                            ),
+                          ),
+                        ),
+                      ),
+                    ),
+                  ),
+                ),
+              ),
+            ),
+          ),
+        ),
+      ),
+    ),
+  ),
+)
 
 row_fits : (command subject count limit : Option Word) → HasFitNumbers (row_of command subject count limit)
-row_fits (Some w) (Some subject) None limit = about_fits w subject limit
-row_fits (Some w) (Some subject) (Some count) None = of_family w count (family_named subject)
-row_fits (Some w) (Some subject) (Some count) (Some limit) = tt
-row_fits (Some w) None None limit = alone_fits w limit
-row_fits (Some w) None (Some count) limit = tt
+row_fits (Some w) subject count limit = rows_fit table table_fits w subject count limit
 row_fits None subject count limit = tt
 
 faultless_fits : (ks : Kinds) (c : Option Command) → HasFitNumbers c → HasFitNumbers (if_faultless ks c)

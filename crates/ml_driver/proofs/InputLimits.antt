@@ -7,9 +7,10 @@
 --   alike_due       == two things that are due are both answers, or the same line
 use Rattle.std.proofs.Common.{◌≡◌, ◌≢◌, ℕ, ◌<◌, ◌≤◌, ◌⊎◌, List, length, Option, Some, None, IfSome, refl, sym, subst, ◌∙◌, inl, inr, ⊎_elim, arith}
 use Rattle.std.proofs.lemmas.Bool.{cases_lt}
-use Rattle.ml_lines.specs.Lines.{line_text}
 use Rattle.ml_driver.specs.Run.{IsAnswer, IsDue, IsWithin}
-use Rattle.ml_driver.specs.Statuses.{length_refused, longest_input}
+use Rattle.ml_driver.specs.Said.{said_text}
+use Rattle.ml_driver.specs.Statuses.{longest_input}
+use Rattle.ml_driver.specs.declared.said.Said.TheVariants.{TooLong}
 use Rattle.ml_driver.specs.declared.command.Command.{Command}
 use Rattle.ml_driver.specs.declared.status.Status.{Status}
 use Rattle.ml_driver.specs.declared.status.Status.TheVariants.{Text}
@@ -34,7 +35,7 @@ Due c text = (s : Status) × ((out : List ℕ) × IsDue c text s out)
 pub some_due_for : (c : Command) (text : List ℕ) → SomeAnswer c text → Due (Some c) text
 some_due_for c text a =
     ⊎_elim (λ (within : IsWithin c text). (a.0, (a.1.0, inl (within, a.1.1))))
-    (λ (past : ¬ (IsWithin c text)). (length_refused.0, (line_text length_refused.1, inr (past, (refl, refl)))))
+    (λ (past : ¬ (IsWithin c text)). (Text, (said_text TooLong, inr (past, (refl, refl)))))
     (within_or_past c text)
 
 pub answer_due : (c : Command) (text : List ℕ) (s : Status) (out : List ℕ) → s ≢ Text

@@ -2,10 +2,14 @@
 pub mod InputLimits
 -- how a call ends
 pub mod Endings
+-- what a call gives back beside its status
+pub mod ToldCalls
 -- a decision is what is due
 pub mod Answered
 -- the words as they are taken apart
 pub mod FoundWords
+-- the first words of commands in their table
+pub mod NamedVerbs
 -- what is due for `solve-game`
 pub mod GameAnswers
 -- how long the text of a solution is at most
@@ -18,12 +22,10 @@ pub mod AutomatonAnswers
 pub mod PathAnswers
 -- what is due for `check-machine`
 pub mod MachineAnswers
--- what is due for `realize`
+-- what is due for `realize` and `make`
 pub mod TaskAnswers
 -- what is due for `ask`
 pub mod AskedAnswers
--- what is due for `make`
-pub mod MadeAnswers
 -- what `check-machine` answers of what is due for `realize` and `make`
 pub mod CheckedOutcomes
 -- what is due for `path`, beside what is due for `check-model`

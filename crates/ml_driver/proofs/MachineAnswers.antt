@@ -7,8 +7,8 @@
 use Rattle.std.proofs.Common.{◌≡◌, ℕ, ◌≤◌, List, Some, Result, Ok, Err, IfOk, refl, sym, ap, subst, ◌∙◌, arith}
 use Rattle.ml_machine_text.specs.Found.{IsConfirmed as IsFoundConfirmed}
 use Rattle.ml_machine_text.specs.Laws.{AreAlike}
-use Rattle.ml_machine_text.specs.declared.finding.Finding.{Finding}
-use Rattle.ml_machine_text.specs.declared.finding.Finding.TheVariants.{ClosureTooLarge, Fails, Holds, Unreadable}
+use Rattle.ml_machine_text.specs.declared.finding.MachineFinding.{MachineFinding}
+use Rattle.ml_machine_text.specs.declared.finding.MachineFinding.TheVariants.{ClosureTooLarge, Fails, Holds, Unreadable}
 use Rattle.ml_machine_text.proofs.OneFinding.{one_finding, some_finding}
 use Rattle.ml_driver.specs.Codes.{code_of}
 use Rattle.ml_driver.specs.CheckedMachines.{IsMachineTold, machine_told}
@@ -16,7 +16,7 @@ use Rattle.ml_driver.specs.Confirmed.{IsConfirmed}
 use Rattle.ml_driver.specs.declared.command.Command.TheVariants.{CheckMachine}
 use Rattle.ml_driver.specs.declared.status.Status.{Status}
 
-alike_told : (x y : Finding) → AreAlike x y → (machine_told x).0 ≡ (machine_told y).0
+alike_told : (x y : MachineFinding) → AreAlike x y → (machine_told x).0 ≡ (machine_told y).0
 alike_told (Fails a) (Fails b) alike = refl
 alike_told x y alike = ap (λ z. (machine_told z).0) alike
 
@@ -29,7 +29,7 @@ one_machine_told text s t out more x y =
     ∙ alike_told x.finding y.finding (one_finding text x.finding y.finding x.is_found y.is_found)
     ∙ sym y.status_is
 
-pub calm_machine : (x : Finding) (s : Status) → s ≡ (machine_told x).0 → code_of s ≤ 4
+pub calm_machine : (x : MachineFinding) (s : Status) → s ≡ (machine_told x).0 → code_of s ≤ 4
 calm_machine Holds s is = omega (arith, ap code_of is)
 calm_machine (Fails document) s is = omega (arith, ap code_of is)
 calm_machine ClosureTooLarge s is = omega (arith, ap code_of is)
@@ -45,13 +45,13 @@ on_machine text =
 
 -- ---- what is confirmed
 
-confirmed_as : (x : Finding) → IsFoundConfirmed x → IsConfirmed (Some CheckMachine) (machine_told x).0 (machine_told x).1
+confirmed_as : (x : MachineFinding) → IsFoundConfirmed x → IsConfirmed (Some CheckMachine) (machine_told x).0 (machine_told x).1
 confirmed_as Holds x = tt
 confirmed_as (Fails document) x = record { document = document; stands = refl; holds = x }
 confirmed_as ClosureTooLarge x = tt
 confirmed_as (Unreadable fault) x = tt
 
-pub word_confirmed : (x : Finding) (s : Status) (out : List ℕ)
+pub word_confirmed : (x : MachineFinding) (s : Status) (out : List ℕ)
     → s ≡ (machine_told x).0
     → out ≡ (machine_told x).1
     → IsFoundConfirmed x
@@ -61,7 +61,7 @@ word_confirmed x s out status_is written confirmed =
     (subst (IsConfirmed (Some CheckMachine) (machine_told x).0) (sym written) (confirmed_as x confirmed))
 
 -- so it is of what comes of a call
-pub confirmed_if_ok : {X Y : Type 0} (x : Finding) (r : Result X Y) (status : X → Status) (bytes : X → List ℕ)
+pub confirmed_if_ok : {X Y : Type 0} (x : MachineFinding) (r : Result X Y) (status : X → Status) (bytes : X → List ℕ)
     → IfOk r (λ o. status o ≡ (machine_told x).0)
     → IfOk r (λ o. bytes o ≡ (machine_told x).1)
     → IsFoundConfirmed x

@@ -19,6 +19,7 @@ use Rattle.ml_model_check.proofs.OneCheck.{one_check}
 use Rattle.ml_driver.specs.declared.command.Command.TheVariants.{Decide, Valid, Find, Prove, CheckModel, CheckRefutation, Migrate, Quotient, SolveGame, CheckGame, Path, CheckMachine, Determinise, Automaton, Realize, Make, Ask, Gen, Bench}
 use Rattle.ml_driver.specs.declared.status.Status.{Status}
 use Rattle.ml_driver.specs.declared.status.Status.TheVariants.{Yes, Undecided, Text}
+use Rattle.ml_driver.specs.Said.{status_said}
 use Rattle.ml_driver.specs.Statuses.{IsUnreadable, longest_input, model_said, refusal_line, refutation_said}
 use Rattle.ml_driver.specs.Run.{IsAnswer, IsChecked, IsDue, IsJudged, asked}
 use Rattle.ml_driver.specs.declared.command.Command.{Command}
@@ -40,8 +41,7 @@ use Rattle.ml_driver.proofs.QuotientAnswers.{one_quotient_answer}
 use Rattle.ml_driver.proofs.PathAnswers.{one_path_told}
 use Rattle.ml_driver.proofs.MachineAnswers.{one_machine_told}
 use Rattle.ml_driver.proofs.AskedAnswers.{asked_agree}
-use Rattle.ml_driver.proofs.MadeAnswers.{made_agree}
-use Rattle.ml_driver.proofs.TaskAnswers.{one_told}
+use Rattle.ml_driver.proofs.TaskAnswers.{one_told, tasks_agree}
 use Rattle.ml_driver.proofs.TranslationAnswers.{one_translated}
 use Rattle.ml_driver.specs.Laws.{AgreeUnlessOpen, AnswersAreExact, OneDue, OneMeasure, OneUnlessOpen, open_at, satisfiable_at, searches, unsatisfiable_at}
 
@@ -137,12 +137,12 @@ answers_agree q text s t out more x y =
 
 one_checked : (text : List ℕ) (s t : Status) (out more : List ℕ) → IsChecked text s out → IsChecked text t more → s ≡ t
 one_checked text s t out more x y =
-    x.is_said.0 ∙ ap (λ c. (model_said c).0) (one_check text x.finding y.finding x.is_found y.is_found) ∙ sym y.is_said.0
+    x.is_said.0 ∙ ap (λ c. status_said (model_said c)) (one_check text x.finding y.finding x.is_found y.is_found) ∙ sym y.is_said.0
 
 one_judged : (text : List ℕ) (s t : Status) (out more : List ℕ) → IsJudged text s out → IsJudged text t more → s ≡ t
 one_judged text s t out more x y =
     x.is_said.0
-    ∙ ap (λ v. (refutation_said v).0) (one_verdict text x.finding y.finding x.is_found y.is_found)
+    ∙ ap (λ v. status_said (refutation_said v)) (one_verdict text x.finding y.finding x.is_found y.is_found)
     ∙ sym y.is_said.0
 
 migrated_refused : (text out more : List ℕ) → IsMigrated text out
@@ -231,7 +231,7 @@ by_searching (Some (Find l n)) text s t out more true is x y =
 by_searching (Some (Prove l n)) text s t out more true is x y =
     searched_alike (Prove l n) text s t out more (answers_agree (asked true Search l n) text s t out more) x y
 by_searching (Some (Make n)) text s t out more true is x y =
-    searched_alike (Make n) text s t out more (made_agree n text s t out more) x y
+    searched_alike (Make n) text s t out more (tasks_agree Search n text s t out more) x y
 by_searching (Some (Ask f n)) text s t out more true is x y =
     searched_alike (Ask f n) text s t out more (asked_agree f n text s t out more) x y
 by_searching _ text s t out more true is x y = absurd (cc)

@@ -7,8 +7,8 @@
 use Rattle.std.proofs.Common.{◌≡◌, ℕ, ◌≤◌, List, Some, Result, Ok, Err, IfOk, refl, sym, ap, subst, ◌∙◌, arith}
 use Rattle.ml_path_text.specs.Found.{IsConfirmed as IsFoundConfirmed}
 use Rattle.ml_path_text.specs.Laws.{AreAlike}
-use Rattle.ml_path_text.specs.declared.finding.Finding.{Finding}
-use Rattle.ml_path_text.specs.declared.finding.Finding.TheVariants.{ClosureTooLarge, NoPath, NotAWord, NotTotal, Path, Unreadable}
+use Rattle.ml_path_text.specs.declared.finding.PathFinding.{PathFinding}
+use Rattle.ml_path_text.specs.declared.finding.PathFinding.TheVariants.{ClosureTooLarge, NoPath, NotAWord, NotTotal, Path, Unreadable}
 use Rattle.ml_path_text.proofs.OneFinding.{one_finding, some_finding}
 use Rattle.ml_driver.specs.Codes.{code_of}
 use Rattle.ml_driver.specs.Confirmed.{IsConfirmed}
@@ -16,7 +16,7 @@ use Rattle.ml_driver.specs.Paths.{IsPathTold, path_told}
 use Rattle.ml_driver.specs.declared.command.Command.TheVariants as command
 use Rattle.ml_driver.specs.declared.status.Status.{Status}
 
-alike_told : (x y : Finding) → AreAlike x y → (path_told x).0 ≡ (path_told y).0
+alike_told : (x y : PathFinding) → AreAlike x y → (path_told x).0 ≡ (path_told y).0
 alike_told (Path a) (Path b) alike = refl
 alike_told x y alike = ap (λ z. (path_told z).0) alike
 
@@ -27,7 +27,7 @@ one_path_told text s t out more x y =
     ∙ alike_told x.finding y.finding (one_finding text x.finding y.finding x.is_found y.is_found)
     ∙ sym y.status_is
 
-pub calm_path : (x : Finding) (s : Status) → s ≡ (path_told x).0 → code_of s ≤ 4
+pub calm_path : (x : PathFinding) (s : Status) → s ≡ (path_told x).0 → code_of s ≤ 4
 calm_path (Path written) s is = omega (arith, ap code_of is)
 calm_path NoPath s is = omega (arith, ap code_of is)
 calm_path ClosureTooLarge s is = omega (arith, ap code_of is)
@@ -45,7 +45,7 @@ on_path text =
 
 -- ---- what is confirmed
 
-confirmed_as : (x : Finding) → IsFoundConfirmed x → IsConfirmed (Some command.Path) (path_told x).0 (path_told x).1
+confirmed_as : (x : PathFinding) → IsFoundConfirmed x → IsConfirmed (Some command.Path) (path_told x).0 (path_told x).1
 confirmed_as (Path written) (l, document, is, holds) = (l, record { document = document; stands = is; holds = holds })
 confirmed_as NoPath x = tt
 confirmed_as ClosureTooLarge x = tt
@@ -53,7 +53,7 @@ confirmed_as (NotTotal state) x = tt
 confirmed_as (NotAWord state) x = tt
 confirmed_as (Unreadable fault) x = tt
 
-pub path_confirmed : (x : Finding) (s : Status) (out : List ℕ)
+pub path_confirmed : (x : PathFinding) (s : Status) (out : List ℕ)
     → s ≡ (path_told x).0
     → out ≡ (path_told x).1
     → IsFoundConfirmed x
@@ -63,7 +63,7 @@ path_confirmed x s out status_is written confirmed =
     (subst (IsConfirmed (Some command.Path) (path_told x).0) (sym written) (confirmed_as x confirmed))
 
 -- so it is of what comes of a call
-pub confirmed_if_ok : {X Y : Type 0} (x : Finding) (r : Result X Y) (status : X → Status) (bytes : X → List ℕ)
+pub confirmed_if_ok : {X Y : Type 0} (x : PathFinding) (r : Result X Y) (status : X → Status) (bytes : X → List ℕ)
     → IfOk r (λ o. status o ≡ (path_told x).0)
     → IfOk r (λ o. bytes o ≡ (path_told x).1)
     → IsFoundConfirmed x

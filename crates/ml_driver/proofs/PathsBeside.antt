@@ -6,20 +6,21 @@ use Rattle.std.proofs.Common.{ℕ, ◌≡◌, ◌≢◌, ◌↔◌, ◌∙◌, L
 use Rattle.ml_model_check.specs.declared.checked.Checked.{Checked}
 use Rattle.ml_model_check.specs.declared.checked.Checked.TheVariants as checked
 use Rattle.ml_path_text.specs.Laws.{IsPath, NeitherIsLarge}
-use Rattle.ml_path_text.specs.declared.finding.Finding.{Finding}
-use Rattle.ml_path_text.specs.declared.finding.Finding.TheVariants.{ClosureTooLarge, NoPath, NotAWord, NotTotal, Path, Unreadable}
+use Rattle.ml_path_text.specs.declared.finding.PathFinding.{PathFinding}
+use Rattle.ml_path_text.specs.declared.finding.PathFinding.TheVariants.{ClosureTooLarge, NoPath, NotAWord, NotTotal, Path, Unreadable}
 use Rattle.ml_path_text.proofs.BesideChecking.{found_where_it_fails, found_where_it_holds}
 use Rattle.ml_driver.specs.Codes.{code_of}
 use Rattle.ml_driver.specs.Laws.{PathsShowWhatFails, PathsShowWhatHolds}
 use Rattle.ml_driver.specs.Paths.{IsPathTold, path_told}
 use Rattle.ml_driver.specs.Run.{IsChecked}
+use Rattle.ml_driver.specs.Said.{status_said}
 use Rattle.ml_driver.specs.Statuses.{model_said}
 use Rattle.ml_driver.specs.declared.status.Status.{Status}
 use Rattle.ml_driver.specs.declared.status.Status.TheVariants.{Yes, No, Undecided, Text}
 
 -- a status that goes with what is found tells it
 
-path_yes : (x : Finding) (s : Status) → s ≡ (path_told x).0 → (s ≡ Yes) ↔ IsPath x
+path_yes : (x : PathFinding) (s : Status) → s ≡ (path_told x).0 → (s ≡ Yes) ↔ IsPath x
 path_yes (Path written) s is = (λ yes. tt, λ path. is)
 path_yes NoPath s is = (λ yes. absurd (omega (arith, ap code_of (sym is ∙ yes))), λ path. absurd path)
 path_yes ClosureTooLarge s is = (λ yes. absurd (omega (arith, ap code_of (sym is ∙ yes))), λ path. absurd path)
@@ -28,7 +29,7 @@ path_yes (NotAWord state) s is = (λ yes. absurd (omega (arith, ap code_of (sym 
 path_yes (Unreadable fault) s is = (λ yes. absurd (omega (arith, ap code_of (sym is ∙ yes))), λ path. absurd path)
 
 abbrev code_said : Checked → ℕ
-code_said c = code_of (model_said c).0
+code_said c = code_of (status_said (model_said c))
 
 holds_said : (c : Checked) → code_said c ≡ 0 → c ≡ checked.Holds
 holds_said checked.Holds is = refl
@@ -38,16 +39,16 @@ fails_said : (c : Checked) → code_said c ≡ 1 → c ≡ checked.Fails
 fails_said checked.Fails is = refl
 fails_said c is = absurd (omega (arith, is))
 
-checked_yes : (c : Checked) (t : Status) → t ≡ (model_said c).0 → (t ≡ Yes) ↔ (c ≡ checked.Holds)
+checked_yes : (c : Checked) (t : Status) → t ≡ status_said (model_said c) → (t ≡ Yes) ↔ (c ≡ checked.Holds)
 checked_yes c t is = (
   λ yes. holds_said c (ap code_of (sym is ∙ yes)),
-  λ holds. is ∙ ap (λ d. (model_said d).0) holds,
+  λ holds. is ∙ ap (λ d. status_said (model_said d)) holds,
 )
 
-checked_no : (c : Checked) (t : Status) → t ≡ (model_said c).0 → (t ≡ No) ↔ (c ≡ checked.Fails)
+checked_no : (c : Checked) (t : Status) → t ≡ status_said (model_said c) → (t ≡ No) ↔ (c ≡ checked.Fails)
 checked_no c t is = (
   λ no. fails_said c (ap code_of (sym is ∙ no)),
-  λ fails. is ∙ ap (λ d. (model_said d).0) fails,
+  λ fails. is ∙ ap (λ d. status_said (model_said d)) fails,
 )
 
 through : {A B C D : Type 0} → A ↔ B → B ↔ C → D ↔ C → A ↔ D
@@ -59,7 +60,7 @@ neither_large : (text : List ℕ) (s t : Status) (out line : List ℕ) (x : IsPa
     → NeitherIsLarge x.finding y.finding
 neither_large text s t out line x y known decided = record {
   few_found = λ large. known (x.status_is ∙ ap (λ f. (path_told f).0) large);
-  few_checked = λ large. decided (y.is_said.0 ∙ ap (λ c. (model_said c).0) large);
+  few_checked = λ large. decided (y.is_said.0 ∙ ap (λ c. status_said (model_said c)) large);
 }
 
 -- an input that is too long is refused by both

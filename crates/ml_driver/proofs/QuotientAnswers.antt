@@ -15,7 +15,6 @@ use Rattle.ml_base.specs.Structure.{Structure, IsStructure}
 use Rattle.ml_base.specs.declared.structure.Edge.{Edge}
 use Rattle.ml_base.specs.declared.version.Version.TheVariants.{Two}
 use Rattle.ml_lists.proofs.Member.{member-All}
-use Rattle.ml_lines.specs.Lines.{line_text}
 use Rattle.ml_lists.proofs.Members.{contains_of_member}
 use Rattle.ml_kripke.specs.ModelText.{IsWritten}
 use Rattle.ml_kripke.specs.Ordered.{HasNames}
@@ -40,7 +39,9 @@ use Rattle.ml_model_check.specs.WrittenDocument.{satisfiable_document}
 use Rattle.ml_driver.specs.Laws.{OneQuotientDue, QuotientsAreCheckedAlike, QuotientsAreRead, WrittenHoldsTheSame}
 use Rattle.ml_driver.specs.Quotients.{IsReduced}
 use Rattle.ml_driver.specs.Run.{IsAnswer, IsDue, IsWhole}
-use Rattle.ml_driver.specs.Statuses.{IsUnreadable, refused_document}
+use Rattle.ml_driver.specs.Said.{said_text}
+use Rattle.ml_driver.specs.Statuses.{IsUnreadable}
+use Rattle.ml_driver.specs.declared.said.Said.TheVariants.{RefusedDocument}
 use Rattle.ml_driver.specs.declared.command.Command.TheVariants.{CheckModel, Quotient}
 use Rattle.ml_driver.specs.declared.status.Status.{Status}
 use Rattle.ml_driver.specs.declared.status.Status.TheVariants.{Yes, Text}
@@ -56,7 +57,7 @@ read_or_refused text out more x r =
 one_line : (text out more : List ℕ) (r : IsUnreadable (IsFault text) out)
     (w : IsUnreadable (IsFault text) more) → out ≡ more
 one_line text out more r w =
-    r.is_written ∙ ap (λ f. line_text (refused_document f)) (one_fault text r.fault w.fault r.is_fault w.is_fault) ∙ sym w.is_written
+    r.is_written ∙ ap (λ f. said_text (RefusedDocument f)) (one_fault text r.fault w.fault r.is_fault w.is_fault) ∙ sym w.is_written
 
 one_reduced : (text out more : List ℕ) → IsReduced text out → IsReduced text more → out ≡ more
 one_reduced text out more x y =
@@ -116,7 +117,7 @@ on_structure text = by_reading (document_or_fault text)
     by_reading : SomeDocument text ⊎ SomeFault text → SomeAnswer Quotient text
     by_reading (inl (p, m, s, is)) = of_document text p m s is
     by_reading (inr (fault, found)) =
-        (Text, (line_text (refused_document fault), record { fault = fault; is_fault = found; is_written = refl }))
+        (Text, (said_text (RefusedDocument fault), record { fault = fault; is_fault = found; is_written = refl }))
 
 -- ---- names
 

@@ -5,7 +5,6 @@
 --   answered          == some status is the answer to each command
 --   some_due          == some status is due, with some output
 use Rattle.std.proofs.Common.{◌≡◌, ◌⊎◌, ℕ, true, false, List, Some, None, inl, inr, refl, subst, arith}
-use Rattle.ml_lines.specs.Lines.{line_text}
 use Rattle.ml_base.specs.declared.doc_fault.DocFault.{DocFault}
 use Rattle.ml_model_check.proofs.OneCheck.{some_check}
 use Rattle.ml_refutation_text.specs.BodyRules.{IsFaultOf}
@@ -31,13 +30,14 @@ use Rattle.ml_decide.specs.declared.way.Way.TheVariants.{WholeGame, Search}
 use Rattle.ml_driver.proofs.QuotientAnswers.{on_structure}
 use Rattle.ml_driver.proofs.PathAnswers.{on_path}
 use Rattle.ml_driver.proofs.MachineAnswers.{on_machine}
-use Rattle.ml_driver.proofs.MadeAnswers.{on_made}
 use Rattle.ml_driver.proofs.AskedAnswers.{on_requirements}
 use Rattle.ml_driver.proofs.TaskAnswers.{on_task}
 use Rattle.ml_driver.proofs.TranslationAnswers.{on_formula}
 use Rattle.ml_driver.specs.declared.command.Command.TheVariants.{Decide, Valid, Find, Prove, CheckModel, CheckRefutation, Migrate, Quotient, SolveGame, CheckGame, Path, CheckMachine, Determinise, Automaton, Realize, Make, Ask, Gen, Bench}
 use Rattle.ml_driver.specs.declared.status.Status.TheVariants.{Yes, Text}
-use Rattle.ml_driver.specs.Statuses.{model_said, refused_document, refutation_said, words_refused}
+use Rattle.ml_driver.specs.Said.{said_text, status_said}
+use Rattle.ml_driver.specs.Statuses.{model_said, refutation_said}
+use Rattle.ml_driver.specs.declared.said.Said.TheVariants.{NoCommand, RefusedDocument}
 use Rattle.ml_driver.specs.Run.{asked}
 use Rattle.ml_driver.proofs.InputLimits.{SomeAnswer, some_due_for}
 use Rattle.ml_driver.proofs.SomeAnswer.{some_answer}
@@ -51,15 +51,15 @@ on_document : (text : List ℕ) → SomeAnswer CheckModel text
 on_document text =
     let x = some_check text in
     let said = model_said x.0 in
-    (said.0, (line_text said.1, record { finding = x.0; is_found = x.1; is_said = (refl, refl) }))
+    (status_said said, (said_text said, record { finding = x.0; is_found = x.1; is_said = (refl, refl) }))
 
 on_refutation : (text : List ℕ) → SomeAnswer CheckRefutation text
 on_refutation text =
     let x = some_verdict text in
     let said = refutation_said x.0 in (
-      said.0,
+      status_said said,
       (
-        line_text said.1,
+        said_text said,
         record {
           finding = x.0;
           is_found = x.1;
@@ -93,7 +93,7 @@ to_migrate text = go (refutation_or_fault text)
           ),
         )
     go (inr (fault, bad)) =
-        (Text, (line_text (refused_document fault), record { fault = fault; is_fault = bad; is_written = refl }))
+        (Text, (said_text (RefusedDocument fault), record { fault = fault; is_fault = bad; is_written = refl }))
 
 of_family : (f : Family) (n : ℕ) (text : List ℕ) → is_in_range f n ≡ true → SomeAnswer (Bench f n) text
 of_family f n text inside =
@@ -129,12 +129,12 @@ answered (Determinise n) text small = on_automaton n text
 answered (Automaton n) text small = on_formula n text
 answered Path text small = on_path text
 answered CheckMachine text small = on_machine text
-answered (Make n) text small = on_made n text
-answered (Realize n) text small = on_task n text
+answered (Make n) text small = on_task Search n text
+answered (Realize n) text small = on_task WholeGame n text
 answered (Ask f n) text small = on_requirements f n text small
 answered (Gen f n) text small = (Yes, (gen_text f n, refl))
 answered (Bench f n) text small = of_family f n text small
 
 pub some_due : SomeDue
-some_due None text small = (words_refused.0, (line_text words_refused.1, (refl, refl)))
+some_due None text small = (status_said NoCommand, (said_text NoCommand, (refl, refl)))
 some_due (Some c) text small = some_due_for c text (answered c text small)

@@ -4,24 +4,25 @@
 --                              the document of a word that breaks it; that the word automaton is too large; or why the
 --                              document is refused
 --   IsMachineTold text s out == s and out tell what is found of the text
-use Rattle.std.specs.Prelude.{ℕ, ◌≡◌, List, [], ◌∷◌, ◌++◌, codes}
-use Rattle.ml_lines.specs.Lines.{line_text}
+use Rattle.std.specs.Prelude.{ℕ, ◌≡◌, List, ◌++◌}
 use Rattle.ml_machine_check.specs.Checked.{most_nodes}
 use Rattle.ml_machine_text.specs.Found.{IsFoundIn}
-use Rattle.ml_machine_text.specs.declared.finding.Finding.{Finding}
-use Rattle.ml_machine_text.specs.declared.finding.Finding.TheVariants.{ClosureTooLarge, Fails, Holds, Unreadable}
-use Rattle.ml_driver.specs.Statuses.{refused_document, undecided_line}
+use Rattle.ml_machine_text.specs.declared.finding.MachineFinding.{MachineFinding}
+use Rattle.ml_machine_text.specs.declared.finding.MachineFinding.TheVariants.{ClosureTooLarge, Fails, Holds, Unreadable}
+use Rattle.ml_driver.specs.Said.{said_alone, said_text}
+use Rattle.ml_driver.specs.declared.said.Said.TheVariants as said
+use Rattle.ml_driver.specs.declared.said.Size.TheVariants.{Closure}
 use Rattle.ml_driver.specs.declared.status.Status.{Status}
-use Rattle.ml_driver.specs.declared.status.Status.TheVariants.{Yes, No, Undecided, Text}
+use Rattle.ml_driver.specs.declared.status.Status.TheVariants.{No}
 
-abbrev pub machine_told : Finding → Status × List ℕ
-machine_told Holds = (Yes, line_text (codes "holds" ∷ []))
-machine_told (Fails document) = (No, line_text (codes "fails" ∷ []) ++ document)
-machine_told ClosureTooLarge = (Undecided, undecided_line (codes "closure") most_nodes)
-machine_told (Unreadable fault) = (Text, line_text (refused_document fault))
+abbrev pub machine_told : MachineFinding → Status × List ℕ
+machine_told Holds = said_alone said.Holds
+machine_told (Fails document) = (No, said_text said.Fails ++ document)
+machine_told ClosureTooLarge = said_alone (said.Undecided Closure most_nodes)
+machine_told (Unreadable fault) = said_alone (said.RefusedDocument fault)
 
 pub record IsMachineTold (text : List ℕ) (s : Status) (out : List ℕ) : Type 0 where
-  pub finding : Finding
+  pub finding : MachineFinding
   pub is_found : IsFoundIn text finding
   pub status_is : s ≡ (machine_told finding).0
   pub is_written : out ≡ (machine_told finding).1

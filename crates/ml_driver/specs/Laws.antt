@@ -42,7 +42,7 @@
 --   PathsShowWhatHolds, PathsShowWhatFails == where neither `path` nor `check-model` leaves it open, `path` finds a path exactly
 --                       where `check-model` answers `holds`, if the document has the sense of its path problem, and `fails`,
 --                       if it has the other one
-use Rattle.std.specs.Prelude.{ℕ, ◌≡◌, ◌≢◌, ◌<◌, ◌^◌, ◌⊎◌, ◌↔◌, Bool, true, false, List, [], ◌∷◌, ◌++◌, Option, Some, codes, if◌then◌else◌}
+use Rattle.std.specs.Prelude.{ℕ, ◌≡◌, ◌≢◌, ◌<◌, ◌^◌, ◌⊎◌, ◌↔◌, Bool, true, false, List, [], ◌∷◌, ◌++◌, Option, Some, if◌then◌else◌}
 use Rattle.ml_base.specs.Structure.{Structure}
 use Rattle.ml_blocks.specs.Closures.{HasMoreThan}
 use Rattle.ml_buchi.specs.Deterministic.{IsValuationWord}
@@ -64,7 +64,7 @@ use Rattle.ml_bisim.specs.Quotient.{class_of}
 use Rattle.ml_model_check.specs.Checked.{IsCheckedAs, IsDocument}
 use Rattle.ml_model_check.specs.declared.checked.Checked.TheVariants.{Holds}
 use Rattle.ml_game_check.specs.declared.verdict.Rule.TheVariants.{NoBadCycle}
-use Rattle.ml_pgsolver.specs.declared.finding.Finding.TheVariants.{Rejected}
+use Rattle.ml_pgsolver.specs.declared.finding.SolutionFinding.TheVariants.{Rejected}
 use Rattle.ml_front.specs.Logics.{logic_of}
 use Rattle.ml_front.specs.Problems.{HoldsAt, IsAdmitted, IsSatisfiable}
 use Rattle.ml_front.specs.declared.logic.Logic.{Logic}
@@ -87,10 +87,12 @@ use Rattle.ml_driver.specs.declared.question.Question.{Question}
 use Rattle.ml_driver.specs.declared.status.Status.{Status}
 use Rattle.ml_driver.specs.Quotients.{IsReduced}
 use Rattle.ml_driver.specs.Run.{IsDue, IsWhole}
-use Rattle.ml_driver.specs.Statuses.{undecided_line}
+use Rattle.ml_driver.specs.Said.{said_text}
+use Rattle.ml_driver.specs.declared.said.Said.TheVariants as said
+use Rattle.ml_driver.specs.declared.said.Size.TheVariants.{Closure}
 use Rattle.ml_driver.specs.Texts.{StandsFor}
 use Rattle.ml_driver.specs.Words.{command_of}
-use Rattle.ml_lines.specs.Lines.{Word, line_text}
+use Rattle.ml_lines.specs.Lines.{Word}
 
 abbrev pub searches : Option Command → Bool
 searches (Some (Find l n)) = true
@@ -174,10 +176,10 @@ RefutedAreAccepted = (q : Question) (text out : List ℕ) → Refuted q text out
 
 -- what the two commands that check answer of a document that is right
 abbrev pub IsFoundToHold : List ℕ → Type 0
-IsFoundToHold out = IsDue (Some CheckModel) out Yes (line_text (codes "holds" ∷ []))
+IsFoundToHold out = IsDue (Some CheckModel) out Yes (said_text said.Holds)
 
 abbrev pub IsFoundAccepted : List ℕ → Type 0
-IsFoundAccepted out = IsDue (Some CheckRefutation) out Yes (line_text (codes "accepted" ∷ []))
+IsFoundAccepted out = IsDue (Some CheckRefutation) out Yes (said_text said.Accepted)
 
 -- of a command that writes a structure with the one status, and a refutation with the other
 abbrev pub IsCheckedBy : (Logic → ℕ → Command) → Status → Status → Type 0
@@ -199,10 +201,10 @@ ProveIsChecked = IsCheckedBy Prove No Yes
 
 -- what `check-machine` answers of the document of a machine or an environment that is right
 abbrev pub IsFoundToWork : List ℕ → Type 0
-IsFoundToWork out = IsDue (Some CheckMachine) out Yes (line_text (codes "holds" ∷ []))
+IsFoundToWork out = IsDue (Some CheckMachine) out Yes (said_text said.Holds)
 
 abbrev pub IsLeftUnchecked : List ℕ → Type 0
-IsLeftUnchecked out = IsDue (Some CheckMachine) out Undecided (undecided_line (codes "closure") machines.most_nodes)
+IsLeftUnchecked out = IsDue (Some CheckMachine) out Undecided (said_text (said.Undecided Closure machines.most_nodes))
 
 abbrev pub IsLargeTask : List ℕ → Type 0
 IsLargeTask text = StandsFor IsTaskText text (λ t. HasMoreThan (start_block t.formula false) machines.most_nodes)
@@ -254,7 +256,7 @@ OneSolutionDue = (text : List ℕ) (s t : Status) (out more : List ℕ)
 
 -- it says of some vertex that its entry breaks the fourth rule
 abbrev pub NamesFour : List ℕ → Type 0
-NamesFour out = (id : ℕ) × (out ≡ line_text (finding_said (Rejected id NoBadCycle)).1)
+NamesFour out = (id : ℕ) × (out ≡ said_text (finding_said (Rejected id NoBadCycle)))
 
 abbrev pub OneCheckDue : Type 0
 OneCheckDue = (text : List ℕ) (s t : Status) (out more : List ℕ)
@@ -263,7 +265,7 @@ OneCheckDue = (text : List ℕ) (s t : Status) (out more : List ℕ)
     → (s ≡ t) × ((out ≡ more) ⊎ (NamesFour out × NamesFour more))
 
 abbrev pub IsFoundRight : List ℕ → Type 0
-IsFoundRight text = IsDue (Some CheckGame) text Yes (line_text (codes "accepted" ∷ []))
+IsFoundRight text = IsDue (Some CheckGame) text Yes (said_text said.Accepted)
 
 abbrev pub SolutionsAreAccepted : Type 0
 SolutionsAreAccepted = (e : Engine) (text out : List ℕ) → IsDue (Some (SolveGame e)) text Yes out → IsFoundRight (text ++ out)

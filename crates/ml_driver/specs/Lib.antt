@@ -1,8 +1,14 @@
 -- the numbers of the exit statuses
 pub mod Codes
--- the words of the command line
+-- the words of the command line, in a table of commands
 pub mod Words
--- the exit statuses
+-- what stands behind the first word of a command
+pub mod Verbs
+-- the numbers of commands that words ask for
+pub mod UsualNumbers
+-- what an answer of one line says
+pub mod Said
+-- the limits on inputs, and what is said of what is checked or refused
 pub mod Statuses
 -- what texts stand for
 pub mod Texts
@@ -20,10 +26,8 @@ pub mod Translations
 pub mod Paths
 -- machines and environments that are checked
 pub mod CheckedMachines
--- tasks that are realized
+-- tasks for which a machine or an environment is made
 pub mod Tasks
--- tasks for which a machine is searched
-pub mod MadeTasks
 -- files of requirements that are asked about
 pub mod Asked
 -- what a problem is decided to be
@@ -34,6 +38,8 @@ pub mod Bench
 pub mod Confirmed
 -- what a call of `run` answers and leaves behind
 pub mod Run
+-- what a call gives back beside its status
+pub mod Calls
 -- what private contracts cite
 pub mod private
 -- laws of what is due

@@ -52,10 +52,11 @@ use Rattle.ml_driver.specs.CheckedMachines.{IsMachineTold}
 use Rattle.ml_driver.specs.Confirmed.{IsConfirmed}
 use Rattle.ml_driver.specs.Decision.{IsAnswered}
 use Rattle.ml_driver.specs.Games.{IsSolved, IsRefusedGame}
-use Rattle.ml_driver.specs.MadeTasks.{IsTaskMade}
 use Rattle.ml_driver.specs.Paths.{IsPathTold}
 use Rattle.ml_driver.specs.Quotients.{IsReduced}
-use Rattle.ml_driver.specs.Statuses.{IsSaid, IsUnreadable, length_refused, longest_input, model_said, refutation_said, words_refused}
+use Rattle.ml_driver.specs.Said.{IsSaid}
+use Rattle.ml_driver.specs.Statuses.{IsUnreadable, longest_input, model_said, refutation_said}
+use Rattle.ml_driver.specs.declared.said.Said.TheVariants.{NoCommand, TooLong}
 use Rattle.ml_driver.specs.Tasks.{IsTaskAnswered}
 use Rattle.ml_driver.specs.Texts.{StandsFor}
 use Rattle.ml_driver.specs.Translations.{IsRefusedFormula, IsUntranslated}
@@ -100,8 +101,8 @@ IsAnswer (Automaton n) text Undecided out = StandsFor (IsParsedAs Ltl) text (λ 
 IsAnswer (Automaton n) text Text out = IsRefusedFormula text out
 IsAnswer Path text s out = IsPathTold text s out
 IsAnswer CheckMachine text s out = IsMachineTold text s out
-IsAnswer (Make n) text s out = IsTaskMade n text s out
-IsAnswer (Realize n) text s out = IsTaskAnswered n text s out
+IsAnswer (Make n) text s out = IsTaskAnswered Search n text s out
+IsAnswer (Realize n) text s out = IsTaskAnswered WholeGame n text s out
 IsAnswer (Ask f n) text s out = IsAsked f n text s out
 IsAnswer (Gen f n) text Yes out = out ≡ gen_text f n
 IsAnswer (Bench f n) text s out = IsBenched f n s out
@@ -111,9 +112,9 @@ abbrev pub IsWithin : Command → List ℕ → Type 0
 IsWithin c text = IfSome (longest_input c) (λ n. length text ≤ n)
 
 abbrev pub IsDue : Option Command → List ℕ → Status → List ℕ → Type 0
-IsDue None text s out = IsSaid words_refused s out
+IsDue None text s out = IsSaid NoCommand s out
 IsDue (Some c) text s out =
-    (IsWithin c text × IsAnswer c text s out) ⊎ ((¬ (IsWithin c text)) × IsSaid length_refused s out)
+    (IsWithin c text × IsAnswer c text s out) ⊎ ((¬ (IsWithin c text)) × IsSaid TooLong s out)
 
 -- ---- what is left behind
 

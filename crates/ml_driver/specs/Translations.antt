@@ -7,19 +7,22 @@
 --   many_places_line n       == the line for one whose word automaton has more than n places
 --   IsUntranslated f n out   == f is such a formula, and out is its line
 --   IsRefusedFormula text out == out says why the text is refused, and at which byte
-use Rattle.std.specs.Prelude.{ℕ, ◌≡◌, List, Some, codes}
+use Rattle.std.specs.Prelude.{ℕ, ◌≡◌, List, Some}
 use Rattle.ml_base.specs.declared.parse_refusal.ParseRefusal.{ParseRefusal}
 use Rattle.ml_ctl.specs.Formula.{Formula}
 use Rattle.ml_ctl.specs.Parsing.{IsRefusedBy}
 use Rattle.ml_ctl.specs.declared.language.Language.TheVariants.{Ltl}
 use Rattle.ml_translate.specs.Translation.{HasTooManyPlaces, IsLarge, most_nodes}
-use Rattle.ml_driver.specs.Statuses.{refusal_line, undecided_line}
+use Rattle.ml_driver.specs.Said.{said_text}
+use Rattle.ml_driver.specs.Statuses.{refusal_line}
+use Rattle.ml_driver.specs.declared.said.Said.TheVariants.{Undecided}
+use Rattle.ml_driver.specs.declared.said.Size.TheVariants.{Closure, Positions}
 
 abbrev pub large_line : List ℕ
-large_line = undecided_line (codes "closure") most_nodes
+large_line = said_text (Undecided Closure most_nodes)
 
 abbrev pub many_places_line : ℕ → List ℕ
-many_places_line limit = undecided_line (codes "positions") limit
+many_places_line limit = said_text (Undecided Positions limit)
 
 pub data IsUntranslated (f : Formula) (limit : ℕ) (out : List ℕ) : Type 0 where
   is_large : IsLarge f → out ≡ large_line → IsUntranslated f limit out

@@ -14,12 +14,13 @@
 --   number_named w     == the number from 0 to 200,000 that the word w is, in one to six digits
 --   limit_named w      == the limit that the word w tells: such a number from 1 on; without a word 50,000
 --   count_named f w    == the number of the range of the family f that the word w is
+--   Shape              == what stands behind the first word of a command, with the command that comes of it
+--   table              == the commands: their first words, with their shapes
+--   shape_in rows w    == the shape of the first row whose word is w
+--   files_or_none w    == the form that the word behind `ask` tells
+--   command_by x p q r == the command of the shape x with the second word p, the third word q and the limit r, if these are as
+--                         the shape says
 --   Parts              == the words as they are taken apart: three positionals and the option's value
---   decided_by, solved_by, counted_by, bare_by == the rows of the table with a logic, with an engine, with a family and a
---                         number, and with none of these and no limit
---   determinised_by, translated_by, realized_by, made_by limit == the rows with a limit alone
---   told_by limit, filed_by w limit == the rows of `ask`, and of `ask` with the word w
---   unlimited w limit, alone w limit == those of bare_by; these together
 --   row p              == the command whose row the parts p are
 --   if_faultless ks c  == c, where there is no fault
 --   parts_in rows      == the parts that `clap` found
@@ -27,6 +28,7 @@
 use Rattle.std.specs.Prelude.{ℕ, ◌+◌, ◌-◌, ◌*◌, ◌&&◌, Bool, true, List, [], ◌∷◌, length, Option, Some, None, if◌then◌else◌, nat_le, option_and_then, option_map, codes}
 use Rattle.std.specs.Str.{bytes_eq}
 use Rattle.clap.specs.Words.{App, Kinds, Row, first_of, fault_of, matches_of, new_app, new_rule, with_rule}
+use Rattle.ml_ask_text.specs.declared.told.Form.{Form}
 use Rattle.ml_ask_text.specs.declared.told.Form.TheVariants.{Lines, Files}
 use Rattle.ml_lines.specs.Lines.{Word}
 use Rattle.ml_front.specs.Logics.{logic_named}
@@ -36,6 +38,7 @@ use Rattle.ml_gen.specs.declared.family.Family.{Family}
 use Rattle.ml_driver.specs.declared.command.Command.{Command}
 use Rattle.ml_driver.specs.declared.command.Command.TheVariants.{Decide, Valid, Find, Prove, CheckModel, CheckRefutation, Migrate, Quotient, SolveGame, CheckGame, Path, CheckMachine, Determinise, Automaton, Realize, Make, Ask, Gen, Bench}
 use Rattle.ml_driver.specs.Games.{engine_named}
+use Rattle.ml_driver.specs.declared.engine.Engine.{Engine}
 use Rattle.ml_driver.specs.declared.command.TheConstants.{DEFAULT_LIMIT, GREATEST_LIMIT, LONGEST_NUMBER}
 
 -- ---- what `clap` is told
@@ -55,7 +58,7 @@ faults_of words = fault_of cli words
 unfoldable pub rows_in : List Word → List Row
 rows_in words = matches_of cli words
 
--- ---- the parts
+-- ---- numbers
 
 abbrev pub is_digit : ℕ → Bool
 is_digit b = nat_le 48 b && nat_le b 57
@@ -83,100 +86,76 @@ if_in_range f n = if is_in_range f n then Some n else None
 abbrev pub count_named : Family → Word → Option ℕ
 count_named f w = option_and_then (if_in_range f) (number_named w)
 
+-- ---- the table
+
+pub data Shape : Type 0 where
+  -- no further word, and no limit
+  alone : Command → Shape
+  -- no further word, and maybe a limit
+  limited : (ℕ → Command) → Shape
+  -- a logic, and maybe a limit
+  about_logic : (Logic → ℕ → Command) → Shape
+  -- the word `files`, or none, and maybe a limit
+  with_files : (Form → ℕ → Command) → Shape
+  -- an engine, and no limit
+  by_engine : (Engine → Command) → Shape
+  -- a family and a number of its range, and no limit
+  of_family : (Family → ℕ → Command) → Shape
+
+unfoldable pub table : List (Word × Shape)
+table =
+    (codes "find", about_logic Find)
+    ∷ (codes "prove", about_logic Prove)
+    ∷ (codes "decide", about_logic Decide)
+    ∷ (codes "valid", about_logic Valid)
+    ∷ (codes "ask", with_files Ask)
+    ∷ (codes "check-model", alone CheckModel)
+    ∷ (codes "check-refutation", alone CheckRefutation)
+    ∷ (codes "path", alone Path)
+    ∷ (codes "migrate", alone Migrate)
+    ∷ (codes "quotient", alone Quotient)
+    ∷ (codes "solve-game", by_engine SolveGame)
+    ∷ (codes "check-game", alone CheckGame)
+    ∷ (codes "determinise", limited Determinise)
+    ∷ (codes "automaton", limited Automaton)
+    ∷ (codes "make", limited Make)
+    ∷ (codes "realize", limited Realize)
+    ∷ (codes "check-machine", alone CheckMachine)
+    ∷ (codes "gen", of_family Gen)
+    ∷ (codes "bench", of_family Bench)
+    ∷ []
+
+abbrev pub shape_in : List (Word × Shape) → Word → Option Shape
+shape_in [] w = None
+shape_in (r ∷ rows) w = if bytes_eq w r.0 then Some r.1 else shape_in rows w
+
+abbrev pub command_by : Shape → Option Word → Option Word → Option Word → Option Command
+command_by (alone c) None None None = Some c
+command_by (limited c) None None limit = option_map c (limit_named limit)
+command_by (about_logic c) (Some w) None limit =
+    option_and_then (λ (l : Logic). option_map (c l) (limit_named limit)) (logic_named w)
+command_by (with_files c) None None limit = option_map (c Lines) (limit_named limit)
+command_by (with_files c) (Some w) None limit =
+    if bytes_eq w (codes "files") then option_map (c Files) (limit_named limit) else None
+command_by (by_engine c) (Some w) None None = option_map c (engine_named w)
+command_by (of_family c) (Some w) (Some number) None =
+    option_and_then (λ (f : Family). option_map (c f) (count_named f number)) (family_named w)
+command_by _ _ _ _ = None
+
+-- ---- the words
+
 pub record Parts : Type 0 where
   pub command : Option Word
   pub subject : Option Word
   pub count : Option Word
   pub limit : Option Word
 
--- ---- the table
-
--- a command with a logic and a limit
-abbrev pub decided_by : Word → Logic → ℕ → Option Command
-decided_by w l n =
-    if bytes_eq w (codes "decide") then Some (Decide l n)
-    else (if bytes_eq w (codes "valid") then Some (Valid l n)
-    else (if bytes_eq w (codes "find") then Some (Find l n)
-    else (if bytes_eq w (codes "prove") then Some (Prove l n) else None)))
-
--- a command with a family and a number of its range
-abbrev pub counted_by : Word → Family → ℕ → Option Command
-counted_by w f n =
-    if bytes_eq w (codes "gen") then Some (Gen f n)
-    else (if bytes_eq w (codes "bench") then Some (Bench f n) else None)
-
--- a command that stands alone
-abbrev pub bare_by : Word → Option Command
-bare_by w =
-    if bytes_eq w (codes "check-model") then Some CheckModel
-    else (if bytes_eq w (codes "check-refutation") then Some CheckRefutation
-    else (if bytes_eq w (codes "migrate") then Some Migrate
-    else (if bytes_eq w (codes "quotient") then Some Quotient
-    else (if bytes_eq w (codes "check-game") then Some CheckGame
-    else (if bytes_eq w (codes "path") then Some Path
-    else (if bytes_eq w (codes "check-machine") then Some CheckMachine else None))))))
-
--- a command with a limit alone
-abbrev pub determinised_by : Option Word → Option Command
-determinised_by limit = option_map Determinise (limit_named limit)
-
-abbrev pub translated_by : Option Word → Option Command
-translated_by limit = option_map Automaton (limit_named limit)
-
-abbrev pub realized_by : Option Word → Option Command
-realized_by limit = option_map Realize (limit_named limit)
-
-abbrev pub made_by : Option Word → Option Command
-made_by limit = option_map Make (limit_named limit)
-
--- `ask` and `ask files`
-abbrev pub told_by : Option Word → Option Command
-told_by limit = option_map (Ask Lines) (limit_named limit)
-
-abbrev pub filed_by : Word → Option Word → Option Command
-filed_by subject limit =
-    if bytes_eq subject (codes "files") then option_map (Ask Files) (limit_named limit) else None
-
--- a command that stands alone, and no limit
-abbrev pub unlimited : Word → Option Word → Option Command
-unlimited w None = bare_by w
-unlimited w (Some limit) = None
-
--- a command without a logic, an engine or a family
-abbrev pub alone : Word → Option Word → Option Command
-alone w limit =
-    if bytes_eq w (codes "determinise") then determinised_by limit
-    else (if bytes_eq w (codes "realize") then realized_by limit
-    else (if bytes_eq w (codes "automaton") then translated_by limit
-    else (if bytes_eq w (codes "make") then made_by limit
-    else (if bytes_eq w (codes "ask") then told_by limit else unlimited w limit))))
-
--- a command with an engine, and no limit
-abbrev pub solved_by : Word → Option Word → Option Command
-solved_by subject None = option_map SolveGame (engine_named subject)
-solved_by subject (Some limit) = None
-
-abbrev pub asked_by : Word → Word → Option Word → Option Command
-asked_by w subject limit =
-    option_and_then (λ (l : Logic). option_and_then (decided_by w l) (limit_named limit)) (logic_named subject)
-
--- a command with a logic or an engine
-abbrev pub about : Word → Word → Option Word → Option Command
-about w subject limit =
-    if bytes_eq w (codes "solve-game") then solved_by subject limit
-    else (if bytes_eq w (codes "ask") then filed_by subject limit else asked_by w subject limit)
-
 abbrev pub row_of : Option Word → Option Word → Option Word → Option Word → Option Command
-row_of (Some w) (Some subject) None limit = about w subject limit
-row_of (Some w) (Some subject) (Some count) None =
-    option_and_then (λ (f : Family). option_and_then (counted_by w f) (count_named f count)) (family_named subject)
-row_of (Some w) None None limit = alone w limit
-row_of _ _ _ _ = None
+row_of (Some w) subject count limit = option_and_then (λ (x : Shape). command_by x subject count limit) (shape_in table w)
+row_of None subject count limit = None
 
 abbrev pub row : Parts → Option Command
 row p = row_of p.command p.subject p.count p.limit
-
--- ---- the words
 
 abbrev pub parts_in : List Row → Parts
 parts_in rows = record {

@@ -1,12 +1,14 @@
 -- which faults of `clap` are refusals
 pub mod Refused
--- decisions as they are written
+-- the statuses of decisions
 pub mod Decisions
--- numbers of commands that words ask for
-pub mod UsualNumbers
+-- rows of the table of commands
+pub mod Rows
 -- the lines for what is found
 pub mod Findings
 -- inputs of commands
 pub mod Inputs
+-- what is said once an output is written
+pub mod Written
 -- the statuses of outcomes
 pub mod Outcomes

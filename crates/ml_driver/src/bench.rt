@@ -10,11 +10,11 @@ ghost use Rattle.ml_lines.specs.Lines.{line_text, number};
 ghost use Rattle.ml_driver.specs.Bench as measures;
 ghost use Rattle.ml_driver.specs.Bench.{IsMeant, bench_text};
 ghost use Rattle.ml_driver.specs.Run.{IsAnswer};
+ghost use Rattle.ml_driver.specs.Said.{IsTold, is_answered};
 ghost use Rattle.ml_driver.specs.private.Findings.{nodes_line, positions_line};
 
 use crate::command::GREATEST_LIMIT;
-use crate::output::Output;
-use crate::{Command, Status};
+use crate::{Command, Output, Status};
 use ml_base::{NoMemory, ParseRefusal};
 use ml_decide::Finding;
 use ml_front::{Answer, Logic, Problem, occurrences, read};
@@ -25,20 +25,23 @@ use std::alloc::Global;
 // the answer to `gen`
 pub(crate) fn generate(alloc: Global, family: Family, n: u32) -> Result<Output, NoMemory>
     requires { is_in_range family n ≡ true }
-    ensures { IfOk result (λ output. IsAnswer (Command.Gen family n) [] output.status output.bytes.items) }
+    ensures answer { IfOk result (λ output. IsAnswer (Command.Gen family n) [] output.status output.bytes.items) }
+    ensures told { IfOk result (λ output. IsTold is_answered output.status output.bytes.items output.said) }
 {
     let mut bytes = text_for(alloc, family, n)?;
     end_line(&mut bytes)?;
     Ok(Output {
         status: Status::Yes,
         bytes,
+        said: None,
     })
 }
 
 // the answer to `bench`
 pub(crate) fn measure(alloc: Global, family: Family, n: u32) -> Result<Output, NoMemory>
     requires { is_in_range family n ≡ true }
-    ensures { IfOk result (λ output. IsAnswer (Command.Bench family n) [] output.status output.bytes.items) }
+    ensures answer { IfOk result (λ output. IsAnswer (Command.Bench family n) [] output.status output.bytes.items) }
+    ensures told { IfOk result (λ output. IsTold is_answered output.status output.bytes.items output.said) }
 {
     let problem = problem_for(alloc, family, n)?;
     measured(alloc, family, n, &problem)
@@ -48,7 +51,8 @@ pub(crate) fn measure(alloc: Global, family: Family, n: u32) -> Result<Output, N
 fn measured(alloc: Global, family: Family, n: u32, problem: &Problem) -> Result<Output, NoMemory>
     requires meant { IsMeant family n problem.now }
     requires well_formed { IsWellFormed problem.now.formula }
-    ensures { IfOk result (λ output. IsAnswer (Command.Bench family n) [] output.status output.bytes.items) }
+    ensures answer { IfOk result (λ output. IsAnswer (Command.Bench family n) [] output.status output.bytes.items) }
+    ensures told { IfOk result (λ output. IsTold is_answered output.status output.bytes.items output.said) }
 {
     let finding = ml_decide::measure(alloc, problem, GREATEST_LIMIT)?;
     let status = status_of(finding.answer());
@@ -56,6 +60,7 @@ fn measured(alloc: Global, family: Family, n: u32, problem: &Problem) -> Result<
     Ok(Output {
         status,
         bytes: report(alloc, family, n, count, finding)?,
+        said: None,
     })
 }
 
@@ -107,7 +112,8 @@ fn logic_for(family: Family) -> Logic
 }
 
 fn status_of(answer: Answer) -> Status
-    ensures { result ≡ measures.status_of answer }
+    ensures status { result ≡ measures.status_of answer }
+    ensures answered { is_answered result ≡ true }
 {
     match answer {
         Answer::Satisfiable => Status::Yes,

@@ -32,7 +32,8 @@ pub fn answers_are_exact()
 {}
 
 /// Whatever is due for `decide` is due for `find`. And whatever is due for `find`, but yes and no, is due for `decide`, with
-/// the same output: what stays undecided, and texts that are refused. So it is for `prove` and `valid`, and for `make` and `realize`.
+/// the same output: what stays undecided, and texts that are refused. So it is for `prove` and `valid`, and for `make` and
+/// `realize`.
 pub fn searches_find_as_much()
     ensures finds { FindsAsDecided }
     ensures proves { ProvesAsDecided }
@@ -51,18 +52,18 @@ pub fn decided_are_checked()
     ensures proved { ProveIsChecked }
 {}
 
-/// The documents that are due for `realize` and `make` are right, so where they are no longer than the documents that are read,
-/// `check-machine` answers `holds`. For one with a machine this is always so. For one with an environment it is so unless the
-/// word automaton of the task's formula has more nodes than `check-machine` takes, and then it says so. Of the limit only this is
-/// asked, that it fits 32 bits.
+/// The documents that are due for `realize` and `make` are right, so where they are no longer than the documents that are
+/// read, `check-machine` answers `holds`. For one with a machine this is always so. For one with an environment it is so
+/// unless the word automaton of the task's formula has more nodes than `check-machine` takes, and then it says so. Of the
+/// limit only this is asked, that it fits 32 bits.
 pub fn made_are_checked()
     ensures realized { RealizeIsChecked }
     ensures made { MakeIsChecked }
 {}
 
-/// Where neither leaves it open, `path` finds a path of a document exactly where `check-model` answers `holds`, if the document
-/// has the sense of its path problem: so for LTL, on structures and on words, for `E f` in the plain sense, and for `A f` in the
-/// negated one. It finds one exactly where `check-model` answers `fails`, if the document has the other sense.
+/// Where neither leaves it open, `path` finds a path of a document exactly where `check-model` answers `holds`, if the
+/// document has the sense of its path problem: so for LTL, on structures and on words, for `E f` in the plain sense, and for
+/// `A f` in the negated one. It finds one exactly where `check-model` answers `fails`, if the document has the other sense.
 pub fn paths_beside_checking()
     ensures holds { PathsShowWhatHolds }
     ensures fails { PathsShowWhatFails }

@@ -1,62 +1,33 @@
-// Outputs, and the lines that refuse a text.
-ghost use Rattle.std.specs.Prelude.{◌≡◌, IfOk, Some};
-ghost use Rattle.ml_driver.specs.Statuses as statuses;
+// Outputs.
+ghost use Rattle.std.specs.Prelude.{◌≡◌, ℕ, Bool, IfOk};
+ghost use Rattle.ml_driver.specs.Said.{IsSaid, IsTold, said_text, status_said};
+ghost use Rattle.ml_driver.specs.declared.status.Status.{Status};
 
-use crate::Status;
-use ml_base::{NoMemory, ParseRefusal};
-use ml_lines::{end_line, write_next_number, write_next_word, write_word};
+use crate::{Said, Status};
+use ml_base::NoMemory;
 use std::alloc::Global;
 
-/// A status with the whole output that goes with it.
+/// The answer to a command: a status, the whole output that goes with it, and what this says.
 #[derive(Drop)]
-pub(crate) struct Output {
-    pub(crate) status: Status,
-    pub(crate) bytes: Vec<u8>,
+pub struct Output {
+    pub status: Status,
+    pub bytes: Vec<u8>,
+    /// What the first line says; `None` where the output is a text.
+    pub said: Option<Said>,
 }
 
-// want of memory is no refusal of a text
-pub(crate) fn refusal_line(alloc: Global, refusal: ParseRefusal) -> Result<Vec<u8>, NoMemory>
-    ensures { IfOk result (λ line. Some line.items ≡ statuses.refusal_line refusal) }
-{
-    match refusal {
-        ParseRefusal::Syntax { at } => refused_at(alloc, b"text", 1, at),
-        ParseRefusal::Unbound { at } => refused_at(alloc, b"text", 2, at),
-        ParseRefusal::NotPositive { at } => refused_at(alloc, b"text", 3, at),
-        ParseRefusal::TooMany { at } => refused_at(alloc, b"text", 4, at),
-        ParseRefusal::TooNested { at } => refused_at(alloc, b"text", 5, at),
-        ParseRefusal::NameTooLong { at } => refused_at(alloc, b"text", 6, at),
-        ParseRefusal::NoMemory => Err(NoMemory),
+impl Output {
+    // one line
+    pub(crate) fn line(alloc: Global, said: Said) -> Result<Output, NoMemory>
+        ensures status { IfOk result (λ output. output.status ≡ status_said said) }
+        ensures output { IfOk result (λ output. output.bytes.items ≡ said_text said) }
+        ensures both { IfOk result (λ output. IsSaid said output.status output.bytes.items) }
+        ensures told { (text : Status → Bool) → IfOk result (λ output. IsTold text output.status output.bytes.items output.said) }
+    {
+        Ok(Output {
+            status: said.status(),
+            bytes: said.line(alloc)?,
+            said: Some(said),
+        })
     }
-}
-
-// a text of this kind is refused for a cause with this number, at a byte
-pub(crate) fn refused_at(
-    alloc: Global,
-    kind: &[u8],
-    rule: u64,
-    at: u64,
-) -> Result<Vec<u8>, NoMemory>
-    ensures { IfOk result (λ line. Some line.items ≡ statuses.refused_at kind.now rule at) }
-{
-    let mut line = Vec::new(alloc);
-    write_word(&mut line, b"refused")?;
-    write_next_word(&mut line, kind)?;
-    write_next_word(&mut line, b"rule")?;
-    write_next_number(&mut line, rule)?;
-    write_next_word(&mut line, b"at")?;
-    write_next_number(&mut line, at)?;
-    end_line(&mut line)?;
-    Ok(line)
-}
-
-// what stays undecided because of a size
-pub(crate) fn undecided_line(alloc: Global, what: &[u8], size: u32) -> Result<Vec<u8>, NoMemory>
-    ensures { IfOk result (λ line. line.items ≡ statuses.undecided_line what.now size) }
-{
-    let mut line = Vec::new(alloc);
-    write_word(&mut line, b"undecided")?;
-    write_next_word(&mut line, what)?;
-    write_next_number(&mut line, u64::from(size))?;
-    end_line(&mut line)?;
-    Ok(line)
 }

@@ -1,11 +1,17 @@
-// The top call.
-ghost use Rattle.std.specs.Prelude.{◌≡◌, map, IfOk, Some};
+// The top calls.
+//
+// `answer` answers a command on a text as a value. `call` reads the words and the source, has the command answered, and
+// writes the output; `run` is its status alone.
+ghost use Rattle.std.specs.Prelude.{◌≡◌, map, IfOk, None, Some};
 ghost use Rattle.std.specs.String.{string_bytes};
+ghost use Rattle.ml_driver.specs.Calls.{IsToldIn};
 ghost use Rattle.ml_driver.specs.Words as command_line;
 ghost use Rattle.ml_driver.specs.Confirmed.{IsConfirmed};
 ghost use Rattle.ml_driver.specs.Run as answers;
 ghost use Rattle.ml_driver.specs.Run.{Ended, IsAnswer, IsWhole, Wrote};
-ghost use Rattle.ml_driver.specs.private.UsualNumbers.{HasUsualNumbers};
+ghost use Rattle.ml_driver.specs.Said.{IsTold, is_text};
+ghost use Rattle.ml_driver.specs.UsualNumbers.{HasUsualNumbers};
+ghost use Rattle.ml_driver.specs.private.Written.{IsSaidIf};
 
 use crate::asking::ask;
 use crate::bench::{generate, measure};
@@ -16,18 +22,29 @@ use crate::decide::decide;
 use crate::determinising::determinise_text;
 use crate::finding_paths::find_path;
 use crate::input::input_of;
-use crate::making::make_text;
-use crate::output::Output;
 use crate::question::Question;
 use crate::quotienting::quotient_document;
-use crate::realizing::realize_text;
+use crate::realizing::answer_task;
 use crate::solving::solve_game;
 use crate::translating::translate_text;
-use crate::{Command, Status, command_of};
+use crate::{Command, Output, Said, Status, command_of};
 use ml_base::{NoMemory, ReadRefusal, Sink, Source, write_all};
 use ml_decide::Way;
 use ml_front::Logic;
 use std::alloc::Global;
+
+/// How a call ended.
+#[derive(Drop)]
+pub struct Ending {
+    /// Its status.
+    pub status: Status,
+    /// The command that its words are.
+    pub command: Option<Command>,
+    /// Its input; nothing where the command takes none, or no longer one.
+    pub input: Vec<u8>,
+    /// What its output says; `None` where that is a text, and where none was written.
+    pub said: Option<Said>,
+}
 
 /// Answers a command: reads the words, which come without the program's name, then the source to its end, computes
 /// the answer, makes its whole output, and writes it. Words that are no command end the call before anything is read, and
@@ -67,8 +84,8 @@ use std::alloc::Global;
 /// - of `determinise` exactly where the deterministic automaton has more states than the limit;
 /// - of `automaton` exactly where the graph of the word automaton has too many nodes, or the word automaton more places than
 ///   the limit;
-/// - of `ask` only where some answer stays open, which comes only where the closure of the joined problem has too many nodes, or
-///   its decision game passes the limit;
+/// - of `ask` only where some answer stays open, which comes only where the closure of the joined problem has too many nodes,
+///   or its decision game passes the limit;
 /// - of `realize` exactly where the graph of the word automaton has too many nodes, or the game of the task passes the limit;
 ///   of `make` only there.
 ///
@@ -99,28 +116,102 @@ pub fn run<S: Source, K: Sink>(
       sink_faults_after = K.faults sink.new;
     }) result }
 {
+    let ending = call(alloc, words, source, sink);
+    ending.status
+}
+
+/// Answers a command as `run` does, and gives back with the status what people may be told of the answer: what the output says,
+/// of which command, on which input.
+///
+/// Nothing is said exactly where the output is a text, and where the status is `ReadFault`, `WriteFault` or `NoMemory`. The
+/// input is given back where something is said, unless it is too long.
+///
+/// Cost: as that of `run`.
+pub fn call<S: Source, K: Sink>(
+    alloc: Global,
+    words: &[String],
+    source: &mut S,
+    sink: &mut K,
+) -> Ending
+    ensures ended { Ended (command_line.command_of (map string_bytes words.now)) (record {
+      left_before = S.remaining source.old;
+      left_after = S.remaining source.new;
+      source_faults_before = S.faults source.old;
+      source_faults_after = S.faults source.new;
+      taken_before = K.taken sink.old;
+      taken_after = K.taken sink.new;
+      sink_faults_before = K.faults sink.old;
+      sink_faults_after = K.faults sink.new;
+    }) result.status }
+    ensures told { IsToldIn (command_line.command_of (map string_bytes words.now)) (record {
+      left_before = S.remaining source.old;
+      left_after = S.remaining source.new;
+      source_faults_before = S.faults source.old;
+      source_faults_after = S.faults source.new;
+      taken_before = K.taken sink.old;
+      taken_after = K.taken sink.new;
+      sink_faults_before = K.faults sink.old;
+      sink_faults_after = K.faults sink.new;
+    }) result.status result.command
+        result.input.items result.said }
+{
     let command = match command_of(alloc, words) {
         Ok(Some(command)) => command,
-        Ok(None) => return written(sink, Status::Words, b"refused words\n"),
-        Err(NoMemory) => return Status::NoMemory,
+        Ok(None) => {
+            let said = Some(Said::NoCommand);
+            return written(
+                sink,
+                None,
+                Vec::new(alloc),
+                Status::Words,
+                b"refused words\n",
+                said,
+            );
+        }
+        Err(NoMemory) => return failed(alloc, Status::NoMemory),
     };
     let text = match input_of(alloc, command, source) {
         Ok(text) => text,
-        Err(ReadRefusal::ReadFault) => return Status::ReadFault,
-        Err(ReadRefusal::TooLong) => return written(sink, Status::Text, b"refused length\n"),
-        Err(ReadRefusal::NoMemory) => return Status::NoMemory,
+        Err(ReadRefusal::ReadFault) => return failed(alloc, Status::ReadFault),
+        Err(ReadRefusal::TooLong) => {
+            let said = Some(Said::TooLong);
+            let none = Vec::new(alloc);
+            return written(
+                sink,
+                Some(command),
+                none,
+                Status::Text,
+                b"refused length\n",
+                said,
+            );
+        }
+        Err(ReadRefusal::NoMemory) => return failed(alloc, Status::NoMemory),
     };
-    match outcome(alloc, command, &text) {
-        Ok(output) => written(sink, output.status, &output.bytes),
-        Err(NoMemory) => Status::NoMemory,
+    match answer(alloc, command, &text) {
+        Ok(output) => written(
+            sink,
+            Some(command),
+            text,
+            output.status,
+            &output.bytes,
+            output.said,
+        ),
+        Err(NoMemory) => failed(alloc, Status::NoMemory),
     }
 }
 
-// the answer to a command on a text
-fn outcome(alloc: Global, command: Command, text: &[u8]) -> Result<Output, NoMemory>
+/// The answer to a command on a text: its status, its output, and what this says. `run` tells which status and output these
+/// are. The limit of the command may not be 0, and its number is one of its family's range, as those that words ask for.
+///
+/// # Errors
+/// `NoMemory` alone.
+///
+/// Cost: that of the command's answer, and linear in the text.
+pub fn answer(alloc: Global, command: Command, text: &[u8]) -> Result<Output, NoMemory>
     requires { HasUsualNumbers command }
     ensures answer { IfOk result (λ output. IsAnswer command text.now output.status output.bytes.items) }
     ensures confirmed { IfOk result (λ output. IsConfirmed (Some command) output.status output.bytes.items) }
+    ensures told { IfOk result (λ output. IsTold (is_text command) output.status output.bytes.items output.said) }
 {
     match command {
         Command::Decide { logic, limit } => {
@@ -145,8 +236,8 @@ fn outcome(alloc: Global, command: Command, text: &[u8]) -> Result<Output, NoMem
         Command::Automaton { limit } => translate_text(alloc, limit, text),
         Command::Path => find_path(alloc, text),
         Command::CheckMachine => check_machine(alloc, text),
-        Command::Make { limit } => make_text(alloc, limit, text),
-        Command::Realize { limit } => realize_text(alloc, limit, text),
+        Command::Make { limit } => answer_task(alloc, Way::Search, limit, text),
+        Command::Realize { limit } => answer_task(alloc, Way::WholeGame, limit, text),
         Command::Ask { form, limit } => ask(alloc, form, limit, text),
         Command::Gen { family, n } => generate(alloc, family, n),
         Command::Bench { family, n } => measure(alloc, family, n),
@@ -164,13 +255,47 @@ fn asked(logic: Logic, negated: bool, limit: u32, way: Way) -> Question
     }
 }
 
-// the status that is due, once its output is written
-fn written<K: Sink>(sink: &mut K, due: Status, output: &[u8]) -> Status
-    ensures wrote { Wrote (K.taken sink.old) (K.taken sink.new) (K.faults sink.old) (K.faults sink.new) due output.now result }
+// a call that answered nothing
+fn failed(alloc: Global, status: Status) -> Ending
+    ensures status { result.status ≡ status }
+    ensures said { result.said ≡ None }
+{
+    Ending {
+        status,
+        command: None,
+        input: Vec::new(alloc),
+        said: None,
+    }
+}
+
+// a call that ends once its output is written
+fn written<K: Sink>(
+    sink: &mut K,
+    command: Option<Command>,
+    input: Vec<u8>,
+    due: Status,
+    output: &[u8],
+    said: Option<Said>,
+) -> Ending
+    ensures wrote { Wrote (K.taken sink.old) (K.taken sink.new) (K.faults sink.old) (K.faults sink.new) due output.now
+        result.status }
     ensures is_whole { IsWhole output.now }
+    ensures command { result.command ≡ command }
+    ensures input { result.input.items ≡ input.items }
+    ensures said { IsSaidIf (K.taken sink.old) (K.taken sink.new) output.now said due result.said result.status }
 {
     match write_all(sink, output) {
-        Ok(()) => due,
-        Err(_) => Status::WriteFault,
+        Ok(()) => Ending {
+            status: due,
+            command,
+            input,
+            said,
+        },
+        Err(_) => Ending {
+            status: Status::WriteFault,
+            command,
+            input,
+            said: None,
+        },
     }
 }

@@ -1,7 +1,5 @@
 -- ways over pairs make words
 pub mod Ways
--- entries that are found by a key
-pub mod Keyed
 -- the way back to the start
 pub mod Backwards
 -- steps along a walk

@@ -3,33 +3,11 @@
 // A paragraph of the manual begins with a line `.B` and the command or the number, where `\-` is written for `-`.
 
 use crate::failure::Failure;
-use ml_driver::Status;
+use ml_driver::{Status, TABLE};
 use std::alloc::AllocGlobal;
 use std::fs;
 use std::io::Print;
 use std::rt::Files;
-
-const COMMANDS: [&str; 19] = [
-    "decide",
-    "valid",
-    "find",
-    "prove",
-    "ask",
-    "check-model",
-    "check-refutation",
-    "migrate",
-    "quotient",
-    "solve-game",
-    "check-game",
-    "path",
-    "automaton",
-    "determinise",
-    "make",
-    "realize",
-    "check-machine",
-    "gen",
-    "bench",
-];
 
 const STATUSES: [Status; 8] = [
     Status::Yes,
@@ -47,7 +25,7 @@ pub(crate) fn read_manual<R: Files + Print + AllocGlobal>(rt: &R) -> Result<(), 
     let text = fs::read_to_string(rt, "docs/mlsolver.1")?;
     let text = text.as_str().replace(rt.alloc(), "\\-", "-")?;
     let mut commands: u32 = 0;
-    for command in COMMANDS {
+    for (command, _) in TABLE {
         commands = commands.saturating_add(found(rt, text.as_str(), command)?);
     }
     let mut statuses: u32 = 0;

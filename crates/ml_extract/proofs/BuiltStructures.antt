@@ -23,7 +23,7 @@ use Rattle.ml_kripke.specs.Built.{IsBuiltFrom, labels_at, first_bad_state}
 use Rattle.ml_kripke.proofs.Build as build
 use Rattle.ml_kripke.proofs.OneStructure.{edge_order}
 use Rattle.ml_kripke.proofs.RowOrder.{label_cmp}
-use Rattle.ml_extract.proofs.SortedLists.{Sorted, sorted}
+use Rattle.ml_lists.proofs.SortedLists.{Sorted, sorted}
 
 label_order : IsTotalOrder label_cmp
 label_order =

@@ -36,7 +36,5 @@ pub mod StateParts
 pub mod SomeModel
 -- one diamond makes one edge a state
 pub mod OnlyEdge
--- lists put in order
-pub mod SortedLists
 -- labels and edges put in order
 pub mod BuiltStructures

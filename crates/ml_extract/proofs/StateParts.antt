@@ -7,14 +7,15 @@
 --   diamonds_fit, are_diamonds, all_begin == what is asked of the diamonds of its spread, and where they lead
 --   gathered_more   == with the parts of one state more
 --   all_in_range    == the labels and edges of all states are of states that there are
-use Rattle.std.proofs.Common.{ℕ, ◌≡◌, ◌+◌, ◌<◌, ◌≤◌, ◌⊎◌, inl, inr, true, List, [], ◌++◌, length, get_or, slice_get, map, Some, None, All, sym, ap, ◌∙◌, subst, arith}
-use Rattle.std.specs.List.{zip, flat_map}
+use Rattle.std.proofs.Common.{ℕ, ◌≡◌, ◌+◌, ◌<◌, ◌≤◌, true, List, [], ◌++◌, length, get_or, slice_get, map, Some, None, All, sym, ap, ◌∙◌, subst, arith}
+use Rattle.std.specs.List.{zip}
 use Rattle.std.proofs.lemmas.List.{get_or_default, length-map, get_or-map}
 use Rattle.std.proofs.lemmas.Option.{slice_get_within, slice_get-get_or}
 use Rattle.ml_base.specs.declared.structure.Edge.{Edge}
-use Rattle.ml_kripke.specs.Built.{first_bad_state, named_states, ends}
+use Rattle.ml_kripke.specs.Built.{first_bad_state}
+use Rattle.ml_kripke.proofs.Range.{none_bad}
 use Rattle.ml_lists.specs.Member.{IsMember}
-use Rattle.ml_lists.proofs.Member.{Image, member-All, member-append, member-map_from, member-filter_from, InList, member-flat_map_from}
+use Rattle.ml_lists.proofs.Member.{Image, member-All, member-map_from, member-filter_from}
 use Rattle.ml_graph.specs.Graph.{Graph, size, node_at}
 use Rattle.ml_parity.specs.Solution.{GameSolution}
 use Rattle.ml_sequent.specs.Spread.{SpreadList, IsSpreadOf, is_diamond}
@@ -23,7 +24,6 @@ use Rattle.ml_product.specs.DecisionGame.{diamonds_of}
 use Rattle.ml_product.specs.Arena.{Arena}
 use Rattle.ml_product.proofs.ArenaGame.{same_entry}
 use Rattle.ml_lists.proofs.Member.{member_of_get}
-use Rattle.ml_lists.proofs.Entries.{find-none}
 use Rattle.ml_product.proofs.NeutralPriority.{sequent_low}
 use Rattle.ml_extract.specs.Model.{State, SpreadAt, Chooses, ends as choice_ends, moves, nexts}
 use Rattle.ml_extract.specs.private.Gathered.{HasSpread, names_in, labelled, edge_to, AreGathered}
@@ -156,25 +156,12 @@ module _ (g : Graph) (a : Arena) (s : GameSolution) (fs ls : List ℕ) (n : AreN
   pub all_in_range : (labels : List (ℕ × List ℕ)) (edges : List Edge)
       → AreGathered g a n.states (length ls) labels edges
       → first_bad_state (length ls) labels edges ≡ None
-  all_in_range labels edges old = find-none (length ls) (named_states labels edges) (λ v m. low v m)
+  all_in_range labels edges old = none_bad (length ls) labels edges label_low edge_low
     where
-      of_end : (v : ℕ) (e : Edge) → IsMember e edges → IsMember v (ends e) → v < length ls
-      of_end v e m (inl source) = let h = (old.edges_are e).0 m in omega (arith, h.0)
-      of_end v e m (inr (inl target)) =
+      label_low : (label : ℕ × List ℕ) → IsMember label labels → label.0 < length ls
+      label_low label m = ((old.labels_are label.0 label.1).0 m).0
+
+      edge_low : (e : Edge) → IsMember e edges → (e.source < length ls) × (e.target < length ls)
+      edge_low e m =
           let h = (old.edges_are e).0 m in
-          omega (arith, slice_get_within n.states e.target h.1.to h.1.to_is, states_long)
-      of_end v e m (inr (inr none)) = absurd none
-
-      of_label : (v : ℕ) → Image (λ (label : ℕ × List ℕ). label.0) v labels → v < length ls
-      of_label v i = let h = (old.labels_are i.from.0 i.from.1).0 i.member in omega (arith, h.0, i.holds)
-
-      of_edge : (v : ℕ) → InList ends v edges → v < length ls
-      of_edge v i = of_end v i.from i.member i.inside
-
-      low : (v : ℕ) → IsMember v (named_states labels edges) → v < length ls
-      low v m = by_part (member-append v (map (λ (label : ℕ × List ℕ). label.0) labels) (flat_map ends edges) m)
-        where
-          by_part : IsMember v (map (λ (label : ℕ × List ℕ). label.0) labels) ⊎ IsMember v (flat_map ends edges)
-              → v < length ls
-          by_part (inl here) = of_label v (member-map_from (λ (label : ℕ × List ℕ). label.0) v labels here)
-          by_part (inr here) = of_edge v (member-flat_map_from ends v edges here)
+          (h.0, omega (arith, slice_get_within n.states e.target h.1.to h.1.to_is, states_long))

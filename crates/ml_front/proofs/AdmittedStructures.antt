@@ -1,7 +1,7 @@
 -- A structure that is made along the diamonds of a graph is one of which the problem's logic speaks.
 --
---   IsMadeAlong g m s == the graph g holds at the state s of m, each edge has the action of a diamond of g, edges lead from s to
---                        each state, and where g has one diamond at most, edges from one state are one
+--   IsMadeAlong g m s == the graph g holds at the state s of m, each edge has the action of a diamond of g, edges lead from s
+--                        to each state, and where g has one diamond at most, edges from one state are one
 --   blank             == where a closure's graph is made along, edges have the action `_`
 --   is_total          == where the closure asks for edges, each state has one
 --   is_word           == and exactly one where it has one diamond

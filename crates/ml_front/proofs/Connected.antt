@@ -4,13 +4,14 @@
 --   both_size, negation_size == how many occurrences they have
 --   all_grows    == formulas that are joined to others have no fewer occurrences
 --   all_append   == to join formulas to one is to join the first ones, and then the others
---   joined_more, joined_grows == formulas joined with one more behind them; with others behind them they have no fewer occurrences
+--   joined_more, joined_grows == formulas joined with one more behind them; with others behind them they have no fewer
+--                                occurrences
 --   with_fits, with_joined, with_large == one formula more is joined to those that were joined so far
 --   front_more   == a list begins with its first elements and the next one
 use Rattle.std.proofs.Common.{◌≡◌, ◌≤◌, ◌<◌, ◌+◌, List, [], ◌∷◌, ◌++◌, drop, get_or, length, take, Option, None, Some, MatchOption, refl, sym, ap, subst, ◌∙◌, arith}
 use Rattle.std.proofs.lemmas.List.{take-append-drop, take_more}
 use Rattle.ml_text.specs.Limits.{most_occurrences}
-use Rattle.ml_text.proofs.Names.{all_parts}
+use Rattle.ml_lists.proofs.AllOf.{all_parts}
 use Rattle.ml_front.specs.Connectives.{all_of, both, joined, negation, occurrences, truth, AreOf}
 use Rattle.ml_front.specs.Logics.{logic_of}
 use Rattle.ml_front.specs.declared.logic.Logic.{Logic}

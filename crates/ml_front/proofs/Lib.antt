@@ -1,8 +1,3 @@
--- texts that stand in one line
-pub mod WordLines
-pub mod MuLines
-pub mod PdlLines
-pub mod CtlLines
 -- what each logic proves of its texts, said of all
 pub mod Logics
 -- formulas made of others

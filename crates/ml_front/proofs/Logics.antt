@@ -37,9 +37,9 @@ use Rattle.ml_front.specs.declared.logic.Logic.{Logic}
 use Rattle.ml_front.specs.declared.logic.Logic.TheVariants as logic
 use Rattle.ml_front.specs.declared.problem.AnyFormula.{AnyFormula}
 use Rattle.ml_front.specs.declared.problem.AnyFormula.TheVariants.{Mu, Pdl, Ctl, Ltl, Word}
-use Rattle.ml_front.proofs.MuLines as mu_lines
-use Rattle.ml_front.proofs.CtlLines as ctl_lines
-use Rattle.ml_front.proofs.PdlLines as pdl_lines
+use Rattle.ml_mu.proofs.CanonicalLines as mu_lines
+use Rattle.ml_ctl.proofs.CanonicalLines as ctl_lines
+use Rattle.ml_pdl.proofs.CanonicalLines as pdl_lines
 
 -- ---- formulas by their logics
 

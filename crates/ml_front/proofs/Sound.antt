@@ -7,7 +7,8 @@ use Rattle.std.specs.List.{AllByRecursion}
 use Rattle.std.proofs.lemmas.Bool.{and_from}
 use Rattle.ml_text.specs.Limits.{most_occurrences}
 use Rattle.ml_text.specs.Names.{IsShortName}
-use Rattle.ml_text.proofs.Names.{all_both, spelled_both}
+use Rattle.ml_lists.proofs.AllOf.{all_both}
+use Rattle.ml_text.proofs.Names.{spelled_both}
 use Rattle.ml_ctl.specs.FormulaNames as ctl_names
 use Rattle.ml_ctl.specs.Signs as ctl_signs
 use Rattle.ml_ctl.specs.Sorts.{is_linear, is_state}

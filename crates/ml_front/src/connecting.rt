@@ -132,8 +132,8 @@ fn with(
     }
 }
 
-/// Formulas of one logic, grouped to the left by AND, and `tt` where there is none; `None` exactly where that has more than 1,000
-/// occurrences.
+/// Formulas of one logic, grouped to the left by AND, and `tt` where there is none; `None` exactly where that has more than
+/// 1,000 occurrences.
 ///
 /// # Errors
 /// `NoMemory` alone.

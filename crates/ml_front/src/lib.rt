@@ -2,8 +2,8 @@
 //
 // A `Problem` is a formula of any logic with its sense. `read` gives the problem of a text, `negated` the one in the
 // other sense, `print` the canonical text, and `graph` the modal graph that holds where the problem does; what a problem
-// asks stands in `specs/Problems.antt`. Formulas are made of others by `negation`, `conjunction` and `joined`, within the limit on
-// their size. Whoever stands above needs no word of any one logic.
+// asks stands in `specs/Problems.antt`. Formulas are made of others by `negation`, `conjunction` and `joined`, within the limit
+// on their size. Whoever stands above needs no word of any one logic.
 //
 // A document begins with five lines, its head, and goes on with a body. `read_head` reads the head where one answer is
 // wanted, in either version, and tells the first bad line where there is none; `write_head` writes it. What a head is,
@@ -18,8 +18,8 @@
 // one line.
 //
 // Below stand the formulas of the logics (`ml_mu`, `ml_pdl`, `ml_ctl`, `ml_ltl`) and their graphs (`ml_mu_graph`,
-// `ml_pdl_graph`, `ml_blocks`, `ml_word_graph`), `ml_graph` (graphs), `ml_lines` (lines and words) and `ml_lists` (documents as places and
-// rules); above stand the crates that decide problems, and those that check and write documents.
+// `ml_pdl_graph`, `ml_blocks`, `ml_word_graph`), `ml_graph` (graphs), `ml_lines` (lines and words) and `ml_lists` (documents as
+// places and rules); above stand the crates that decide problems, and those that check and write documents.
 #![tactic(auto)]
 
 mod answer;

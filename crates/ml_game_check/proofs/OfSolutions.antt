@@ -1,5 +1,6 @@
 -- The claims of a solution are right.
 --
+--   told_claim           == what a solution claims of a vertex
 --   claimed_is, moved_is == what the claims of a solution say of a vertex
 --   solutions_are_right  == the theorem
 use Rattle.std.proofs.Common.{ℕ, ◌≡◌, ◌+◌, ◌<◌, ◌≤◌, ◌⊎◌, Option, Some, None, length, get_or, inl, inr, ⊎_elim, refl, sym, ap, ◌∙◌, subst, arith}
@@ -46,10 +47,10 @@ pub same_number : (a b : ℕ) → Some a ≡ Some b → a ≡ b
 unfolding number_or
 same_number a b e = ap (number_or a) e
 
-module _ (g : ParityGame) (s : GameSolution) (ok : IsGame g) (is : IsSolution g s) where
-  at : (v : ℕ) → v < size g → claim_at (claims_of g s) v ≡ claim_of g s v
-  at v low = get_or-map-range_with_len (claim_of g s) 0 (size g) v v None low (omega arith)
+pub told_claim : (g : ParityGame) (s : GameSolution) (v : ℕ) → v < size g → claim_at (claims_of g s) v ≡ claim_of g s v
+told_claim g s v low = get_or-map-range_with_len (claim_of g s) 0 (size g) v v None low (omega arith)
 
+module _ (g : ParityGame) (s : GameSolution) (ok : IsGame g) (is : IsSolution g s) where
   long : length (claims_of g s) ≡ size g
   long = length-map-range_with_len (claim_of g s) 0 (size g)
 
@@ -65,12 +66,12 @@ module _ (g : ParityGame) (s : GameSolution) (ok : IsGame g) (is : IsSolution g 
     won : (v : ℕ) → IsClaimed (claims_of g s) p v → winner_at s.winner v ≡ p
     won v claimed =
         same_winner (winner_at s.winner v) p (move_of (owner_of g v) (winner_at s.winner v) (choice_at s.choice v)) claimed.0
-        (sym (at v (below p v claimed)) ∙ claimed.1)
+        (sym (told_claim g s v (below p v claimed)) ∙ claimed.1)
 
     claimed_for : (v : ℕ) → v < size g → winner_at s.winner v ≡ p → IsClaimed (claims_of g s) p v
     claimed_for v low same = (
       move_of (owner_of g v) (winner_at s.winner v) (choice_at s.choice v),
-      at v low ∙ ap (λ q. Some (claim q (move_of (owner_of g v) (winner_at s.winner v) (choice_at s.choice v)))) same,
+      told_claim g s v low ∙ ap (λ q. Some (claim q (move_of (owner_of g v) (winner_at s.winner v) (choice_at s.choice v)))) same,
     )
 
     -- the move at a vertex of p's that is claimed for p
@@ -82,7 +83,7 @@ module _ (g : ParityGame) (s : GameSolution) (ok : IsGame g) (is : IsSolution g 
         sym (stands p (choice_at s.choice v))
         ∙ (λ i. move_of (owner_is i) (winner_is i) (choice_at s.choice v))
         ∙ same_move (winner_at s.winner v) p (move_of (owner_of g v) (winner_at s.winner v) (choice_at s.choice v)) to
-        (sym (at v (below p v (to, here))) ∙ here)
+        (sym (told_claim g s v (below p v (to, here))) ∙ here)
 
     wins : (v : ℕ) → IsClaimed (claims_of g s) p v → WinsFrom g p (choice_at s.choice) v
     wins v claimed = subst (λ q. WinsFrom g q (choice_at s.choice) v) (won v claimed) (is.wins v (below p v claimed))

@@ -2,7 +2,6 @@
 --
 -- A walk of numbers below n comes back to a number within n steps, and goes round from then on.
 --
---   walk-plus        == a walk from where a walk led
 --   Period, period   == how many steps lead round, from the step n on
 --   Round            == a walk from x comes back to x, and f is nowhere lower
 --   lowest_first, lowest_more == the lowest of no step, and of one step more
@@ -14,14 +13,8 @@ use Rattle.std.proofs.lemmas.Bool.{cases_lt}
 use Rattle.ml_lists.specs.Pigeons.{Twice}
 use Rattle.ml_lists.specs.Walk.{walk}
 use Rattle.ml_lists.proofs.Pigeons.{pigeons}
-use Rattle.ml_lists.proofs.Walks.{walk-add-one}
+use Rattle.ml_lists.proofs.Walks.{walk-add-one, walk-sum}
 use Rattle.ml_game_check.specs.private.Cycles.{IsLower, IsLowestFrom, IsLowestTo}
-
-pub walk-plus : (next : ℕ → ℕ) (v a b : ℕ) → walk next (walk next v a) b ≡ walk next v (a + b)
-walk-plus next v a zero = let e : a ≡ a + 0 = omega arith in ap (walk next v) e
-walk-plus next v a (suc b) =
-    let e : suc (a + b) ≡ a + suc b = omega arith in
-    ap next (walk-plus next v a b) ∙ ap (walk next v) e
 
 pub record Period (c : ℕ → ℕ) (n : ℕ) : Type 0 where
   pub period : ℕ
@@ -45,9 +38,9 @@ period next v n low = from (pigeons n (walk next v) (λ k within. low k))
             let here : k + (t.second - t.first) ≡ t.second + (k - t.first) = omega (arith, t.apart, t.within) in
             let there : t.first + (k - t.first) ≡ k = omega (arith, t.apart, t.within) in
             ap (walk next v) here
-            ∙ sym (walk-plus next v t.second (k - t.first))
+            ∙ sym (walk-sum next v t.second (k - t.first))
             ∙ ap (λ x. walk next x (k - t.first)) (sym t.same)
-            ∙ walk-plus next v t.first (k - t.first)
+            ∙ walk-sum next v t.first (k - t.first)
             ∙ ap (walk next v) there
 
 -- a step behind the first n that gives the same as the step n + d, within one round
@@ -98,7 +91,7 @@ lowest_round next f n v x low is = from (period next v n low)
     from p = record {
       length_of = p.period;
       some = p.some;
-      closed = ap (λ y. walk next y p.period) (sym is.there) ∙ walk-plus next v is.steps p.period ∙ p.again is.steps is.late ∙ is.there;
+      closed = ap (λ y. walk next y p.period) (sym is.there) ∙ walk-sum next v is.steps p.period ∙ p.again is.steps is.late ∙ is.there;
       lowest = lowest;
     }
       where
@@ -107,7 +100,7 @@ lowest_round next f n v x low is = from (period next v n low)
             let e = earlier next v n p (is.steps + k - n) in
             let a : is.steps + k ≡ n + (is.steps + k - n) = omega (arith, is.late) in
             let same : walk next x k ≡ walk next v (n + e.step) =
-            ap (λ y. walk next y k) (sym is.there) ∙ walk-plus next v is.steps k ∙ ap (walk next v) a ∙ e.same
+            ap (λ y. walk next y k) (sym is.there) ∙ walk-sum next v is.steps k ∙ ap (walk next v) a ∙ e.same
             in
             let at_most = is.lowest (n + e.step) (omega arith) (omega (arith, e.below, p.short)) in
             subst (λ y. f x ≤ f y) (sym same) at_most

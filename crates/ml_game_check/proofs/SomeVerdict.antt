@@ -1,8 +1,8 @@
 -- Claims have a verdict.
 --
 -- The first three rules are looked up at each vertex. Where none of them is broken, the game of ways has a winner at each
--- vertex: where each player wins what is claimed for the player, the claims are right, and else the winner's moves from a vertex
--- that is lost lead to one that breaks the fourth rule.
+-- vertex: where each player wins what is claimed for the player, the claims are right, and else the winner's moves from a
+-- vertex that is lost lead to one that breaks the fourth rule.
 --
 --   early_or_not  == at a vertex one of the first three rules is broken, or none is
 --   ways_of_game, is_way_game == the game of ways

@@ -8,7 +8,8 @@
 --   move_of_way, way_of_move == from a vertex with a claim the moves are the ways
 --   leads                == a way leads to a vertex that is claimed for the same player
 --   no_bad_cycle         == where each player wins what is claimed for the player, no claim breaks the fourth rule
---   lost_breaks          == from a vertex that the opponent wins, the choices lead to a cycle on which the fourth rule is broken
+--   lost_breaks          == from a vertex that the opponent wins, the choices lead to a cycle on which the fourth rule is
+--                           broken
 use Rattle.std.proofs.Common.{ℕ, zero, suc, ◌≡◌, ◌+◌, ◌<◌, ◌≤◌, ◌⊎◌, List, [], ◌∷◌, Option, Some, None, length, get_or, inl, inr, ⊎_elim, refl, sym, ap, ◌∙◌, subst, subst₂, arith}
 use Rattle.std.specs.Global.{Vec}
 use Rattle.std.specs.List.{Contains}

@@ -1,7 +1,7 @@
 -- Where claims are right, vertices are won as they say.
 --
--- A play that follows the claimed moves goes along ways, so it stays among the vertices claimed for the player. On its loop some
--- vertex has the lowest priority. Were that bad for the player, the claim of this vertex would break the fourth rule.
+-- A play that follows the claimed moves goes along ways, so it stays among the vertices claimed for the player. On its loop
+-- some vertex has the lowest priority. Were that bad for the player, the claim of this vertex would break the fourth rule.
 --
 --   claimed_or_not   == whether a vertex is claimed for a player is told
 --   way, ways        == each move of such a play is a way

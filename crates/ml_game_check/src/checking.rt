@@ -21,10 +21,10 @@ use std::alloc::Global;
 /// # Errors
 /// `NoMemory` alone.
 ///
-/// Cost: one pass over the game, and then, for m ways between n vertices of d priorities, about (n + m) log d turns of an engine
-/// that halves the priorities, and one pass more, which checks what it found: vertices in a row by which no cycle is bad, or a bad
-/// cycle. Only where that fails, which no game is known for, comes a call of `solve` on the game of ways, in which each vertex has
-/// one owner and the moves that its claim leaves.
+/// Cost: one pass over the game, and then, for m ways between n vertices of d priorities, about (n + m) log d turns of an
+/// engine that halves the priorities, and one pass more, which checks what it found: vertices in a row by which no cycle is
+/// bad, or a bad cycle. Only where that fails, which no game is known for, comes a call of `solve` on the game of ways, in
+/// which each vertex has one owner and the moves that its claim leaves.
 pub fn check(alloc: Global, game: &Game, claims: &[Option<Claim>]) -> Result<Verdict, NoMemory>
     requires { length claims.now ≡ size game.now }
     ensures { IfOk result (IsVerdict game.now claims.now) }

@@ -16,8 +16,8 @@ pub fn solutions_are_right()
     ensures law { SolutionsAreRight }
 {}
 
-/// For claims about the vertices of a game there is a verdict, and two verdicts are the same, but that with the fourth rule they
-/// may name two vertices. So `check` answers each exactly where it is said to come.
+/// For claims about the vertices of a game there is a verdict, and two verdicts are the same, but that with the fourth rule
+/// they may name two vertices. So `check` answers each exactly where it is said to come.
 ///
 /// Does nothing when called.
 pub fn one_verdict()

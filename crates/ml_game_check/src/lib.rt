@@ -8,8 +8,8 @@
 //
 // The first three rules are looked up (`early`). For the fourth an engine of which nothing is claimed (`looking`, `halving`,
 // `nests`, `arcs`, and what it shares with other engines: `numbers`, `Arc`, `Strong`) finds a row of the vertices by which no
-// cycle is bad, or a bad cycle; `sorted` and `circles` check these, and `fourth` puts it together. Where the check fails a game is
-// solved (`cycles`, `ways`).
+// cycle is bad, or a bad cycle; `sorted` and `circles` check these, and `fourth` puts it together. Where the check fails a game
+// is solved (`cycles`, `ways`).
 //
 // Below stands `ml_parity`, for games, plays and winners, and for the solver.
 #![tactic(auto)]

@@ -1,5 +1,5 @@
-// Lists that are read and written anywhere, for engines of which nothing is claimed: past their ends nothing stands, and nothing
-// is written.
+// Lists that are read and written anywhere, for engines of which nothing is claimed: past their ends nothing stands, and
+// nothing is written.
 
 /// No number.
 pub const NONE: u32 = u32::MAX;

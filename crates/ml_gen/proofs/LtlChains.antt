@@ -17,7 +17,7 @@ use Rattle.ml_text.proofs.AcceptedTexts.{accepted}
 use Rattle.ml_text.proofs.LooserLevels.{raised, loosest}
 use Rattle.ml_text.proofs.Pieces.{lone, lone_piece, and_piece}
 use Rattle.ml_text.proofs.Scans.{Spelt, spelt_at, Scans, ends, scans_tokens}
-use Rattle.ml_text.proofs.TableItems.{IsShort, signs_spelt}
+use Rattle.ml_text.proofs.TableItems.{IsShort, counted_items, signs_spelt}
 use Rattle.ml_ctl.specs.Canonical.{canonical_text}
 use Rattle.ml_ctl.specs.Formula.{Formula, Binary, occurrences}
 use Rattle.ml_ctl.specs.declared.language.Language.TheVariants.{Ltl}
@@ -28,7 +28,7 @@ use Rattle.ml_ctl.specs.Spelling.{HasShortNames, is_spelled}
 use Rattle.ml_ctl.specs.Text.{ctl_signs, items}
 use Rattle.ml_ctl.proofs.CanonicalLimits.{few_open, opens_of, tokens_short}
 use Rattle.ml_ctl.proofs.CanonicalTexts.{as_text, reads_formula, scans_formula, sign_spelt, tokens_onto}
-use Rattle.ml_ctl.proofs.Counting.{counts, counted_items}
+use Rattle.ml_ctl.proofs.Counting.{counts}
 use Rattle.ml_ctl.proofs.Sorts.{fits}
 use Rattle.ml_ctl.specs.Parsing.{IsParsedAs}
 use Rattle.ml_gen.proofs.Chains as chains
@@ -133,7 +133,7 @@ module _ (f : Formula) (gs : List Formula) (part : IsPart f) (parts : AllByRecur
         tokens_are = tokens_are;
         brackets = λ p. refl;
         stands = stands;
-        few = omega (arith, counted_items text (tokens LowerCase text), counts stands, small);
+        few = omega (arith, counted_items ctl_signs text tt (tokens LowerCase text), counts stands, small);
         flat = omega (arith, few_open f behind, few_more gs f, small);
         short = (refl, tokens_short f part.short behind (refl, short_more gs parts));
       })

@@ -18,10 +18,11 @@ use Rattle.ml_text.proofs.AcceptedTexts.{accepted}
 use Rattle.ml_text.proofs.LooserLevels.{raised, loosest}
 use Rattle.ml_text.proofs.Pieces.{and_piece, ends_word}
 use Rattle.ml_text.proofs.Scans.{Spelt, spelt_at, Scans, ends, scans_tokens}
-use Rattle.ml_text.proofs.TableItems.{IsShort, signs_spelt}
+use Rattle.ml_text.proofs.TableItems.{IsShort, counted_items, signs_spelt}
 use Rattle.ml_mu.specs.Canonical.{canonical_text}
 use Rattle.ml_text.specs.Names.{IsShortName}
-use Rattle.ml_text.proofs.Names.{all_both, spelled_both}
+use Rattle.ml_lists.proofs.AllOf.{all_both}
+use Rattle.ml_text.proofs.Names.{spelled_both}
 use Rattle.ml_mu.specs.Formula.{Formula, Binary, occurrences}
 use Rattle.ml_mu.specs.FormulaNames.{names}
 use Rattle.ml_mu.specs.Grammar.{IsReadAs, Reads, alone, joined}
@@ -32,7 +33,7 @@ use Rattle.ml_mu.specs.Text.{mu_signs, items}
 use Rattle.ml_mu.specs.Variables.{is_bound, is_positive}
 use Rattle.ml_mu.proofs.CanonicalLimits.{few_open, opens_of, tokens_short}
 use Rattle.ml_mu.proofs.CanonicalTexts.{reads_formula, scans_formula, sign_spelt, tokens_onto}
-use Rattle.ml_mu.proofs.Counting.{counts, counted_items}
+use Rattle.ml_mu.proofs.Counting.{counts}
 use Rattle.ml_mu.proofs.FaultFree.{well_fine}
 use Rattle.ml_gen.proofs.Chains as chains
 use Rattle.ml_gen.proofs.Chains.{and_sign}
@@ -138,7 +139,7 @@ module _ (f : Formula) (gs : List Formula) (part : IsPart f) (parts : AllByRecur
           tokens_are = tokens_are;
           brackets = λ p. refl;
           stands = stands;
-          few = omega (arith, counted_items text false (tokens AnyLetter text), counts stands, small);
+          few = omega (arith, counted_items mu_signs text false (tokens AnyLetter text), counts stands, small);
           flat = omega (arith, few_open f (more_tokens gs), few_more gs f, small);
           short = tokens_short f part.short (more_tokens gs) (short_more gs parts);
         });

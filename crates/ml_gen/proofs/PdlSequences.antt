@@ -19,7 +19,7 @@ use Rattle.ml_text.specs.Signs.{bracket_of, word_sign}
 use Rattle.ml_text.proofs.AcceptedTexts.{accepted}
 use Rattle.ml_text.proofs.Pieces.{lone, lone_piece, less_piece, and_piece, ends_word, word_piece}
 use Rattle.ml_text.proofs.Scans.{Spelt, spelt_at, Scans, ends, scans_tokens}
-use Rattle.ml_text.proofs.TableItems.{IsShort}
+use Rattle.ml_text.proofs.TableItems.{IsShort, counted_items}
 use Rattle.ml_pdl.specs.Canonical.{canonical_text}
 use Rattle.ml_pdl.specs.Formula as plain
 use Rattle.ml_pdl.specs.Formula.{Formula, Program, Seq, Star, occurrences, program_occurrences}
@@ -35,7 +35,7 @@ use Rattle.ml_pdl.specs.declared.signs.Own.TheVariants.{Paren, Repeats}
 use Rattle.ml_pdl.specs.Text.{pdl_signs, items}
 use Rattle.ml_pdl.proofs.CanonicalLimits.{opens_of, token_bracket, few_open, program_few, program_short, tokens_short}
 use Rattle.ml_pdl.proofs.CanonicalTexts.{operand_read, operands_read, plain_signs, program_onto, reads_formula, reads_program, scans_formula, scans_program, sign_spelt, signs_with_marks, tokens_onto, plain_spelt}
-use Rattle.ml_pdl.proofs.Counting.{counts, counted_items}
+use Rattle.ml_pdl.proofs.Counting.{counts}
 use Rattle.ml_pdl.proofs.MarkedTexts.{marks_are_of_texts}
 use Rattle.ml_gen.specs.Formulas.{act}
 
@@ -127,7 +127,7 @@ module _ (text : List ℕ) (spelt : List Spelt) (f : Formula) (scans : Scans Any
         tokens_are = tokens_are;
         brackets = token_bracket text;
         stands = stands;
-        few = omega (arith, counted_items text false (tokens AnyLetter text), counts stands, small);
+        few = omega (arith, counted_items pdl_signs text false (tokens AnyLetter text), counts stands, small);
         flat = omega (arith, flat);
         short = short;
       })

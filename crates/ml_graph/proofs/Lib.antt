@@ -10,8 +10,6 @@ pub mod EdgeRows
 pub mod Truths
 -- the edges of a structure, state by state
 pub mod EdgesLeft
--- ranges of numbers, one number longer
-pub mod Ranges
 -- how a checking game is made
 pub mod Making
 -- the checking game, vertex by vertex

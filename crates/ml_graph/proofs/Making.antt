@@ -23,7 +23,7 @@ use Rattle.ml_graph.specs.declared.checking.Vertices.{Vertices}
 use Rattle.ml_graph.specs.Graph.{Graph, size, node_at}
 use Rattle.ml_graph.specs.CheckingGame.{Vertex, Pair, Sink, owner_at, priority_at_vertex, vertex_number, successors, successors_of, pairs_or_sink, pairs_at, vertices, checking_game}
 use Rattle.ml_graph.specs.private.Making.{AreEdgesOf, HasTruths, HasTargets, HasVertices, IsFor, IsAt, numbers_or_sink}
-use Rattle.ml_graph.proofs.Ranges.{flat_map-more, map-more}
+use Rattle.ml_lists.proofs.Ranges.{flat_map-more, map-more}
 
 -- what was noted at a state is what is true there, and where its edges lead
 pub looked : (g : Graph) (m : Structure) (s : ℕ) (at at2 : AtState) (labels : List (List ℕ)) (es : List Edge)

@@ -3,13 +3,14 @@
 --   truth_more  == one label more, which is a proposition
 --   truth_kept  == one label more, which is none
 --   label_found, label_unknown == the same, of the labels up to a place and the one at it
-use Rattle.std.proofs.Common.{ℕ, ◌≡◌, ◌+◌, ◌<◌, ◌==◌, ◌⊎◌, inl, inr, Bool, true, false, ◌||◌, List, [], ◌∷◌, ◌++◌, length, get_or, take, Some, None, refl, sym, ap, ◌∙◌, subst, arith, set}
+use Rattle.std.proofs.Common.{ℕ, ◌≡◌, ◌+◌, ◌<◌, ◌==◌, ◌⊎◌, inl, inr, Bool, true, false, ◌||◌, List, [], ◌∷◌, ◌++◌, length, get_or, take, Some, None, sym, ap, ◌∙◌, subst, arith, set}
 use Rattle.std.specs.List.{list_any, position, IsDistinct}
 use Rattle.std.specs.Str.{bytes_eq}
 use Rattle.std.proofs.lemmas.Bool.{cases_eq}
 use Rattle.std.proofs.lemmas.Bool.Decides.{nat_tests}
 use Rattle.std.proofs.lemmas.List.{get_or-set_same, get_or-set_other, length-set, take_more}
 use Rattle.std.proofs.lemmas.List.Folds.{list_any-append}
+use Rattle.std.proofs.Math.Bool.{or-false, or-true}
 use Rattle.ml_graph.specs.private.Making.{HasTruths}
 use Rattle.ml_graph.proofs.Places.{found_at, position_miss}
 
@@ -20,21 +21,13 @@ label_more labels x p b is =
     list_any-append (λ q. bytes_eq q p) labels (x ∷ [])
     ∙ ap (λ c. list_any (λ q. bytes_eq q p) labels || (c || false)) is
 
-or_true : (b : Bool) → (b || true) ≡ true
-or_true true = refl
-or_true false = refl
-
-or_false : (b : Bool) → (b || false) ≡ b
-or_false true = refl
-or_false false = refl
-
 pub truth_kept : (props labels : List (List ℕ)) (truths : List Bool) (x : List ℕ) → HasTruths props labels truths
     → ((p : ℕ) → p < length props → bytes_eq x (get_or props p []) ≡ false) → HasTruths props (labels ++ x ∷ []) truths
 truth_kept props labels truths x has none = record {
   size = has.size;
   truth = λ p low.
       has.truth p low
-      ∙ sym (or_false (list_any (λ q. bytes_eq q (get_or props p [])) labels))
+      ∙ sym (or-false (list_any (λ q. bytes_eq q (get_or props p [])) labels))
       ∙ sym (label_more labels x (get_or props p []) false (none p low));
 }
 
@@ -54,13 +47,13 @@ truth_more props labels truths x i has i_low tests = record {
         let test : (p == i) ≡ true = grind (arith, nat_tests) in
         ap (λ k. get_or (set truths i true) k false) here
         ∙ get_or-set_same truths i true false (omega (arith, has.size))
-        ∙ sym (or_true (list_any (λ q. bytes_eq q (get_or props p [])) labels))
+        ∙ sym (or-true (list_any (λ q. bytes_eq q (get_or props p [])) labels))
         ∙ sym (label_more labels x (get_or props p []) true (tests p low ∙ test))
     by_place p low (inr there) =
         let test : (p == i) ≡ false = grind (arith, nat_tests) in
         get_or-set_other truths i p true false there
         ∙ has.truth p low
-        ∙ sym (or_false (list_any (λ q. bytes_eq q (get_or props p [])) labels))
+        ∙ sym (or-false (list_any (λ q. bytes_eq q (get_or props p [])) labels))
         ∙ sym (label_more labels x (get_or props p []) false (tests p low ∙ test))
 
 -- the labels up to a place, and the one at it

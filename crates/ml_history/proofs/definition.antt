@@ -30,3 +30,5 @@ pub mod WorkedSteps
 pub mod LetterSets
 -- which states have a stack behind a step
 pub mod SteppedStates
+-- small histories: how many names there can be in one
+pub mod SmallHistories

@@ -10,8 +10,6 @@ pub mod Ways
 pub mod Line
 -- histories as trees, as plain data
 pub mod Forest
--- what the targets take, one offer at a time
-pub mod Puts
 -- what the vertices that a program holds are seen as
 pub mod Vertices
 -- what walks over a forest give

@@ -6,11 +6,10 @@
 // cycle laws say (`laws`).
 //
 // A reader needs one page: `specs/History` (what a history is) and `specs/HistoryStep` (the step and its mark). All else
-// is proof. Three types compute the step, each in a module of its own, and each is proved equal to the definition:
+// is proof. Two types compute the step, each in a module of its own, and each is proved equal to the definition:
 // - `History` (`flat`) holds the stacks in flat arrays, and is the one to use: begin with `History::start`, and then
 //   `step`, `stacks`, `live` and `copy`. Histories compare and hash by their arrays.
 // - `tree::TreeHistory` holds them as a tree with a vertex for each name, as the literature draws them.
-// - `plain::PlainHistory` follows the definition line by line, slowly, and stays as the reference.
 //
 // Below: ml_lists (general mathematics), ml_base (want of memory), ml_trace (letters, runs, marks). Above: the decision
 // game, whose positions hold a history.
@@ -19,7 +18,6 @@
 pub mod flat;
 pub mod laws;
 mod names;
-pub mod plain;
 pub mod tree;
 
 pub use flat::History;

@@ -4,7 +4,7 @@ ghost use Rattle.ml_lists.specs.Counting.{count};
 ghost use Rattle.ml_lists.specs.Least.{least};
 ghost use Rattle.ml_lists.specs.Member.{IsMember};
 ghost use Rattle.ml_trace.specs.Stack.{has};
-ghost use Rattle.ml_history.specs.HistoryStep.{above, last_name, mark_of};
+ghost use Rattle.ml_history.specs.HistoryStep.{last_name, mark_of};
 ghost use Rattle.ml_history.specs.private.TreeStep.{flagged};
 
 use ml_base::NoMemory;
@@ -19,18 +19,6 @@ pub(crate) fn last_name(stack: &[u32]) -> u32
         [.., last] => *last,
         [] => 0,
     }
-}
-
-// One more than the greatest name of the stack.
-pub(crate) fn above(stack: &[u32]) -> u32
-    requires { above stack.now ≤ 2 ^ 30 }
-    ensures { result ≡ above stack.now }
-{
-    let mut most: u32 = 0;
-    for x in stack {
-        most = most.max(*x + 1);
-    }
-    most
 }
 
 // A flag for each number below `bound`: whether it is one of the names.
@@ -117,7 +105,7 @@ pub(crate) fn mark(used: u32, full: &[bool], standing: &[bool]) -> Mark
 }
 
 // The mark, from the least red name and the least green name.
-pub(crate) fn mark_of(red: Option<u32>, green: Option<u32>) -> Mark
+fn mark_of(red: Option<u32>, green: Option<u32>) -> Mark
     ensures { result ≡ mark_of red green }
 {
     match (red, green) {

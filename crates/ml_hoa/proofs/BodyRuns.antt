@@ -6,6 +6,7 @@
 use Rattle.std.proofs.Common.{◌≡◌, ℕ, ◌+◌, ◌||◌, Bool, true, false, nat_eq, nat_le, if◌then◌else◌, List, [], ◌∷◌, ◌++◌, length, map, Option, Some, None, refl, sym, ◌∙◌, ap, arith, length-append}
 use Rattle.std.specs.List.{flat_map, list_any}
 use Rattle.std.proofs.lemmas.List.{append_assoc}
+use Rattle.std.proofs.Math.Bool.{or-false}
 use Rattle.ml_hoa.specs.declared.token.Mark.TheVariants as mark
 use Rattle.ml_hoa.specs.declared.reader.Stage.{Stage}
 use Rattle.ml_hoa.specs.declared.reader.Stage.TheVariants as stage
@@ -71,10 +72,6 @@ clipped_edge h from in_set e = record {
 
 -- ---- the sets of an edge
 
-or_false : (a : Bool) → (a || false) ≡ a
-or_false true = refl
-or_false false = refl
-
 all_or : (a more : Bool) → true ≡ (a || true)
 all_or true more = refl
 all_or false more = refl
@@ -100,7 +97,7 @@ edge_sets : (strict : Bool) (h : Heads) (s : State) (b : Body) (xs : List Edge) 
     })) rest
 edge_sets strict h s b xs e [] rest is =
     ap (λ es. run strict (at_body h s stage.Edges (record b { edges = es })) rest)
-    (is ∙ ap (λ a. xs ++ record e { accepting = a } ∷ []) (sym (or_false e.accepting)))
+    (is ∙ ap (λ a. xs ++ record e { accepting = a } ∷ []) (sym (or-false e.accepting)))
 edge_sets strict h s b xs e (n ∷ ns) rest is =
     let k = sets_of h.acceptance in
     let z = is_zero n in
@@ -131,7 +128,7 @@ targets_sets : (strict : Bool) (h : Heads) (s : State) (b : Body) (xs : List Edg
     })) rest
 targets_sets strict h s b xs e None rest is =
     ap (λ es. run strict (at_body h s stage.BehindTarget (record b { edges = es })) rest)
-    (is ∙ ap (λ a. xs ++ record e { accepting = a } ∷ []) (sym (or_false e.accepting)))
+    (is ∙ ap (λ a. xs ++ record e { accepting = a } ∷ []) (sym (or-false e.accepting)))
 targets_sets strict h s b xs e (Some ns) rest is = edge_sets strict h s b xs e ns rest is
 
 -- ---- edges
@@ -262,7 +259,7 @@ state_sets : (strict : Bool) (h : Heads) (s : State) (b : Body) (ns : List Numer
       fault = noted_by b.fault (flat_map (past (sets_of h.acceptance)) ns);
     })) rest
 state_sets strict h s b [] rest =
-    ap (λ i. run strict (at_body h s stage.Edges (record b { in_set = i })) rest) (sym (or_false b.in_set))
+    ap (λ i. run strict (at_body h s stage.Edges (record b { in_set = i })) rest) (sym (or-false b.in_set))
 state_sets strict h s b (n ∷ ns) rest =
     let k = sets_of h.acceptance in
     let z = is_zero n in
@@ -290,7 +287,7 @@ numbers_sets : (strict : Bool) (h : Heads) (s : State) (q : Ready) (b : Body) (s
     → run strict (at_body h s (stage_of q) b) (sets_tokens sets ++ rest)
     ≡ run strict (at_body h s (stage_of (behind_sets q sets)) (in_sets h b sets)) rest
 numbers_sets strict h s q b None rest begins =
-    ap (λ i. run strict (at_body h s (stage_of q) (record b { in_set = i })) rest) (sym (or_false b.in_set))
+    ap (λ i. run strict (at_body h s (stage_of q) (record b { in_set = i })) rest) (sym (or-false b.in_set))
 numbers_sets strict h s q b (Some ns) rest begins =
     begins (map number_token ns ++ Plain mark.RightBrace ∷ [] ++ rest) ∙ state_sets strict h s b ns rest
 

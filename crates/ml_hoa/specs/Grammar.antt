@@ -13,7 +13,8 @@
 -- Each of the four named headers stands exactly once, in any order, and `AP:` has as many strings as its number says.
 --
 --   Numeral              == the digits of a number, and the byte at which it begins
---   Label l              == a label, or what is written in it: a `lit` (Literal), a `conj` (Conjunction), a `label` (Disjunction)
+--   Label l              == a label, or what is written in it: a `lit` (Literal), a `conj` (Conjunction), a `label`
+--                           (Disjunction)
 --   Header               == a header; those that say what is accepted with the places of their numbers
 --   EdgeText, StateText  == an edge, and a state with its edges, as they were written
 --   Heads                == what the four named headers say

@@ -4,8 +4,8 @@
 -- prefix: for its syntax, if no automaton text at all has, and else for a limit that is passed. A limit is passed at a number
 -- of states above 1,000, at a number of propositions above 8, at the `[` of the 100,001st edge, at the operator with which one
 -- label passes 1,000 operators, and at the parenthesis with which more than 1,000 are open in one label. Where all
--- tokens are such a prefix but are no automaton text, the text is refused at its end, for its syntax. An automaton text within the
--- limits is refused at the first number in it that is out of range, if any is.
+-- tokens are such a prefix but are no automaton text, the text is refused at its end, for its syntax. An automaton text within
+-- the limits is refused at the first number in it that is out of range, if any is.
 --
 --   Begins ts             == with some tokens behind them, ts are an automaton text
 --   BeginsSmall ts        == with some tokens behind them, they are one within the limits

@@ -7,9 +7,9 @@ use Rattle.std.specs.Cmp.Lexicographic.{slice_cmp}
 use Rattle.std.specs.declared.cmp.Ordering.TheVariants.{Less}
 use Rattle.ml_base.specs.declared.structure.Edge.{Edge}
 use Rattle.ml_base.specs.Name.{IsName, is_name, is_action}
-use Rattle.ml_lines.specs.Lines.{Word, Line}
-use Rattle.ml_lines.specs.Reading.{IsWordBehind, value, word}
-use Rattle.ml_lines.proofs.DecidedWords.{decided_line, decided_words, decided_number}
+use Rattle.ml_lines.specs.Lines.{Line}
+use Rattle.ml_lines.specs.Reading.{value, word}
+use Rattle.ml_lines.proofs.DecidedWords.{decided_behind, decided_line, decided_words, decided_number}
 use Rattle.ml_lists.specs.Readings.{Judges}
 use Rattle.ml_lists.proofs.Decided as is
 use Rattle.ml_lists.proofs.Decided.{Decided}
@@ -20,9 +20,6 @@ use Rattle.ml_base.specs.EdgeOrder.{edge_cmp}
 
 has_number : (line : Line) → Decided (HasNumber line)
 has_number line = decided_number (word line 1)
-
-is_numbered : (fixed : Word) (line : Line) → Decided (IsWordBehind fixed line)
-is_numbered fixed line = is.decided_both (decided_words line) (decided_line line (fixed ∷ word line 1 ∷ []))
 
 is_stated : (line : Line) → Decided (IsStated line)
 is_stated line = is.decided_both (decided_words line) (decided_line line (codes "state" ∷ word line 1 ∷ drop 2 line))
@@ -54,10 +51,10 @@ end_or Keeps line keeps = is.decided_either (decided_line line end_line) keeps
 pub judges : (left : List ℕ) → Judges (body left)
 judges left AtStates line =
     judged line (rules left AtStates)
-    (is_numbered (codes "states") line, λ _. (has_number line, λ _. (is.decided_less 0 (value (word line 1)), λ _. tt)))
+    (decided_behind (codes "states") line, λ _. (has_number line, λ _. (is.decided_less 0 (value (word line 1)), λ _. tt)))
 judges left (AtStart n) line =
     judged line (rules left (AtStart n))
-    (is_numbered (codes "start") line, λ _. (has_number line, λ _. (is.decided_less (value (word line 1)) n, λ _. tt)))
+    (decided_behind (codes "start") line, λ _. (has_number line, λ _. (is.decided_less (value (word line 1)) n, λ _. tt)))
 judges left (AtState n i) line =
     judged line (rules left (AtState n i))
     (is_stated line, λ _. (has_number line, λ _. (is.decided_number (value (word line 1)) i, λ _. (has_labels line, λ _. tt))))

@@ -3,81 +3,38 @@
 -- Numbers and names have neither blanks nor LFs, so the text has one list of lines, of one list of words each; and
 -- the words tell the numbers, the labels and the edges.
 --
---   number_plain, name_plain, action_plain  == a number, a name and an action have neither a blank nor an LF
+--   name_without, action_without            == a byte that stands in no name stands neither in a name nor in an action
 --   model_plain                             == the lines of a model are plain
 --   lines_unique                            == the lines of two models are equal only where the models are
 --   one_text                                == so are the texts
-use Rattle.std.proofs.Common.{◌≡◌, ◌==◌, ℕ, ◌+◌, ◌%◌, ◌^◌, ◌<◌, Bool, true, false, ◌||◌, ◌&&◌, nat_le, List, [], ◌∷◌, ◌++◌}
+use Rattle.std.proofs.Common.{◌≡◌, ◌==◌, ℕ, ◌+◌, ◌^◌, ◌<◌, Bool, true, false, ◌||◌, ◌&&◌, nat_le, List, [], ◌∷◌, ◌++◌}
 use Rattle.std.proofs.Common.{length, map, get_or, take, drop, All, codes, refl, sym, ap, subst, ◌∙◌, arith}
 use Rattle.std.specs.Char.{is_ascii_alphabetic, is_ascii_alphanumeric}
 use Rattle.std.specs.Int.{is_in_range}
 use Rattle.std.specs.List.{list_all, enumerate_from}
-use Rattle.std.proofs.lemmas.Bool.{true≢false, and_parts}
-use Rattle.std.proofs.lemmas.Bool.Decides.{nat_tests}
-use Rattle.std.proofs.lemmas.Fmt.{decimal_by_steps, decimal_injective}
+use Rattle.std.proofs.lemmas.Bool.{and_from, and_parts}
+use Rattle.std.proofs.lemmas.Fmt.{decimal_injective}
 use Rattle.std.proofs.lemmas.List.{append_cancel_right, take_at, drop_at, length-map}
 use Rattle.std.proofs.lemmas.List.Elements.{All-head, All-tail}
-use Rattle.std.proofs.lemmas.List.Folds.{list_any-append}
 use Rattle.std.proofs.lemmas.List.FromFn.{length-enumerate_from}
+use Rattle.std.proofs.Math.Bool.{or-true}
 use Rattle.ml_base.specs.declared.structure.Edge.{Edge}
 use Rattle.ml_base.specs.Name.{is_name, is_name_byte, is_blank_action, IsName, IsAction, longest_name}
 use Rattle.ml_base.specs.Structure.{Structure}
 use Rattle.ml_lines.specs.Lines.{Line, number}
+use Rattle.ml_lines.proofs.PlainWords.{number_plain, numbered_plain, plain_append}
 use Rattle.ml_lines.proofs.Unique.{has, avoids, IsPlain, ArePlain, text_unique}
+use Rattle.ml_lists.proofs.Absent.{absent, others_differ}
 use Rattle.ml_kripke.specs.Laws.{OneText}
 use Rattle.ml_kripke.specs.ModelText.{IsWritten, state_line, edge_line, model_lines}
 
--- neither a blank nor an LF
-abbrev Plain : List ℕ → Type 0
-Plain word = (has 32 word ≡ false) × (has 10 word ≡ false)
-
 -- ---- words
-
-digit_plain : (n c : ℕ) → c < 48 → (48 + n == c) ≡ false
-digit_plain n c small = grind (arith, nat_tests)
-
-has-push : (c x : ℕ) (xs : List ℕ) → has c xs ≡ false → (x == c) ≡ false → has c (xs ++ x ∷ []) ≡ false
-has-push c x xs e f = list_any-append (λ y. y == c) xs (x ∷ []) ∙ ap (λ front. front || ((x == c) || false)) e
-    ∙ ap (λ last. last || false) f
-
-number_without : (c : ℕ) → c < 48 → (n : ℕ) → n < 2 ^ 64 → has c (number n) ≡ false
-number_without c small =
-    decimal_by_steps (λ n ds. has c ds ≡ false)
-    (λ n below. ap (λ first. first || false) (digit_plain n c small))
-    (λ n ds above front. has-push c (48 + n % 10) ds front (digit_plain (n % 10) c small))
-
-number_plain : (n : ℕ) → n < 2 ^ 64 → Plain (number n)
-number_plain n fits = (number_without 32 (omega arith) n fits, number_without 10 (omega arith) n fits)
-
--- a byte that is none of names
-other_byte : (c : ℕ) → is_name_byte c ≡ false → (b : ℕ) → is_name_byte b ≡ true → (b == c) ≡ false
-other_byte c none b some = go (b == c) refl
-  where
-    go : (t : Bool) → (b == c) ≡ t → (b == c) ≡ false
-    go false e = e
-    go true e =
-        let same : b ≡ c = grind (arith, nat_tests) in
-        absurd (true≢false (sym some ∙ ap is_name_byte same ∙ none))
-
-name_bytes_without : (c : ℕ)
-    → is_name_byte c ≡ false
-    → (bs : List ℕ)
-    → list_all is_name_byte bs ≡ true
-    → has c bs ≡ false
-name_bytes_without c none [] all = refl
-name_bytes_without c none (b ∷ bs) all =
-    let parts = and_parts (is_name_byte b) (list_all is_name_byte bs) all in
-    ap (λ first. first || has c bs) (other_byte c none b parts.0) ∙ name_bytes_without c none bs parts.1
 
 alpha_byte : (d a b u : Bool) → (a || b) ≡ true → (((d || a) || b) || u) ≡ true
 alpha_byte true a b u e = refl
 alpha_byte false true b u e = refl
 alpha_byte false false true u e = refl
 alpha_byte false false false u e = cc
-
-or_true : (a : Bool) → (a || true) ≡ true
-or_true true = refl
-or_true false = refl
 
 name_without : (c : ℕ) → is_name_byte c ≡ false → (bytes : List ℕ) → IsName bytes → has c bytes ≡ false
 name_without c none [] e = refl
@@ -86,14 +43,14 @@ name_without c none (b ∷ bs) e =
     and_parts (is_ascii_alphabetic b && list_all is_name_byte bs) (nat_le (length (b ∷ bs)) longest_name) e in
     let bytes = and_parts (is_ascii_alphabetic b) (list_all is_name_byte bs) parts.0 in
     let first = alpha_byte (is_in_range 48 57 b) (is_in_range 65 90 b) (is_in_range 97 122 b) (b == 95) bytes.0 in
-    ap (λ here. here || has c bs) (other_byte c none b first) ∙ name_bytes_without c none bs bytes.1
+    absent is_name_byte c none (b ∷ bs) (and_from (is_name_byte b) (list_all is_name_byte bs) first bytes.1)
 
 blank_without : (c : ℕ) → is_name_byte c ≡ false → (bytes : List ℕ) → is_blank_action bytes ≡ true → has c bytes ≡ false
 blank_without c none [] e = refl
 blank_without c none (b ∷ []) e =
     let first : is_name_byte b ≡ true =
-    ap (λ last. is_ascii_alphanumeric b || last) e ∙ or_true (is_ascii_alphanumeric b) in
-    ap (λ here. here || false) (other_byte c none b first)
+    ap (λ last. is_ascii_alphanumeric b || last) e ∙ or-true (is_ascii_alphanumeric b) in
+    ap (λ here. here || false) (others_differ is_name_byte b c none first)
 blank_without c none (b ∷ d ∷ bs) e = cc
 
 action_without : (c : ℕ) → is_name_byte c ≡ false → (bytes : List ℕ) → IsAction bytes → has c bytes ≡ false
@@ -125,13 +82,6 @@ edge_plain e source target named =
       (refl, (from.0, (action_without 32 refl e.action named, (to.0, tt)))),
       (refl, (from.1, (action_without 10 refl e.action named, (to.1, tt)))),
     )
-
-numbered_plain : (word : List ℕ) (n : ℕ) → Plain word → n < 2 ^ 64 → IsPlain (word ∷ number n ∷ [])
-numbered_plain word n plain fits = let of_n = number_plain n fits in ((plain.0, (of_n.0, tt)), (plain.1, (of_n.1, tt)))
-
-plain-append : (ls ks : List Line) → ArePlain ls → ArePlain ks → ArePlain (ls ++ ks)
-plain-append [] ks ok_ls ok_ks = ok_ks
-plain-append (l ∷ ls) ks ok_ls ok_ks = (ok_ls.0, plain-append ls ks ok_ls.1 ok_ks)
 
 abbrev state_lines : ℕ → List (List (List ℕ)) → List Line
 state_lines s rows = map (λ labelled. state_line labelled.0 labelled.1) (enumerate_from s rows)
@@ -173,8 +123,8 @@ model_plain m s ok =
       numbered_plain (codes "states") m.states (refl, refl) fits,
       (
         numbered_plain (codes "start") s (refl, refl) start,
-        plain-append (state_lines 0 m.labels ++ map edge_line m.edges) ((codes "end" ∷ []) ∷ [])
-            (plain-append (state_lines 0 m.labels) (map edge_line m.edges)
+        plain_append (state_lines 0 m.labels ++ map edge_line m.edges) ((codes "end" ∷ []) ∷ [])
+            (plain_append (state_lines 0 m.labels) (map edge_line m.edges)
             (states_plain 0 m.labels rows ok.has_names.labels_named)
             (edges_plain m.states fits m.edges ok.is_structure.joins_states ok.has_names.actions_named))
             (((refl, tt), (refl, tt)), tt),

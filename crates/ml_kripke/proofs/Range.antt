@@ -3,15 +3,18 @@
 --   first_bad_parts   == the first state out of range is a label's, or else an edge's
 --   labels_in_range   == where no state is out of range, the labels' are in range
 --   edges_in_range    == where no state is out of range, both ends of each edge are in range
-use Rattle.std.proofs.Common.{◌≡◌, ℕ, ◌<◌, cond, nat_le, List, [], ◌∷◌, Option, Some, None, map, find, All, refl, sym, ◌∙◌}
+--   none_bad          == where the labels' states and the ends of edges are in range, none is out of it
+use Rattle.std.proofs.Common.{◌≡◌, ℕ, ◌<◌, cond, nat_le, List, [], ◌∷◌, Option, Some, None, map, find, All, inl, inr, ⊎_elim, refl, sym, ◌∙◌, arith}
 use Rattle.std.specs.List.{flat_map}
 use Rattle.std.specs.Option.{option_or}
 use Rattle.std.proofs.lemmas.List.Folds.{find-append}
 use Rattle.std.proofs.lemmas.List.Elements.{All-nil, All-cons}
 use Rattle.std.proofs.lemmas.Bool.{leb-false}
 use Rattle.ml_base.specs.declared.structure.Edge.{Edge}
-use Rattle.ml_kripke.specs.Built.{ends, first_bad_state}
-use Rattle.ml_lists.proofs.Entries.{cond-none}
+use Rattle.ml_kripke.specs.Built.{ends, first_bad_state, named_states}
+use Rattle.ml_lists.specs.Member.{IsMember}
+use Rattle.ml_lists.proofs.Entries.{cond-none, find-none}
+use Rattle.ml_lists.proofs.Member.{Image, InList, member-append, member-flat_map_from, member-map_from}
 
 pub first_bad_parts : (states : ℕ) (labels : List (ℕ × List ℕ)) (edges : List Edge)
     → first_bad_state states labels edges
@@ -49,3 +52,24 @@ all_in_range states labels edges none =
     let both =
     none_left _ _ (sym (find-append (nat_le states) (map (λ label. label.0) labels) (flat_map ends edges)) ∙ none) in
     (labels_in_range states labels both.0, edges_in_range states edges both.1)
+
+module _ (n : ℕ) (labels : List (ℕ × List ℕ)) (edges : List Edge)
+    (labels_low : (label : ℕ × List ℕ) → IsMember label labels → label.0 < n)
+    (edges_low : (e : Edge) → IsMember e edges → (e.source < n) × (e.target < n)) where
+  label_low : (v : ℕ) → Image (λ (label : ℕ × List ℕ). label.0) v labels → v < n
+  label_low v i = omega (arith, labels_low i.from i.member, i.holds)
+
+  end_low : (v : ℕ) → InList ends v edges → v < n
+  end_low v i = of_end i.inside
+    where
+      of_end : IsMember v (ends i.from) → v < n
+      of_end (inl source) = omega (arith, (edges_low i.from i.member).0, source)
+      of_end (inr (inl target)) = omega (arith, (edges_low i.from i.member).1, target)
+      of_end (inr (inr none)) = absurd none
+
+  pub none_bad : first_bad_state n labels edges ≡ None
+  none_bad = find-none n (named_states labels edges) (λ v m.
+      ⊎_elim (λ (l : IsMember v (map (λ (label : ℕ × List ℕ). label.0) labels)).
+      label_low v (member-map_from (λ (label : ℕ × List ℕ). label.0) v labels l))
+      (λ (e : IsMember v (flat_map ends edges)). end_low v (member-flat_map_from ends v edges e))
+      (member-append v (map (λ (label : ℕ × List ℕ). label.0) labels) (flat_map ends edges) m))

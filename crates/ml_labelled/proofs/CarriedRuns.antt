@@ -13,7 +13,7 @@ use Rattle.ml_trace.specs.WordAutomata.{IsAcceptedFrom, WordLasso, stem, turn}
 
 module _ {S T L : Type 0} (leads : L → S → S → Bool → Type 0) (others : L → T → T → Bool → Type 0) (R : S → T → Type 0)
     (step : (l : L) (p q : S) (b : Bool) (x : T) → R p x → leads l p q b → (y : T) × R q y × others l x y b) where
-  run_over : (u : List L) (p q : S) (x : T) → R p x → Run leads u p q → (y : T) × R q y × Run others u x y
+  pub run_over : (u : List L) (p q : S) (x : T) → R p x → Run leads u p q → (y : T) × R q y × Run others u x y
   run_over [] p q x joined same = (x, subst (λ r. R r x) same joined, refl)
   run_over (l ∷ u) p q x joined (r, b, lead, run) =
       let first = step l p r b x joined lead in

@@ -6,7 +6,8 @@
 --
 --   run_along, round_along == runs go along
 --   accepted_along         == so does what is accepted
-use Rattle.std.proofs.Common.{◌+◌, inl, inr, Bool, true, List, [], ◌∷◌, ◌++◌, refl, ap, ◌∙◌, subst, append_assoc}
+use Rattle.std.proofs.Common.{◌+◌, inl, inr, Bool, true, List, [], ◌∷◌, ◌++◌, ap, ◌∙◌, subst, append_assoc}
+use Rattle.ml_labelled.proofs.CarriedRuns.{run_over}
 use Rattle.ml_lists.specs.Repeated.{repeated}
 use Rattle.ml_lists.proofs.Repeated.{repeated-add}
 use Rattle.ml_trace.specs.Run.{AcceptingRun, Run}
@@ -16,11 +17,7 @@ use Rattle.ml_trace.proofs.Runs.{accepting-is_run, run-append}
 module _ {S T L : Type 0} (leads : L → S → S → Bool → Type 0) (others : L → T → T → Bool → Type 0) (R : S → T → Type 0)
     (step : (l : L) (p q : S) (b : Bool) → leads l p q b → (y : T) × R q y × ((x : T) → R p x → others l x y b)) where
   run_along : (u : List L) (p q : S) (x : T) → R p x → Run leads u p q → (y : T) × R q y × Run others u x y
-  run_along [] p q x joined same = (x, subst (λ r. R r x) same joined, refl)
-  run_along (l ∷ u) p q x joined (r, b, lead, run) =
-      let first = step l p r b lead in
-      let rest = run_along u r q first.0 first.1 run in
-      (rest.0, rest.1, (first.0, b, first.2 x joined, rest.2))
+  run_along = run_over leads others R (λ l p q b x joined lead. let s = step l p q b lead in (s.0, s.1, s.2 x joined))
 
   round_along : (u : List L) (p q : S)
       → AcceptingRun leads u p q

@@ -5,7 +5,7 @@
 --   guards_lead_same       == the law
 use Rattle.std.proofs.Common.{ℕ, zero, suc, ◌≡◌, ◌+◌, ◌⊎◌, Bool, true, false, not, cond, List, [], ◌∷◌, map, get_or, inl, inr, refl, sym, ap, ◌∙◌, subst, arith}
 use Rattle.std.specs.List.{flat_map, enumerate_from}
-use Rattle.std.proofs.lemmas.Bool.{and_from, and_parts}
+use Rattle.std.proofs.lemmas.Bool.{and_from, and_parts, not-true}
 use Rattle.ml_lists.specs.Member.{IsMember}
 use Rattle.ml_lists.proofs.Member.{member-append, member-append_left, member-append_right, member-map, member-map_from}
 use Rattle.ml_hoa.specs.Automaton as hoa
@@ -18,15 +18,11 @@ module _ (props : List (List ℕ)) (letter : Letter) where
   literal_true : (l : Literal) → holds props letter (literal_guard l) ≡ true → IsTrueIn props letter l
   literal_true l is = by l.positive refl is
     where
-      negated : (b : Bool) → not b ≡ true → b ≡ false
-      negated true e = absurd (cc)
-      negated false e = refl
-
       by : (s : Bool) → l.positive ≡ s
           → holds props letter (cond s (hoa.Ap l.prop) (hoa.Not (hoa.Ap l.prop))) ≡ true
           → IsTrueIn props letter l
       by true s e = e ∙ sym s
-      by false s e = negated (has letter (get_or props l.prop [])) e ∙ sym s
+      by false s e = not-true (has letter (get_or props l.prop [])) e ∙ sym s
 
   true_literal : (l : Literal) → IsTrueIn props letter l → holds props letter (literal_guard l) ≡ true
   true_literal l is = by l.positive refl

@@ -1,22 +1,20 @@
 -- Edges that are kept, one after the other.
 --
 --   literal_found          == what a search finds in a cube stands there
---   next_holds             == what holds of the first entries holds of one more
 --   guided_more, guided_all == a guide is right, row by row
 --   covered_still          == what is covered stays so
 --   kept_none, kept_more   == the edges of a state, the last one first
 --   row_trimmed            == so its row is trimmed
 --   kept_dead, kept_covered, kept_pushed == one edge
 --   trimmed_none, trimmed_more, trimmed_all == row by row
-use Rattle.std.proofs.Common.{ℕ, ◌≡◌, ◌+◌, ◌<◌, ◌≤◌, ◌⊎◌, ◌↔◌, inl, inr, arith, Bool, true, List, [], ◌∷◌, ◌++◌, All, length, map, get_or, set, take, refl, sym, ap, ◌∙◌, subst}
+use Rattle.std.proofs.Common.{ℕ, ◌≡◌, ◌+◌, ◌<◌, ◌≤◌, ◌⊎◌, ◌↔◌, inl, inr, arith, Bool, true, List, [], ◌∷◌, ◌++◌, length, map, get_or, set, refl, sym, ap, ◌∙◌, subst}
 use Rattle.std.specs.Global.{Vec}
 use Rattle.std.specs.List.{list_any}
 use Rattle.std.specs.List.Sorted.{IsPermutation}
 use Rattle.std.proofs.lemmas.Bool.{cases_eq, cases_lt}
-use Rattle.std.proofs.lemmas.List.{get_or_default, get_or-map, get_or-set_other, get_or-set_same, get_or_past, length-map, length-set, map-append}
+use Rattle.std.proofs.lemmas.List.{get_or-map, get_or-set_other, get_or-set_same, get_or_past, length-map, length-set, map-append}
 use Rattle.ml_lists.specs.Member.{IsMember}
 use Rattle.ml_lists.proofs.Member.{list_any-member, member-append, member-append_left, member-append_right, member-map, member-map_from}
-use Rattle.ml_lists.proofs.Members.{All-more_read}
 use Rattle.ml_lists.proofs.Permuted.{permuted-member, same_members}
 use Rattle.ml_labelled.specs.CubeEquality.{literal_eq, literal_eq-same}
 use Rattle.ml_labelled.specs.Labelled.{Edge}
@@ -30,15 +28,6 @@ pub literal_found : (cube : List Literal) (l : Literal) → list_any (λ x. lite
 literal_found cube l found =
     let p = list_any-member (λ x. literal_eq x l) cube found in
     subst (λ (x : Literal). IsMember x cube) (literal_eq-same p.item l p.passes) p.member
-
--- what holds of the first entries, and of the next one, whatever stands past the end
-pub next_holds : {X : Type 0} (P : X → Type 0) (xs : List X) (i : ℕ) (d : X)
-    → i < length xs
-    → P (get_or xs i d)
-    → All P (take i xs)
-    → All P (take (i + 1) xs)
-next_holds P xs i d low holds so_far =
-    let x = get_or xs i d in All-more_read P xs i x low (get_or_default xs i d x low) holds so_far
 
 -- ---- guides
 

@@ -8,8 +8,6 @@ pub mod ReadStates
 pub mod ReadTexts
 -- guards lead as cubes do
 pub mod GuardedEdges
--- what is written part by part
-pub mod WrittenParts
 -- marks that spread along edges
 pub mod SpreadMarks
 -- rows with marks that are kept

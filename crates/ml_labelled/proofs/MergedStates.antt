@@ -7,7 +7,7 @@
 use Rattle.std.proofs.Common.{ℕ, zero, suc, ◌≡◌, ◌+◌, ◌<◌, ◌≤◌, ◌⊎◌, inl, inr, arith, Bool, true, false, not, List, [], ◌∷◌, ◌++◌, length, map, take, drop, get_or, refl, sym, ap, ◌∙◌, subst}
 use Rattle.std.specs.Global.{Vec}
 use Rattle.std.specs.Bool.{beq}
-use Rattle.std.proofs.lemmas.Bool.{cases_eq}
+use Rattle.std.proofs.lemmas.Bool.{cases_eq, not-false}
 use Rattle.std.proofs.lemmas.List.{get_or_append_left, length-append, length-map, take_all}
 use Rattle.std.proofs.Math.Seq.{get_or-append_seam}
 use Rattle.ml_lists.specs.Member.{IsMember}
@@ -164,17 +164,13 @@ alike_more rows targets n q so_far next = record {
 no_edge : Edge
 no_edge = record { cube = []; to = 0; accepting = false }
 
-not_false : (b : Bool) → not b ≡ false → b ≡ true
-not_false true e = refl
-not_false false e = absurd (cc)
-
 pub edges_same : (e f : CubeEdge)
     → e.to ≡ f.to
     → not (beq e.accepting f.accepting) ≡ false
     → cube_eq e.cube.items f.cube.items ≡ true
     → edge_of e ≡ edge_of f
 edges_same e f to flags cubes =
-    let same_flags = beq-same e.accepting f.accepting (not_false (beq e.accepting f.accepting) flags) in
+    let same_flags = beq-same e.accepting f.accepting (not-false (beq e.accepting f.accepting) flags) in
     let same_cubes = cube_eq-same e.cube.items f.cube.items cubes in
     λ i. record { cube = same_cubes i; to = to i; accepting = same_flags i }
 

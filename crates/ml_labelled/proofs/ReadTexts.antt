@@ -37,10 +37,6 @@ first_read : (rest : List ℕ)
 unfolding tokens_at
 first_read rest = refl
 
-end_read : (i : ℕ) (rest : List ℕ) → signs_at i (10 ∷ rest) ≡ signs_at (i + 1) rest
-unfolding tokens_at
-end_read i rest = refl
-
 start_read : (i : ℕ) (rest : List ℕ) → signs_at i (10 ∷ (codes "Start: " ++ rest)) ≡ Plain mark.Start ∷ signs_at (onward 8 i) rest
 unfolding tokens_at
 start_read i rest = refl

@@ -5,12 +5,12 @@
 --   are_marked      == so they are marked
 --   some_part       == and there is the part
 use Rattle.std.proofs.Common.{ℕ, ◌≡◌, ◌<◌, ◌≤◌, ◌⊎◌, inl, inr, arith, Bool, true, false, nat_eq, List, [], ◌∷◌, length, map, get_or, refl, sym, ap, ◌∙◌, subst, append-nil, true≢false}
-use Rattle.std.specs.Bool.{Decides}
 use Rattle.std.specs.List.{flat_map, list_any, range_with_len}
 use Rattle.std.proofs.lemmas.Bool.{cases_lt, eqb-true}
 use Rattle.std.proofs.lemmas.Cmp.{nat_eq_equiv}
 use Rattle.std.proofs.lemmas.List.{get_or_past}
 use Rattle.std.proofs.lemmas.List.FromFn.{get_or-map-range_with_len, length-map-range_with_len, length-range_with_len}
+use Rattle.std.proofs.lemmas.Bool.Decides.{Decides-eqb}
 use Rattle.ml_lists.specs.Member.{IsMember}
 use Rattle.ml_lists.proofs.BreadthFirstSearch.{Ended, TooMany, search}
 use Rattle.ml_lists.proofs.Different.{different_within}
@@ -21,9 +21,6 @@ use Rattle.ml_lists.proofs.Ranks.{count_hit, count_passes, count_same}
 use Rattle.ml_labelled.specs.Labelled.{Automaton, Edge, IsLabelled, IsReached, along, begins, edges_of}
 use Rattle.ml_labelled.specs.private.Reaching.{AreMarked, IsPart, mark, moved, rank}
 use Rattle.ml_labelled.proofs.ReachedParts.{IsReachedPart, part_few, part_labelled, part_reached, same_accepted}
-
-tells : (x y : ℕ) → Decides (nat_eq x y) (x ≡ y)
-tells x y = (eqb-true x y, λ same. subst (λ z. nat_eq x z ≡ true) same (nat_eq_equiv.refl x))
 
 module _ (a : Automaton) (is : IsLabelled a) where
   abbrev n : ℕ
@@ -44,7 +41,7 @@ module _ (a : Automaton) (is : IsLabelled a) where
   -- ---- a search
 
   listed : Ended nat_eq next 0 (IsReached a) n
-  listed = from (search nat_eq next 0 (IsReached a) begins behind tells n)
+  listed = from (search nat_eq next 0 (IsReached a) begins behind Decides-eqb n)
     where
       from : Ended nat_eq next 0 (IsReached a) n ⊎ TooMany nat_eq next 0 (IsReached a) n → Ended nat_eq next 0 (IsReached a) n
       from (inl e) = e
@@ -60,7 +57,7 @@ module _ (a : Automaton) (is : IsLabelled a) where
   closed : (x : ℕ) → IsMember x (0 ∷ flat_map next values) → IsMember x values
   closed x m =
       subst (IsMember x) (sym (listed.looked).in_order ∙ append-nil values)
-      (member-firsts nat_eq tells x (0 ∷ flat_map next values) m)
+      (member-firsts nat_eq Decides-eqb x (0 ∷ flat_map next values) m)
 
   all_listed : (x : ℕ) → IsReached a x → IsMember x values
   all_listed _ begins = closed 0 (inl refl)

@@ -17,8 +17,8 @@
 --   IsReached a p           == edges lead from state 0 to p
 --   AreReached a            == so they do to each state
 --   IsCube k c              == the cube names propositions below k, each once, in ascending order
---   IsLabelled a            == there is a state, and there are less than 2^32 states and propositions; names are names; edges lead
---                              to states, under cubes of the propositions
+--   IsLabelled a            == there is a state, and there are less than 2^32 states and propositions; names are names; edges
+--                              lead to states, under cubes of the propositions
 use Rattle.std.specs.Prelude.{ℕ, ◌≡◌, ◌<◌, ◌^◌, ◌↔◌, Bool, List, [], length, map, get_or, All}
 use Rattle.std.specs.List.{list_any}
 use Rattle.std.specs.Str.{bytes_eq}

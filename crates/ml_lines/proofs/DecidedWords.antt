@@ -3,10 +3,11 @@
 --   decided_line    == the equality of lines
 --   decided_words   == that each word has a byte
 --   decided_number  == that a word is a number
-use Rattle.std.proofs.Common.{◌≡◌, ◌^◌, ◌<◌}
+--   decided_behind  == that a line is a fixed word and one more
+use Rattle.std.proofs.Common.{◌≡◌, ◌^◌, ◌<◌, [], ◌∷◌}
 use Rattle.std.specs.List.{list_all}
 use Rattle.ml_lines.specs.Lines.{Word, Line, number}
-use Rattle.ml_lines.specs.Reading.{AreWords, IsNumber, is_word, value}
+use Rattle.ml_lines.specs.Reading.{AreWords, IsNumber, IsWordBehind, is_word, value, word}
 use Rattle.ml_lines.proofs.Numbers.{own_value}
 use Rattle.ml_lists.proofs.Decided.{Decided, decided_both, decided_bytes, decided_less, decided_list, decided_same, decided_test}
 
@@ -21,3 +22,6 @@ pub decided_number : (w : Word) → Decided (IsNumber w)
 decided_number w =
     decided_same (λ (h : (value w < 2 ^ 32) × (w ≡ number (value w))). (value w, h.0, h.1)) (own_value w)
     (decided_both (decided_less (value w) (2 ^ 32)) (decided_bytes w (number (value w))))
+
+pub decided_behind : (fixed : Word) (line : Line) → Decided (IsWordBehind fixed line)
+decided_behind fixed line = decided_both (decided_words line) (decided_line line (fixed ∷ word line 1 ∷ []))

@@ -22,3 +22,7 @@ pub mod Faults
 pub mod Fronts
 -- what is asked of words is decided
 pub mod DecidedWords
+-- texts that stand in one line, put together
+pub mod InLine
+-- words that have neither a blank nor an LF
+pub mod PlainWords

@@ -4,9 +4,10 @@
 --   chain_sorted           == a chain strictly ascends
 --   sorted_chain           == what strictly ascends is a chain
 --   last_is                == the last element is the one at the last place
-use Rattle.std.proofs.Common.{◌≡◌, ◌-◌, List, [], ◌∷◌, ◌++◌, Option, None, Some, length, slice_get, Ordering, refl, ap, ◌∙◌, arith}
+--   range_ascends          == what is made of the numbers in turn strictly ascends, where it ascends with them
+use Rattle.std.proofs.Common.{◌≡◌, ℕ, zero, suc, ◌+◌, ◌-◌, ◌<◌, List, [], ◌∷◌, ◌++◌, Option, None, Some, length, map, slice_get, Ordering, refl, ap, ◌∙◌, arith}
 use Rattle.std.specs.Cmp.{IsTotalOrder}
-use Rattle.std.specs.List.{AllByRecursion}
+use Rattle.std.specs.List.{AllByRecursion, range_with_len}
 use Rattle.std.specs.List.Sorted.{IsStrictlySortedBy}
 use Rattle.std.specs.declared.cmp.Ordering.TheVariants.{Less}
 use Rattle.ml_lists.specs.Last.{last_of}
@@ -68,3 +69,13 @@ module _ {K : Type 0} (R : K → K → Ordering) where
   unfolding IsStrictlySortedBy
   sorted_chain [] ascends = tt
   sorted_chain (x ∷ xs) ascends = (tt, sorted_behind x xs ascends.0 ascends.1)
+
+  module _ (f : ℕ → K) (rises : (a b : ℕ) → a < b → R (f a) (f b) ≡ Less) where
+    above_range : (a b n : ℕ) → a < b → AllByRecursion (λ x. R (f a) x ≡ Less) (map f (range_with_len b n))
+    above_range a b zero below = tt
+    above_range a b (suc n) below = (rises a b below, above_range a (b + 1) n (omega (arith, below)))
+
+    pub range_ascends : (a n : ℕ) → IsStrictlySortedBy R (map f (range_with_len a n))
+    unfolding IsStrictlySortedBy
+    range_ascends a zero = tt
+    range_ascends a (suc n) = (above_range a (a + 1) n (omega arith), range_ascends (a + 1) n)

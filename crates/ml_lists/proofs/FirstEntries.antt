@@ -2,6 +2,7 @@
 --
 --   AreApart xs          == nothing stands in xs twice
 --   apart_places         == so each value stands at one place
+--   apart_ascending      == nothing stands twice in an ascending list
 --   firsts eq xs         == the values of xs, each where it stands first
 --   firsts-apart         == nothing stands there twice
 --   member-firsts, firsts-member == it has the same members
@@ -27,10 +28,16 @@ use Rattle.ml_lists.specs.Member.{IsMember}
 use Rattle.ml_lists.specs.Pigeons.{Twice}
 use Rattle.ml_lists.proofs.Member.{member-filter, member-filter_from, member_of_get, place-member}
 use Rattle.ml_lists.proofs.Pigeons.{pigeons}
+use Rattle.ml_lists.specs.Ascending.{IsAscending}
 
 abbrev pub AreApart : {X : Type 0} → List X → Type 0
 AreApart [] = Unit {0}
 AreApart (x ∷ xs) = (IsMember x xs → ⊥) × AreApart xs
+
+pub apart_ascending : (xs : List ℕ) → IsAscending xs → AreApart xs
+apart_ascending [] ascend = tt
+apart_ascending (x ∷ xs) (above, ascend) =
+    ((λ m. let less = above x m in absurd (omega (arith, less))), apart_ascending xs ascend)
 
 pub apart_places : {X : Type 0} (xs : List X)
     → AreApart xs

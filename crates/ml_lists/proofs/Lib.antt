@@ -90,3 +90,17 @@ pub mod Deciding
 pub mod DecidedReach
 -- rows of numbers that come in turn, in breadth-first order
 pub mod RowsInTurn
+-- entries that are found by a key
+pub mod Keyed
+-- what holds of each element of lists that are put together
+pub mod AllOf
+-- lists that are written part by part
+pub mod WrittenParts
+-- sets of the numbers below a bound that pass a test
+pub mod PassingBelow
+-- numbers that don't stand in a list, told by a test
+pub mod Absent
+-- lines that lead from one place of a format to another
+pub mod Runs
+-- each list has one with the same entries that strictly ascends
+pub mod SortedLists

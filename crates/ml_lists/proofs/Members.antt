@@ -9,10 +9,11 @@
 --   contains_with    == what a list contains is contained with something in the middle too
 --   member_of_contains, contains_of_member  == the same as `IsMember`
 --   All-more_read    == what holds of the first elements, and of the next one as it is read, holds of one more
+--   next_holds       == and whatever stands past the end
 --   All-read         == at the end it holds of all
 --   All-of_members   == what holds of all elements of a list holds of all elements of one that contains no others
 use Rattle.std.proofs.Common.{◌≡◌, ℕ, zero, suc, ◌+◌, ◌<◌, ◌≤◌, ◌⊎◌, List, [], ◌∷◌, ◌++◌, length, get_or, take, All, Contains, inl, inr, refl, sym, subst, ⊎_elim, arith}
-use Rattle.std.proofs.lemmas.List.{take_all}
+use Rattle.std.proofs.lemmas.List.{get_or_default, take_all}
 use Rattle.ml_lists.specs.Member.{IsMember}
 use Rattle.std.proofs.lemmas.List.Elements.{All-contains, All-more, Contains-get_or, Contains-append_left, Contains-append_right, Contains-append_cases}
 
@@ -76,6 +77,14 @@ pub All-more_read : {X : Type 0} (P : X → Type 0) (xs : List X) (i : ℕ) (x :
     → P x
     → All P (take i xs) → All P (take (i + 1) xs)
 All-more_read P xs i x here is holds so_far = All-more P xs i x here so_far (subst P is holds)
+
+pub next_holds : {X : Type 0} (P : X → Type 0) (xs : List X) (i : ℕ) (d : X)
+    → i < length xs
+    → P (get_or xs i d)
+    → All P (take i xs)
+    → All P (take (i + 1) xs)
+next_holds P xs i d low holds so_far =
+    let x = get_or xs i d in All-more_read P xs i x low (get_or_default xs i d x low) holds so_far
 
 pub All-read : {X : Type 0} (P : X → Type 0) (xs : List X) (i : ℕ) → length xs ≤ i → All P (take i xs) → All P xs
 All-read P xs i past all = subst (All P) (take_all i xs past) all

@@ -4,10 +4,11 @@
 -- steps are those of the function.
 --
 --   walk-add-one == one step more
+--   walk-sum     == a walk that begins where another one ends
 --   walk_keeps   == what the function keeps, and holds at first, holds all along the walk
 --   WalkLasso    == a lasso that begins with v, of numbers with P, each step of which is a step of next
 --   walk_lasso   == the walk from a number with P, where P is kept and implies a bound, makes such a lasso
-use Rattle.std.proofs.Common.{ℕ, zero, suc, ◌≡◌, ◌+◌, ◌<◌, ◌≤◌, arith, length, get_or, subst, sym, ap, ◌∙◌, add-one}
+use Rattle.std.proofs.Common.{ℕ, zero, suc, ◌≡◌, ◌+◌, ◌<◌, ◌≤◌, arith, length, get_or, subst, sym, ap, ◌∙◌, add-one, add-zero, add-suc}
 use Rattle.ml_lists.specs.Walk.{walk}
 use Rattle.ml_lists.specs.Pigeons.{Twice}
 use Rattle.ml_lists.specs.Lasso.{Lasso, entry, round}
@@ -17,6 +18,11 @@ use Rattle.ml_lists.proofs.Lasso.{lasso_of, lasso_of-length, lasso_of-entry, las
 -- one step more
 pub walk-add-one : {A : Type 0} → (next : A → A) (x : A) (k : ℕ) → walk next x (k + 1) ≡ next (walk next x k)
 walk-add-one next x k = ap (walk next x) (add-one k)
+
+-- a walk that begins where another one ends
+pub walk-sum : {A : Type 0} → (next : A → A) (x : A) (d k : ℕ) → walk next (walk next x d) k ≡ walk next x (d + k)
+walk-sum next x d zero = sym (ap (walk next x) (add-zero d))
+walk-sum next x d (suc k) = ap next (walk-sum next x d k) ∙ sym (ap (walk next x) (add-suc d k))
 
 -- what the function keeps, and holds at first, holds all along the walk
 pub walk_keeps : {A : Type 0} → (next : A → A) (P : A → Type 0) → ((x : A) → P x → P (next x)) → (x : A) → P x

@@ -6,9 +6,10 @@
 --   Judges F                   == each line is judged at each place
 --   NumbersRise F              == at each place the numbers of the rules rise, so that the first rule that a line breaks
 --                                 is the one with the lowest number
+--   Runs F p ls q              == the lines ls are good from the place p on, and behind them stands q
 --   IsReadTo F k p ls j q rest == ls begins with good lines and goes on with rest, whose first line stands at q and has
 --                                 the number j, where the first one of ls stands at p and has the number k
-use Rattle.std.specs.Prelude.{ℕ, ◌+◌, ◌⊎◌, List, [], ◌∷◌}
+use Rattle.std.specs.Prelude.{ℕ, ◌+◌, ◌≡◌, ◌⊎◌, List, [], ◌∷◌}
 use Rattle.ml_lists.specs.Ascending.{IsAscending}
 use Rattle.ml_lists.specs.Documents.{Rule, Format, KeepsAll, IsFirstBroken, IsGood}
 
@@ -29,6 +30,10 @@ module _ {Line Place : Type 0} (F : Format Line Place) where
 
   abbrev pub NumbersRise : Type 0
   NumbersRise = (place : Place) → IsAscending (numbers (F.rules place))
+
+  abbrev pub Runs : Place → List Line → Place → Type 0
+  Runs place [] behind = place ≡ behind
+  Runs place (line ∷ lines) behind = IsGood F place line × Runs (F.after place line) lines behind
 
   pub data IsReadTo (k : ℕ) (place : Place) (lines : List Line) : ℕ → Place → List Line → Type 0 where
     nothing_read : IsReadTo k place lines k place lines

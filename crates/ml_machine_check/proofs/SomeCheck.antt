@@ -12,7 +12,7 @@ use Rattle.ml_emptiness.specs.Systems.{IsSystem, SystemTable}
 use Rattle.ml_emptiness.specs.declared.systems.Move.{Move}
 use Rattle.ml_emptiness.proofs.SomeLasso.{some_lasso}
 use Rattle.ml_graph.specs.Graph.{size}
-use Rattle.ml_listed_automata.proofs.Listed.{some_automaton}
+use Rattle.ml_word_automaton.proofs.Listed.{some_automaton}
 use Rattle.ml_lists.specs.Lasso.{Lasso}
 use Rattle.ml_realize.specs.Realizing.{inputs_of, outputs_of}
 use Rattle.ml_realize.specs.TaskGame.{IsRowOf}

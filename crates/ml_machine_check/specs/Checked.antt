@@ -1,7 +1,7 @@
 -- Whether a machine realizes a task, or an environment defeats it, told by its words.
 --
--- For a machine a word is looked for that doesn't satisfy the formula: the problem is negated. For an environment it is one that
--- satisfies it, and the problem is plain.
+-- For a machine a word is looked for that doesn't satisfy the formula: the problem is negated. For an environment it is one
+-- that satisfies it, and the problem is plain.
 --
 --   most_nodes        == how many nodes the graph of the word automaton may have
 --   Fits t r          == r is a machine or an environment with the inputs and outputs of t

@@ -24,8 +24,8 @@ use Rattle.ml_task.specs.Task.{Task, names_of}
 use Rattle.ml_trace.specs.WordAutomata.{WordLasso}
 use Rattle.ml_machine_text.specs.Found.{Finds, IsFoundIn, ShowsWord, problem_of}
 use Rattle.ml_machine_text.specs.Laws.{AreAlike, OneFinding, SomeFinding}
-use Rattle.ml_machine_text.specs.declared.finding.Finding.{Finding}
-use Rattle.ml_machine_text.specs.declared.finding.Finding.TheVariants.{ClosureTooLarge, Fails, Holds, Unreadable}
+use Rattle.ml_machine_text.specs.declared.finding.MachineFinding.{MachineFinding}
+use Rattle.ml_machine_text.specs.declared.finding.MachineFinding.TheVariants.{ClosureTooLarge, Fails, Holds, Unreadable}
 use Rattle.ml_machine_text.proofs.Confirmed.{word_loops}
 use Rattle.ml_machine_text.proofs.OrderedRuns.{ordered_run, run_is, run_is_ordered, run_is_structure}
 
@@ -36,7 +36,7 @@ fits_check t (outcome.Defeated e) fits = fits
 
 -- ---- of one outcome
 
-one_found : (t : Task) (r : Outcome) (x y : Finding) → Finds x t r → Finds y t r → AreAlike x y
+one_found : (t : Task) (r : Outcome) (x y : MachineFinding) → Finds x t r → Finds y t r → AreAlike x y
 one_found t r Holds Holds a b = refl
 one_found t r Holds (Fails d) a b = absurd (not_right t r b.1.shown b.1.breaks a.1)
 one_found t r Holds ClosureTooLarge a b = absurd (a.0 b)
@@ -65,7 +65,7 @@ shows t r w breaks =
       document_is = refl;
     }
 
-some_found : (t : Task) (r : Outcome) (c : Checked) → IsChecked t r c → (x : Finding) × Finds x t r
+some_found : (t : Task) (r : Outcome) (c : Checked) → IsChecked t r c → (x : MachineFinding) × Finds x t r
 some_found t r checked.Holds is = (Holds, is)
 some_found t r (checked.Fails w) is =
     (Fails (satisfiable_document (problem_of t r) (ordered_run (word_of (names_of t) w)) 0), (is.0, shows t r w is.1))
@@ -73,19 +73,19 @@ some_found t r checked.ClosureTooLarge is = (ClosureTooLarge, is)
 
 -- ---- in a text
 
-abbrev IsFoundOf : List ℕ → Finding → Type 0
+abbrev IsFoundOf : List ℕ → MachineFinding → Type 0
 IsFoundOf text x = (t : Task) × (r : Outcome) × IsRealizeText text t r × Finds x t r
 
-abbrev IsFoundBad : List ℕ → Finding → Type 0
+abbrev IsFoundBad : List ℕ → MachineFinding → Type 0
 IsFoundBad text x = (fault : DocFault) × (x ≡ Unreadable fault) × IsRealizeFault text fault
 
-found_in : (text : List ℕ) (x : Finding) → IsFoundIn text x → IsFoundOf text x ⊎ IsFoundBad text x
+found_in : (text : List ℕ) (x : MachineFinding) → IsFoundIn text x → IsFoundOf text x ⊎ IsFoundBad text x
 found_in text (Unreadable fault) is = inr (fault, refl, is)
 found_in text Holds is = inl is
 found_in text (Fails d) is = inl is
 found_in text ClosureTooLarge is = inl is
 
-pub told : (text : List ℕ) (x : Finding) (t : Task) (r : Outcome)
+pub told : (text : List ℕ) (x : MachineFinding) (t : Task) (r : Outcome)
     → IsRealizeText text t r
     → Finds x t r
     → IsFoundIn text x
@@ -94,7 +94,7 @@ told text Holds t r is finds = (t, r, is, finds)
 told text (Fails d) t r is finds = (t, r, is, finds)
 told text ClosureTooLarge t r is finds = (t, r, is, finds)
 
-both_bad : (x y : Finding) (e f : DocFault) → x ≡ Unreadable e → y ≡ Unreadable f → e ≡ f → AreAlike x y
+both_bad : (x y : MachineFinding) (e f : DocFault) → x ≡ Unreadable e → y ≡ Unreadable f → e ≡ f → AreAlike x y
 both_bad x y e f a b same =
     subst (λ u. AreAlike u y) (sym a) (subst (AreAlike (Unreadable e)) (sym b) (ap Unreadable same))
 
@@ -115,10 +115,10 @@ some_finding text = go (texts.some_reading text)
     by_check : (t : Task) (r : Outcome)
         → IsRealizeText text t r
         → (c : Checked) × IsChecked t r c
-        → (x : Finding) × IsFoundIn text x
+        → (x : MachineFinding) × IsFoundIn text x
     by_check t r is (c, checks) = let found = some_found t r c checks in (found.0, told text found.0 t r is found.1)
 
     go : ((t : Task) × (r : Outcome) × IsRealizeText text t r) ⊎ ((fault : DocFault) × IsRealizeFault text fault)
-        → (x : Finding) × IsFoundIn text x
+        → (x : MachineFinding) × IsFoundIn text x
     go (inl (t, r, is)) = by_check t r is (some_check t r is.is_task (fits_check t r is.fits))
     go (inr (fault, bad)) = (Unreadable fault, bad)

@@ -27,8 +27,8 @@ use Rattle.ml_realize_text.specs.RealizeRules.{IsRealizeFault}
 use Rattle.ml_synthesis.specs.declared.outcome.Outcome.{Outcome}
 use Rattle.ml_task.specs.Task.{Task, names_of}
 use Rattle.ml_trace.specs.WordAutomata.{WordLasso}
-use Rattle.ml_machine_text.specs.declared.finding.Finding.{Finding}
-use Rattle.ml_machine_text.specs.declared.finding.Finding.TheVariants.{ClosureTooLarge, Fails, Holds, Unreadable}
+use Rattle.ml_machine_text.specs.declared.finding.MachineFinding.{MachineFinding}
+use Rattle.ml_machine_text.specs.declared.finding.MachineFinding.TheVariants.{ClosureTooLarge, Fails, Holds, Unreadable}
 
 abbrev pub problem_of : Task → Outcome → Problem
 problem_of t r = record { formula = Word t.formula; negated = sense_of r }
@@ -42,16 +42,16 @@ pub record ShowsWord (t : Task) (r : Outcome) (document : List ℕ) : Type 0 whe
   pub is_run : IsRunOf (word_of (names_of t) shown) run
   pub document_is : document ≡ satisfiable_document (problem_of t r) run 0
 
-abbrev pub Finds : Finding → Task → Outcome → Type 0
+abbrev pub Finds : MachineFinding → Task → Outcome → Type 0
 Finds Holds t r = (¬ (IsLarge t r)) × IsRight t r
 Finds (Fails document) t r = (¬ (IsLarge t r)) × ShowsWord t r document
 Finds ClosureTooLarge t r = IsLarge t r
 Finds (Unreadable fault) t r = ⊥
 
-abbrev pub IsFoundIn : List ℕ → Finding → Type 0
+abbrev pub IsFoundIn : List ℕ → MachineFinding → Type 0
 IsFoundIn text (Unreadable fault) = IsRealizeFault text fault
 IsFoundIn text x = (t : Task) × (r : Outcome) × IsRealizeText text t r × Finds x t r
 
-abbrev pub IsConfirmed : Finding → Type 0
+abbrev pub IsConfirmed : MachineFinding → Type 0
 IsConfirmed (Fails document) = IsCheckedAs document checked.Holds
 IsConfirmed _ = Unit {0}

@@ -21,18 +21,18 @@ use Rattle.ml_synthesis.specs.declared.outcome.Outcome.{Outcome}
 use Rattle.ml_synthesis.specs.declared.outcome.Outcome.TheVariants.{Defeated, Made}
 use Rattle.ml_task.specs.Task.{IsTask, Task}
 use Rattle.ml_machine_text.specs.Found.{IsFoundIn, ShowsWord}
-use Rattle.ml_machine_text.specs.declared.finding.Finding.{Finding}
-use Rattle.ml_machine_text.specs.declared.finding.Finding.TheVariants.{Fails, Holds}
+use Rattle.ml_machine_text.specs.declared.finding.MachineFinding.{MachineFinding}
+use Rattle.ml_machine_text.specs.declared.finding.MachineFinding.TheVariants.{Fails, Holds}
 
-abbrev pub AreAlike : Finding → Finding → Type 0
+abbrev pub AreAlike : MachineFinding → MachineFinding → Type 0
 AreAlike (Fails a) (Fails b) = Unit {0}
 AreAlike x y = x ≡ y
 
 abbrev pub SomeFinding : Type 0
-SomeFinding = (text : List ℕ) → (x : Finding) × IsFoundIn text x
+SomeFinding = (text : List ℕ) → (x : MachineFinding) × IsFoundIn text x
 
 abbrev pub OneFinding : Type 0
-OneFinding = (text : List ℕ) (x y : Finding) → IsFoundIn text x → IsFoundIn text y → AreAlike x y
+OneFinding = (text : List ℕ) (x y : MachineFinding) → IsFoundIn text x → IsFoundIn text y → AreAlike x y
 
 abbrev pub ShownAreConfirmed : Type 0
 ShownAreConfirmed = (text : List ℕ) (t : Task) (r : Outcome) (document : List ℕ)

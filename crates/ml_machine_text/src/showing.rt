@@ -8,13 +8,12 @@ ghost use Rattle.ml_task.specs.Task.{task_of};
 ghost use Rattle.ml_machine_text.specs.Found as found;
 ghost use Rattle.ml_machine_text.specs.Found.{ShowsWord};
 
-use crate::finding::ShownWord;
 use crate::labels::structure_of;
 use ml_base::NoMemory;
+use ml_decision_text::{WrittenText, append_satisfied};
 use ml_front::{AnyFormula, Problem};
 use ml_kripke::Model;
 use ml_machine_check::Run;
-use ml_model_check::write_document;
 use ml_realize_text::Document;
 use ml_synthesis::Outcome;
 use std::alloc::Global;
@@ -52,7 +51,7 @@ pub(crate) fn shown_word(
     _text: &[u8],
     document: Document,
     word: &Run,
-) -> Result<ShownWord, NoMemory>
+) -> Result<WrittenText, NoMemory>
     requires is_text { IsRealizeText _text.now
         (task_of document.task.inputs.items document.task.outputs.items document.task.formula) document.outcome }
     requires breaks { Breaks
@@ -63,6 +62,7 @@ pub(crate) fn shown_word(
 {
     let structure = structure_of(alloc, &document.task, word)?;
     structure.keeps();
-    let text = write_document(alloc, &problem_of(document), &Model::new(structure, 0))?;
-    Ok(ShownWord::new(text))
+    let mut text = Vec::new(alloc);
+    append_satisfied(&mut text, &problem_of(document), &Model::new(structure, 0))?;
+    Ok(WrittenText::new(text))
 }

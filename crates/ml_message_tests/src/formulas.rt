@@ -1,158 +1,187 @@
 // Where formulas are refused, and what may follow there.
+use ml_driver::{Command, Said, TextKind};
+use ml_front::Logic;
 use ml_messages::explanation;
 use std::alloc::{AllocError, Global};
 use std::test::Fail;
 
-// the sentence about the text of a formula that is refused in this logic, with this output
-fn told(alloc: Global, logic: &str, text: &[u8], output: &[u8]) -> Result<String, AllocError> {
-    let mut words = Vec::new(alloc);
-    words.push(String::from_str(alloc, "find")?)?;
-    words.push(String::from_str(alloc, logic)?)?;
-    match explanation(alloc, &words, text, output)? {
+// the sentence about the text of a formula of this logic that is refused by this rule at this byte
+fn told(
+    alloc: Global,
+    logic: Logic,
+    text: &[u8],
+    rule: u32,
+    at: u64,
+) -> Result<String, AllocError> {
+    let command = Command::Find { logic, limit: 1 };
+    let kind = TextKind::Formula;
+    match explanation(alloc, command, Said::RefusedText { kind, rule, at }, text)? {
         Some(sentence) => Ok(sentence),
         None => Ok(String::new(alloc)),
     }
 }
 
-const ROWS: [(&str, &[u8], &[u8], &str); 22] = [
+const ROWS: [(Logic, &[u8], u32, u64, &str); 22] = [
     (
-        "mu",
+        Logic::Mu,
         b"p q",
-        b"refused text rule 1 at 2\n",
+        1,
+        2,
         "line 1, column 3: `q` isn't expected here; expected: `&`, `|`, `->`, `<->`, the end of the formula",
     ),
     (
-        "word",
+        Logic::Word,
         b"G(p ->\n  ) & q",
-        b"refused text rule 1 at 9\n",
+        1,
+        9,
         "line 2, column 3: `)` isn't expected here; expected: a proposition, `tt`, `ff`, `!`, `(`, `X`, `F`, `G`",
     ),
     (
-        "word",
+        Logic::Word,
         b"G(p",
-        b"refused text rule 1 at 3\n",
+        1,
+        3,
         "line 1, column 4: the formula ends too soon; expected: `)`, `&`, `|`, `->`, `<->`, `U`, `R`, `W`",
     ),
     (
-        "ctl",
+        Logic::Ctl,
         b"G p",
-        b"refused text rule 1 at 0\n",
+        1,
+        0,
         "line 1, column 1: `G` isn't expected here; expected: a proposition, `tt`, `ff`, `!`, `(`, `E`, `A`",
     ),
     (
-        "mu",
+        Logic::Mu,
         b"<p",
-        b"refused text rule 1 at 2\n",
+        1,
+        2,
         "line 1, column 3: the formula ends too soon; expected: `>`",
     ),
     (
-        "mu",
+        Logic::Mu,
         b"<)p",
-        b"refused text rule 1 at 1\n",
+        1,
+        1,
         "line 1, column 2: `)` isn't expected here; expected: an action, `_`, `>`",
     ),
     (
-        "mu",
+        Logic::Mu,
         b"mu x. p",
-        b"refused text rule 1 at 3\n",
+        1,
+        3,
         "line 1, column 4: `x` isn't expected here; expected: a variable",
     ),
     (
-        "pdl",
+        Logic::Pdl,
         b"<a;>p",
-        b"refused text rule 1 at 3\n",
+        1,
+        3,
         "line 1, column 4: `>` isn't expected here; expected: an action, `tt`, `ff`, `!`, `(`, `_`",
     ),
     (
-        "ltl",
+        Logic::Ltl,
         b"p \xe2\x88\xa7 q",
-        b"refused text rule 1 at 2\n",
+        1,
+        2,
         "line 1, column 3: `\u{2227}` isn't expected here; expected: `&`, `|`, `->`, `<->`, `U`, `R`, `W`, the end of the formula",
     ),
     (
-        "ltl",
+        Logic::Ltl,
         b"F[0,3] p",
-        b"refused text rule 1 at 1\n",
+        1,
+        1,
         "line 1, column 2: `[` isn't expected here; expected: a proposition, `tt`, `ff`, `!`, `(`, `X`, `F`, `G`; operators have no bounds: write `X X p` for `X[2] p` (docs/FORMULAS.md)",
     ),
     (
-        "ctl",
+        Logic::Ctl,
         b"A X [2] p",
-        b"refused text rule 1 at 4\n",
+        1,
+        4,
         "line 1, column 5: `[` isn't expected here; expected: a proposition, `tt`, `ff`, `!`, `(`, `E`, `A`, `X`, `F`, `G`; operators have no bounds: write `X X p` for `X[2] p` (docs/FORMULAS.md)",
     ),
     (
-        "word",
+        Logic::Word,
         b"G(x <= 3)",
-        b"refused text rule 1 at 4\n",
+        1,
+        4,
         "line 1, column 5: `<` isn't expected here; expected: `)`, `&`, `|`, `->`, `<->`, `U`, `R`, `W`; there are no numbers to compare: take a proposition like `mode_3` for `mode = 3` (docs/FORMULAS.md)",
     ),
     (
-        "mu",
+        Logic::Mu,
         b"mode != 3",
-        b"refused text rule 1 at 5\n",
+        1,
+        5,
         "line 1, column 6: `!` isn't expected here; expected: `&`, `|`, `->`, `<->`, the end of the formula; there are no numbers to compare: take a proposition like `mode_3` for `mode = 3` (docs/FORMULAS.md)",
     ),
     (
-        "word",
+        Logic::Word,
         b"G(Request -> q)",
-        b"refused text rule 1 at 2\n",
+        1,
+        2,
         "line 1, column 3: `R` isn't expected here; expected: a proposition, `tt`, `ff`, `!`, `(`, `X`, `F`, `G`; a proposition begins with a lower-case letter (docs/FORMULAS.md)",
     ),
     (
-        "ltl",
+        Logic::Ltl,
         b"F(P & q)",
-        b"refused text rule 1 at 2\n",
+        1,
+        2,
         "line 1, column 3: `P` isn't expected here; expected: a proposition, `tt`, `ff`, `!`, `(`, `X`, `F`, `G`; a proposition begins with a lower-case letter (docs/FORMULAS.md)",
     ),
     (
-        "pdl",
+        Logic::Pdl,
         b"<a>Open",
-        b"refused text rule 1 at 3\n",
+        1,
+        3,
         "line 1, column 4: `Open` isn't expected here; expected: a proposition, `tt`, `ff`, `!`, `(`, `<`, `[`, `repeat`; a proposition begins with a lower-case letter (docs/FORMULAS.md)",
     ),
     (
-        "mu",
+        Logic::Mu,
         b"<a>Open",
-        b"refused text rule 2 at 3\n",
+        2,
+        3,
         "line 1, column 4: the variable `Open` has no `mu` or `nu` around it; a proposition begins with a lower-case letter (docs/FORMULAS.md)",
     ),
     (
-        "mu",
+        Logic::Mu,
         b"mu X. <>Y",
-        b"refused text rule 2 at 8\n",
+        2,
+        8,
         "line 1, column 9: the variable `Y` has no `mu` or `nu` around it",
     ),
     (
-        "mu",
+        Logic::Mu,
         b"mu X. !X",
-        b"refused text rule 3 at 7\n",
+        3,
+        7,
         "line 1, column 8: between the variable `X` and its `mu` or `nu` there is a `<->`, or an odd number of negations (the left side of `->` counts as one)",
     ),
     (
-        "mu",
+        Logic::Mu,
         b"p & q",
-        b"refused text rule 4 at 4\n",
+        4,
+        4,
         "line 1, column 5: here the formula passes 1,000 occurrences of operators and names (`<->` counts as three)",
     ),
     (
-        "mu",
+        Logic::Mu,
         b"((p))",
-        b"refused text rule 5 at 1\n",
+        5,
+        1,
         "line 1, column 2: here more than 1,000 parentheses are open",
     ),
     (
-        "mu",
+        Logic::Mu,
         b"p",
-        b"refused text rule 6 at 0\n",
+        6,
+        0,
         "line 1, column 1: this name has more than 64 bytes",
     ),
 ];
 
 #[test]
 fn formulas(rt: HostRuntime) -> Result<(), Fail> {
-    for (logic, text, output, wanted) in ROWS {
-        let sentence = told(rt.alloc(), logic, text, output)?;
+    for (logic, text, rule, at, wanted) in ROWS {
+        let sentence = told(rt.alloc(), logic, text, rule, at)?;
         assert_eq!(rt; sentence.as_str(), wanted);
     }
     Ok(())

@@ -1,5 +1,5 @@
-// Tests of what is told people on standard error. They stand here, above the crate that they call, so that it isn't proved a second
-// time for its tests.
+// Tests of what is told people on standard error. They stand here, above the crate that they call, so that it isn't proved a
+// second time for its tests.
 //
 //   formulas    where formulas are refused, and what may follow there
 //   documents   where documents, tasks, games, automata and requirements are refused, and of which problem a document speaks

@@ -5,13 +5,13 @@ use crate::formulas::formula_fault;
 use crate::requirements::requirements_fault;
 use crate::rules::{Shape, of_automaton, of_game, of_solution};
 use crate::shown::{shown, token};
-use crate::told::{Told, told_by};
+use ml_driver::{Command, Said, TextKind};
 use ml_front::Logic;
 use ml_spec::line_and_column;
 use std::alloc::{AllocError, Global};
 
-/// What people are told of the output of a call with these words on this input, in one line without its end: where the input is at
-/// fault and why, or which problem a document was checked for; `None` where nothing is to be told.
+/// What people are told of the answer to a command on this input, in one line without its end: where the input is at fault
+/// and why, or which problem a document was checked for; `None` where nothing is to be told.
 ///
 /// # Errors
 /// `AllocError` alone.
@@ -19,71 +19,87 @@ use std::alloc::{AllocError, Global};
 /// Cost: linear in the input, and a few dozen parses of a formula's text up to the byte at which it is refused.
 pub fn explanation(
     alloc: Global,
-    words: &[String],
+    command: Command,
+    said: Said,
     input: &[u8],
-    output: &[u8],
 ) -> Result<Option<String>, AllocError> {
-    let command = word_at(words, 0);
-    let Some(found) = told_by(output) else {
-        return Ok(None);
-    };
-    Ok(Some(match found {
-        Told::Formula { rule, at } => {
-            let logic = Logic::named(word_at(words, 1).as_bytes()).unwrap_or(Logic::Ltl);
-            let cause = formula_fault(alloc, logic, input, rule, at)?;
-            placed(alloc, input, at, &cause)?
+    Ok(Some(match said {
+        Said::RefusedText { kind, rule, at } => {
+            text_fault(alloc, command, kind, input, rule, at as usize)?
         }
-        Told::Game { rule, at } => token_fault(alloc, input, at, of_game(rule))?,
-        Told::Automaton { rule, at } => token_fault(alloc, input, at, of_automaton(rule))?,
-        Told::Document { line, rule } => {
-            document_fault(alloc, shape_of(command), input, line, rule)?
+        Said::RefusedDocument(fault) => {
+            let line = fault.line as usize;
+            document_fault(alloc, shape_of(command), input, line, fault.rule)?
         }
-        Told::Requirements { line, column, rule } => {
-            requirements_fault(alloc, input, line, column, rule)?
+        Said::RefusedRequirements { line, column, rule } => {
+            requirements_fault(alloc, input, line as usize, column as usize, rule.number())?
         }
-        Told::RejectedLine { line, rule } => rejection(alloc, input, line, rule)?,
-        Told::RejectedVertex { rule } => String::from_str(alloc, of_solution(rule))?,
-        Told::Length => String::from_str(alloc, "the input is longer than this command reads")?,
-        Told::NotTotal => String::from_str(
+        Said::RejectedLine { line, rule } => rejection(alloc, input, line as usize, rule)?,
+        Said::RejectedVertex { rule, .. } => String::from_str(alloc, of_solution(rule))?,
+        Said::TooLong => String::from_str(alloc, "the input is longer than this command reads")?,
+        Said::NotTotal(_) => String::from_str(
             alloc,
             "in CTL* and LTL each state needs an edge with the action `_`",
         )?,
-        Told::NotAWord => String::from_str(
+        Said::NotAWord(_) => String::from_str(
             alloc,
             "on words each state needs exactly one edge with the action `_`",
         )?,
-        Told::Confirmed | Told::Denied => {
-            return match finding_of(command, found) {
+        Said::Holds | Said::Fails | Said::Accepted => {
+            return match finding_of(command, said) {
                 Some(finding) => checked_problem(alloc, finding, input),
                 None => Ok(None),
             };
         }
+        Said::NoCommand | Said::NoPath | Said::Undecided { .. } => return Ok(None),
     }))
 }
 
-fn word_at(words: &[String], place: usize) -> &str {
-    match words.get(place) {
-        Some(word) => word.as_str(),
-        None => "",
+fn text_fault(
+    alloc: Global,
+    command: Command,
+    kind: TextKind,
+    input: &[u8],
+    rule: u32,
+    at: usize,
+) -> Result<String, AllocError> {
+    match kind {
+        TextKind::Formula => {
+            let cause = formula_fault(alloc, logic_of(command), input, rule, at)?;
+            placed(alloc, input, at, &cause)
+        }
+        TextKind::Game => token_fault(alloc, input, at, of_game(rule)),
+        TextKind::Automaton => token_fault(alloc, input, at, of_automaton(rule)),
+    }
+}
+
+// that of the formula that the command reads; `automaton` reads one of LTL
+fn logic_of(command: Command) -> Logic {
+    match command {
+        Command::Decide { logic, .. }
+        | Command::Valid { logic, .. }
+        | Command::Find { logic, .. }
+        | Command::Prove { logic, .. } => logic,
+        _ => Logic::Ltl,
     }
 }
 
 // what the command reads whose document is refused
-fn shape_of(command: &str) -> Shape {
+fn shape_of(command: Command) -> Shape {
     match command {
-        "check-refutation" | "migrate" => Shape::Refutation,
-        "realize" | "make" => Shape::Task,
-        "check-machine" => Shape::Machine,
+        Command::CheckRefutation | Command::Migrate => Shape::Refutation,
+        Command::Realize { .. } | Command::Make { .. } => Shape::Task,
+        Command::CheckMachine => Shape::Machine,
         _ => Shape::Model,
     }
 }
 
 // what is said of the problem of a document that was checked
-fn finding_of(command: &str, found: Told) -> Option<&'static str> {
-    match (command, found) {
-        ("check-refutation", Told::Confirmed) => Some("refuted"),
-        ("check-model", Told::Confirmed) => Some("holds"),
-        ("check-model", Told::Denied) => Some("fails"),
+fn finding_of(command: Command, said: Said) -> Option<&'static str> {
+    match (command, said) {
+        (Command::CheckRefutation, Said::Accepted) => Some("refuted"),
+        (Command::CheckModel, Said::Holds) => Some("holds"),
+        (Command::CheckModel, Said::Fails) => Some("fails"),
         _ => None,
     }
 }

@@ -1,5 +1,7 @@
 // The rules of games, automata, documents and tasks, each in a few words: how it is broken.
 
+use ml_game_check::Rule;
+
 /// What is read where a document is refused.
 #[derive(Clone, Copy, PartialEq, Eq)]
 pub(crate) enum Shape {
@@ -37,13 +39,14 @@ pub(crate) fn of_automaton(rule: u32) -> &'static str {
 }
 
 /// How an entry of a solution breaks the rule.
-pub(crate) fn of_solution(rule: u32) -> &'static str {
+pub(crate) fn of_solution(rule: Rule) -> &'static str {
     match rule {
-        1 => "the winner of this vertex owns it, so its entry needs a move",
-        2 =>
+        Rule::HasMove => "the winner of this vertex owns it, so its entry needs a move",
+        Rule::MovesAlong =>
             "the winner of this vertex owns it, and the move of its entry leads to none of its successors",
-        3 => "from this vertex a play may go on to one that has no entry for the same winner",
-        _ =>
+        Rule::StaysClaimed =>
+            "from this vertex a play may go on to one that has no entry for the same winner",
+        Rule::NoBadCycle =>
             "a play may go round a cycle through this vertex for ever, and its priority, the highest on the cycle, is bad for its winner",
     }
 }

@@ -1,14 +1,10 @@
 // Why words are no command.
 
 use crate::shown::{cut, shown};
+use ml_driver::{Engine, Further, GREATEST_LIMIT, LONGEST_NUMBER, Verb};
 use ml_front::Logic;
+use ml_gen::Family;
 use std::alloc::{AllocError, Global};
-
-/// The greatest number that a limit may be.
-const GREATEST_LIMIT: u32 = 200_000;
-
-/// How many digits a number has at most.
-const LONGEST_NUMBER: usize = 6;
 
 /// How many bytes of the name of a file are shown at most.
 const LONGEST_FILE: usize = 200;
@@ -64,52 +60,6 @@ impl<'a> Parts<'a> {
     }
 }
 
-/// What stands behind the first word of a command, but for its limit.
-#[derive(Clone, Copy)]
-enum Further {
-    Nothing,
-    Files,
-    Logic,
-    Engine,
-    Family,
-}
-
-fn further_of(command: &str) -> Option<Further> {
-    Some(match command {
-        "find" | "prove" | "decide" | "valid" => Further::Logic,
-        "ask" => Further::Files,
-        "solve-game" => Further::Engine,
-        "gen" | "bench" => Further::Family,
-        "check-model"
-        | "check-refutation"
-        | "path"
-        | "migrate"
-        | "quotient"
-        | "check-game"
-        | "determinise"
-        | "automaton"
-        | "make"
-        | "realize"
-        | "check-machine" => Further::Nothing,
-        _ => return None,
-    })
-}
-
-fn has_limit(command: &str) -> bool {
-    matches!(
-        command,
-        "find"
-            | "prove"
-            | "decide"
-            | "valid"
-            | "ask"
-            | "determinise"
-            | "automaton"
-            | "make"
-            | "realize"
-    )
-}
-
 /// Why these words, which come without the program's name, are no command, in one line without its end; `None` where that isn't
 /// known, or where they ask for help.
 ///
@@ -129,13 +79,14 @@ pub fn words_fault(alloc: Global, words: &[String]) -> Result<Option<String>, Al
     if command.is_empty() {
         return Ok(None);
     }
-    let Some(further) = further_of(command) else {
+    let Some(verb) = Verb::named(command) else {
         let word = shown(alloc, command.as_bytes())?;
         return Ok(Some(format!(in alloc; "{word} is no command")?));
     };
+    let further = verb.further();
     match further_fault(alloc, command, further, parts)? {
         Some(fault) => Ok(Some(fault)),
-        None => limit_fault(alloc, command, parts),
+        None => limit_fault(alloc, command, further, parts),
     }
 }
 
@@ -158,7 +109,7 @@ fn further_fault(
     parts: Parts<'_>,
 ) -> Result<Option<String>, AllocError> {
     match (further, parts.subject) {
-        (Further::Nothing, subject) => file_fault(alloc, command, subject),
+        (Further::Nothing | Further::Limit, subject) => file_fault(alloc, command, subject),
         (Further::Files, Some("files")) => file_fault(alloc, "ask files", parts.count),
         (Further::Files, subject) => file_fault(alloc, "ask", subject),
         (Further::Logic, Some(word)) if Logic::named(word.as_bytes()).is_some() => {
@@ -172,7 +123,7 @@ fn further_fault(
                 "logic: `mu`, `pdl`, `ctl`, `ltl` or `word`",
             )
         }
-        (Further::Engine, Some(word)) if matches!(word, "recursive" | "measures" | "tangles") => {
+        (Further::Engine, Some(word)) if Engine::named(word.as_bytes()).is_some() => {
             called_fault(alloc, command, word, parts.count)
         }
         (Further::Engine, word) => {
@@ -230,7 +181,7 @@ fn family_fault(
     word: Option<&str>,
     parts: Parts<'_>,
 ) -> Result<Option<String>, AllocError> {
-    let Some(greatest) = greatest_of(word) else {
+    let Some(family) = word.and_then(|word| Family::named(word.as_bytes())) else {
         return word_fault(
             alloc,
             command,
@@ -238,6 +189,7 @@ fn family_fault(
             "family: `and`, `or`, `step`, `fair` or `loop`",
         );
     };
+    let greatest = greatest_of(family);
     let family = word.unwrap_or("");
     match parts.count {
         None => Ok(Some(format!(in alloc;
@@ -259,15 +211,16 @@ fn family_fault(
     }
 }
 
-// the greatest number of the family
-fn greatest_of(family: Option<&str>) -> Option<u32> {
-    Some(match family? {
-        "and" => 500,
-        "or" => 16,
-        "step" | "loop" => 400,
-        "fair" => 3,
-        _ => return None,
-    })
+// the greatest number of the family, which has all those from 1 on up to it
+fn greatest_of(family: Family) -> u32 {
+    let mut greatest = 0;
+    for number in 1..=GREATEST_LIMIT {
+        if !family.has(number) {
+            return greatest;
+        }
+        greatest = number;
+    }
+    greatest
 }
 
 // is this one from 1 to the greatest?
@@ -284,6 +237,7 @@ fn is_number(word: &str, greatest: u32) -> bool {
 fn limit_fault(
     alloc: Global,
     command: &str,
+    further: Further,
     parts: Parts<'_>,
 ) -> Result<Option<String>, AllocError> {
     if parts.lacks_limit {
@@ -292,7 +246,7 @@ fn limit_fault(
     let Some(limit) = parts.limit else {
         return Ok(None);
     };
-    if !has_limit(command) {
+    if !matches!(further, Further::Limit | Further::Logic | Further::Files) {
         return Ok(Some(format!(in alloc; "`{command}` has no limit")?));
     }
     if parts.has_two_limits {

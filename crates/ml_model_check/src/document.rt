@@ -1,16 +1,13 @@
-// Documents with a structure, read and written.
-ghost use Rattle.std.specs.Prelude.{◌≡◌, IfOk, IsErrOf, OnOk};
+// Documents with a structure, read.
+ghost use Rattle.std.specs.Prelude.{IfOk, IsErrOf};
 ghost use Rattle.ml_base.specs.declared.doc_fault.DocFault.{DocFault};
 ghost use Rattle.ml_kripke.specs.BodyRules.{IsFaultOf};
-ghost use Rattle.ml_kripke.specs.ModelText.{IsWritten};
-ghost use Rattle.ml_kripke.specs.Ordered.{IsOrdered};
 ghost use Rattle.ml_front.specs.Documents.{IsDocumentFault};
 ghost use Rattle.ml_model_check.specs.Checked.{IsDocument};
-ghost use Rattle.ml_model_check.specs.WrittenDocument.{satisfiable_document};
 
-use ml_base::{DocRefusal, NoMemory};
-use ml_front::{Answer, Problem, append_head, read_head};
-use ml_kripke::{Model, append_model, read_model};
+use ml_base::DocRefusal;
+use ml_front::{Answer, Problem, read_head};
+use ml_kripke::{Model, read_model};
 use std::alloc::Global;
 
 const FIRST_BODY_LINE: u64 = 6;
@@ -45,25 +42,4 @@ pub fn read_document(alloc: Global, bytes: &[u8]) -> Result<ShownModel, DocRefus
         }),
         Err(refusal) => Err(refusal),
     }
-}
-
-/// The document that says that a problem holds at the start of a model: the head in version 2, and the text of the model.
-/// Whether the problem holds there is another question.
-///
-/// # Errors
-/// `NoMemory` alone.
-///
-/// Cost: linear in the text.
-pub fn write_document(alloc: Global, problem: &Problem, model: &Model) -> Result<Vec<u8>, NoMemory>
-    ensures text { IfOk result (λ bytes.
-        bytes.items ≡ satisfiable_document problem.now model.now.structure model.now.start) }
-    ensures written { OnOk result (IsWritten model.now.structure model.now.start) }
-    ensures ordered { OnOk result (IsOrdered model.now.structure) }
-{
-    // whoever asks a structure for its states learns what its type keeps
-    let _states = model.structure.states();
-    let mut bytes = Vec::new(alloc);
-    append_head(&mut bytes, problem, Answer::Satisfiable)?;
-    append_model(&mut bytes, model)?;
-    Ok(bytes)
 }

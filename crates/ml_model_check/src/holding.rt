@@ -29,10 +29,10 @@ const MOST_NESTED: u32 = 2;
 /// least such state. `ClosureTooLarge` exactly where the logic speaks of the structure and the problem's closure has
 /// more than 4,096 nodes. So none comes in the mu-calculus and in PDL. `NoMemory`.
 ///
-/// Cost: a formula of the mu-calculus with at most two binders one inside the other costs what `ml_mu::evaluate` does; one of LTL
-/// on words what `ml_word_check::holds` does, linear in the structure; each other problem what `ml_front::graph` does, and what `ml_parity::solve` does on a game with a vertex for each
-/// pair of a state and a node of the graph. No call is nested deeper than the formula, which has at most 1,000
-/// occurrences.
+/// Cost: a formula of the mu-calculus with at most two binders one inside the other costs what `ml_mu::evaluate` does; one of
+/// LTL on words what `ml_word_check::holds` does, linear in the structure; each other problem what `ml_front::graph` does,
+/// and what `ml_parity::solve` does on a game with a vertex for each pair of a state and a node of the graph. No call is
+/// nested deeper than the formula, which has at most 1,000 occurrences.
 pub fn holds(
     alloc: Global,
     problem: &Problem,

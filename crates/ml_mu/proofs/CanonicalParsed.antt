@@ -3,6 +3,7 @@
 --   canonical_accepted == the text keeps all limits
 --   canonical_parsed  == that of a well-formed formula is parsed as it
 use Rattle.std.proofs.Common.{false, [], refl, arith}
+use Rattle.ml_text.proofs.TableItems.{counted_items}
 use Rattle.ml_text.specs.declared.token.WordStart.TheVariants.{AnyLetter}
 use Rattle.ml_text.specs.Tokens.{tokens}
 use Rattle.ml_text.specs.Refusals.{IsAccepted}
@@ -15,7 +16,7 @@ use Rattle.ml_mu.specs.ParsingLaws.{CanonicalIsParsed}
 use Rattle.ml_mu.specs.Signs.{own}
 use Rattle.ml_mu.specs.Text.{mu_signs, items}
 use Rattle.ml_mu.proofs.CanonicalTexts.{canonical_tokens, canonical_stands, sign_spelt, tokens_onto}
-use Rattle.ml_mu.proofs.Counting.{counts, counted_items}
+use Rattle.ml_mu.proofs.Counting.{counts}
 use Rattle.ml_mu.specs.WellFormed.{IsWellFormed}
 use Rattle.ml_mu.proofs.CanonicalLimits.{few_open, tokens_short}
 use Rattle.ml_mu.proofs.FaultFree.{well_fine}
@@ -28,7 +29,7 @@ canonical_accepted f well =
       tokens_are = canonical_tokens f well.names_are_spelled;
       brackets = λ p. refl;
       stands = read;
-      few = omega (arith, counted_items text false (tokens AnyLetter text), counts read, well.is_small);
+      few = omega (arith, counted_items mu_signs text false (tokens AnyLetter text), counts read, well.is_small);
       flat = omega (arith, few_open f [], well.is_small);
       short = tokens_short f well.names_are_short [] tt;
     })

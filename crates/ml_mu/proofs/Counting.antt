@@ -3,15 +3,14 @@
 --   count_signs silent ts      == the occurrences that the signs count
 --   variable_words silent ts   == the variables among the signs
 --   variables f                == the variables of f, in the order of the text
---   counted_items              == the items of a text count what its signs do
 --   counts                     == the occurrences of a formula are those of its text
 --   words_are_variables        == the variables of a formula are those of its text
 --   few_names                  == a formula has no more names than occurrences
 use Rattle.std.proofs.Common.{◌≡◌, ℕ, suc, ◌+◌, ◌≤◌, Bool, true, false, List, [], ◌∷◌, ◌++◌, length, Some, refl, sym, ◌∙◌, ap, arith, if◌then◌else◌, append_assoc, length-append}
 use Rattle.ml_text.specs.declared.token.Operator.TheVariants as operator
-use Rattle.ml_text.specs.declared.token.Placed.{Placed}
 use Rattle.ml_text.specs.Levels.{Level}
-use Rattle.ml_text.specs.Refusals.{Item, signs_of, counted}
+use Rattle.ml_text.specs.Refusals.{Item, signs_of}
+use Rattle.ml_text.proofs.TableItems.{count_from}
 use Rattle.ml_mu.specs.Formula as plain
 use Rattle.ml_mu.specs.Formula.{Formula, occurrences}
 use Rattle.ml_mu.specs.FormulaNames.{names}
@@ -19,26 +18,13 @@ use Rattle.ml_text.specs.declared.named_signs.Sign.TheVariants.{Lower, Upper, Ad
 use Rattle.ml_mu.specs.Signs.{Sign, action_of}
 use Rattle.ml_mu.specs.declared.signs.Own.TheVariants.{Begins, Ends, Blank}
 use Rattle.ml_mu.specs.Grammar.{Reads, alone, joined, negation, modal, modal_blank, binder, group, constant, proposition, variable}
-use Rattle.ml_mu.specs.Text.{weight_of, silences, sign_at, places_from, is_variable_at}
-use Rattle.ml_mu.specs.TextLaws.{item_by, items_from}
+use Rattle.ml_mu.specs.Text.{silences, mu_signs, places_from, is_variable_at}
 use Rattle.ml_mu.specs.VariableFaults.{Around, standings_in}
 
 -- ---- occurrences
 
 abbrev pub count_signs : Bool → List Sign → ℕ
-count_signs silent [] = 0
-count_signs silent (t ∷ ts) = (if silent then 0 else weight_of t) + count_signs (silences t) ts
-
-pub counted_items : (text : List ℕ) (silent : Bool) (ps : List Placed)
-    → counted (items_from text silent ps) ≡ count_signs silent (signs_of (items_from text silent ps))
-counted_items text silent [] = refl
-counted_items text silent (p ∷ ps) =
-    let here =
-    Rattle.std.proofs.lemmas.List.Sums.sum_by-cons (λ (i : Item Sign). i.weight) (item_by text silent p)
-    (items_from text (silences (sign_at text p)) ps)
-    in
-    let later = counted_items text (silences (sign_at text p)) ps in
-    omega (arith, here, later)
+count_signs = count_from mu_signs
 
 -- a sign that is an action silences nothing
 action_silences : (s : Sign) (a : List ℕ) → action_of s ≡ Some a → silences s ≡ false

@@ -38,3 +38,5 @@ pub mod CanonicalParsed
 pub mod SomeOccurrence
 -- formulas made of formulas
 pub mod Connected
+-- the canonical text of a formula stands in one line
+pub mod CanonicalLines

@@ -11,6 +11,7 @@
 --   parsed_well      == what is parsed is well formed
 use Rattle.std.proofs.Common.{◌≡◌, ℕ, ◌≤◌, true, false, List, [], ◌∷◌, length, None, refl, sym, ◌∙◌, ap, subst, arith}
 use Rattle.std.proofs.lemmas.List.{append-nil}
+use Rattle.ml_text.proofs.TableItems.{counted_items}
 use Rattle.ml_base.specs.declared.parse_refusal.ParseRefusal.{ParseRefusal}
 use Rattle.ml_base.specs.declared.parse_refusal.ParseRefusal.TheVariants as refusal
 use Rattle.ml_text.specs.declared.token.WordStart.TheVariants.{AnyLetter}
@@ -25,11 +26,11 @@ use Rattle.ml_mu.specs.Grammar.{IsReadAs}
 use Rattle.ml_mu.specs.Parsing.{IsParsedAs, IsRefusedBy, ComesFirst}
 use Rattle.ml_text.specs.private.Progress.{IsRefusal}
 use Rattle.ml_mu.specs.private.Tables.{mu_grammar}
-use Rattle.ml_mu.specs.Text.{items, variable_places}
+use Rattle.ml_mu.specs.Text.{mu_signs, items, variable_places}
 use Rattle.ml_mu.specs.VariableFaults.{Standing, Fine, Unbound, NotPositive, standings, fault_at, are_fine}
 use Rattle.ml_mu.specs.private.VariableViews.{IsFaultOf}
 use Rattle.ml_mu.specs.WellFormed.{IsWellFormed}
-use Rattle.ml_mu.proofs.Counting.{counts, counted_items, words_are_variables, variables, length-places, length-standings}
+use Rattle.ml_mu.proofs.Counting.{counts, words_are_variables, variables, length-places, length-standings}
 use Rattle.ml_mu.proofs.Fine.{IsWellBound, fine_well}
 use Rattle.ml_mu.proofs.MuGrammar.{mu_regular, mu_completable, stands_read, read_stands}
 use Rattle.ml_mu.proofs.ReadNames.{text_short, text_spelled}
@@ -63,7 +64,7 @@ pub accepted_small : (text : List ℕ) (f : Formula)
     → occurrences f ≤ most_occurrences
 accepted_small text f accepted =
     let few = few_items (items text) (λ k fault. accepted.keeps TooMany k fault) in
-    let same = counted_items text false (tokens AnyLetter text) in
+    let same = counted_items mu_signs text false (tokens AnyLetter text) in
     let has = counts accepted.stands in
     omega (arith, few, same, has)
 

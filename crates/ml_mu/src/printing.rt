@@ -1,6 +1,5 @@
 // The canonical text of a formula.
 ghost use Rattle.std.specs.Prelude.{◌≡◌, ◌++◌, List, ℕ, take, IfOk, OnOk, OnErr, codes, vec_len};
-ghost use Rattle.ml_text.specs.Operators.{spelling_of};
 ghost use Rattle.ml_mu.specs.Canonical.{action_text, canonical_text, fixpoint_word, modality_text};
 ghost use Rattle.ml_mu.specs.Parsing.{IsParsedAs};
 ghost use Rattle.ml_mu.specs.Term.{formula_of};
@@ -9,7 +8,7 @@ ghost use Rattle.ml_mu.specs.WellFormed.{IsWellFormed};
 use crate::{Fixpoint, Formula, Modality, Term};
 use ml_base::{Action, Name, NoMemory};
 use ml_lines::whole_or_none;
-use ml_text::Operator;
+use ml_text::infix;
 use std::alloc::{AllocError, Global};
 
 /// The canonical text of a formula, which is read back as the same formula.
@@ -75,18 +74,6 @@ fn write_term(text: &mut Vec<u8>, term: &Term) -> Result<(), AllocError>
             write_term(text, body)?;
             text.extend_from_slice(b")")
         }
-    }
-}
-
-// a connective between its operands, with its blanks
-fn infix(operator: Operator) -> &'static [u8]
-    ensures { result.now ≡ codes " " ++ spelling_of operator ++ codes " " }
-{
-    match operator {
-        Operator::And => b" & ",
-        Operator::Or => b" | ",
-        Operator::Implies => b" -> ",
-        Operator::Iff => b" <-> ",
     }
 }
 

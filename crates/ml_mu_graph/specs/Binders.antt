@@ -11,7 +11,8 @@
 -- Nothing is said of vertices outside a region that no move leaves, and verdicts may change the game there.
 --
 --   Binder g p R n at body ours theirs == the vertices `at s`, for the states s below n, are those of a binder in the region R
---                            of the game g: each leads to `body s`, and recurring is bad for p; ours and theirs are sinks, won by p and by the opponent
+--                            of the game g: each leads to `body s`, and recurring is bad for p; ours and theirs are sinks, won
+--                            by p and by the opponent
 --   verdict U ours theirs s  == the sink to which the vertex at s leads with the verdicts of U
 --   HasVerdicts g h R n at ours theirs U == the game h is g in R, but for the verdicts of U; whose move it is there is free
 --   MakesWithin h p n body U == the set that U makes, by the game h with its verdicts, lies within U

@@ -4,7 +4,8 @@
 // occurrence after the other, and with `Lists`, of which a graph is made. `specs/Nodes.antt` says which two nodes an
 // occurrence has. A graph whose nodes stand for values is made by a `Numbering`, value after value.
 //
-// Below stand `ml_graph`, for graphs, and `ml_ctl`, whose formulas have their graphs in two crates. Above stand `ml_mu_graph`, `ml_pdl_graph`, `ml_word_graph` and `ml_blocks`.
+// Below stand `ml_graph`, for graphs, and `ml_ctl`, whose formulas have their graphs in two crates. Above stand `ml_mu_graph`,
+// `ml_pdl_graph`, `ml_word_graph` and `ml_blocks`.
 #![tactic(auto)]
 
 mod draft;

@@ -6,7 +6,8 @@
 --   none_waits, whole_waits == no frame waits exactly for the whole game
 --   work_pushed   == the work with one frame more
 --   first_ends, second_ends, first_opens, second_opens == what a turn makes of the frames
---   opens_less, splits_less, first_falls, second_falls == the work falls where a part is opened, and where its second half begins
+--   opens_less, splits_less, first_falls, second_falls == the work falls where a part is opened, and where its second half
+--                         begins
 use Rattle.std.proofs.Common.{ℕ, ◌≡◌, ◌+◌, ◌*◌, ◌^◌, ◌<◌, ◌≤◌, arith, List, [], ◌∷◌, ◌++◌, reverse, subst, sym, ap, ◌∙◌, add-one, refl}
 use Rattle.std.specs.List.{sum_by}
 use Rattle.std.proofs.lemmas.List.{reverse-append}

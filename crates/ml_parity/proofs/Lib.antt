@@ -42,8 +42,6 @@ pub mod WaitingFrames
 pub mod LeastKept
 -- and its second case
 pub mod LeastLost
--- live vertices as a list of flags
-pub mod LiveLists
 -- finite memory is not needed
 pub mod Memory
 -- how often a number stands in a list
@@ -52,8 +50,6 @@ pub mod Occurrences
 pub mod OneStep
 -- the two players
 pub mod Opponents
--- the steps of the plain solver
-pub mod PlainSteps
 -- lists that are a game, and lists that are none
 pub mod Refusals
 -- loops over the places of a row

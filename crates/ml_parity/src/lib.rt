@@ -7,7 +7,6 @@
 // The calls to know:
 // - `solve` answers who wins each vertex of a game, and by which moves: Zielonka's recursion, with its frames on a list.
 // - `Game::build` makes a game of three lists, and refuses lists that are none.
-// - `plain::solve_plain` answers the same question. It is slow and obvious: take it to test `solve`.
 // - `laws::determined` does nothing; its contract is the determinacy law, over the definition alone.
 // - `heights` treats a graph in which one player makes all moves (`OneSided::build`): it counts the longest walks, or finds
 //   a cycle of even lowest priority. `heights_ok` tests numbers against the definition (`specs/Heights.antt`).
@@ -18,15 +17,14 @@
 // `Memory` (finite memory is not needed), `SolutionFacts` (what a solution tells), `HeightTables` (the longest counts are
 // heights; where there are heights there is no even cycle).
 //
-// Below stand `ml_lists`, the mathematics of lists, loops and search, and `ml_base`, for its error. Above stand the crates whose answers are games:
-// checking games of structures and graphs, and the decision game.
+// Below stand `ml_lists`, the mathematics of lists, loops and search, and `ml_base`, for its error. Above stand the crates
+// whose answers are games: checking games of structures and graphs, and the decision game.
 #![tactic(auto)]
 
 mod fill;
 pub mod games;
 pub mod laws;
 pub mod one_sided;
-pub mod plain;
 pub mod players;
 pub mod solutions;
 mod zielonka;

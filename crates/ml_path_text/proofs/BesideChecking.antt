@@ -18,8 +18,8 @@ use Rattle.ml_model_check.proofs.OneCheck.{document_fault, one_document}
 use Rattle.ml_path_text.specs.Found.{Asks, Finds, IsFoundIn}
 use Rattle.ml_path_text.specs.Laws.{FoundWhereItFails, FoundWhereItHolds, IsPath, NeitherIsLarge}
 use Rattle.ml_path_text.specs.PathProblems.{AsksFor}
-use Rattle.ml_path_text.specs.declared.finding.Finding.{Finding}
-use Rattle.ml_path_text.specs.declared.finding.Finding.TheVariants.{ClosureTooLarge, NoPath, NotAWord, NotTotal, Path, Unreadable}
+use Rattle.ml_path_text.specs.declared.finding.PathFinding.{PathFinding}
+use Rattle.ml_path_text.specs.declared.finding.PathFinding.TheVariants.{ClosureTooLarge, NoPath, NotAWord, NotTotal, Path, Unreadable}
 use Rattle.ml_path_text.proofs.Documents.{asked_formula, asked_readable, one_asked}
 use Rattle.ml_path_text.proofs.Holding.{IsShownFrom, holds_shown, none_holds, shown_fails, shown_holds}
 use Rattle.ml_path_text.proofs.OneFinding.{IsFoundBad, IsFoundOf, found_in, found_same}
@@ -39,7 +39,7 @@ checks text p m s f b c asks is = go (checked_in text c is)
     go (inr (fault, so, bad)) = absurd (document_fault text p m s fault asks.is_document bad)
 
 -- what is found of it
-finds : (text : List ℕ) (p : Problem) (m : Structure) (s : ℕ) (f : Formula) (b : Bool) (x : Finding)
+finds : (text : List ℕ) (p : Problem) (m : Structure) (s : ℕ) (f : Formula) (b : Bool) (x : PathFinding)
     → Asks text p m s f b
     → IsFoundIn text x
     → Finds x (logic_of p.formula) m s f b
@@ -57,7 +57,7 @@ module _ (p : Problem) (m : Structure) (s : ℕ) (f : Formula) (b : Bool) where
   abbrev Shown : Type 0
   Shown = IsShownFrom m s f b
 
-  abbrev Found : Finding → Type 0
+  abbrev Found : PathFinding → Type 0
   Found x = Finds x (logic_of p.formula) m s f b
 
   abbrev Told : Checked → Type 0
@@ -73,7 +73,7 @@ module _ (p : Problem) (m : Structure) (s : ℕ) (f : Formula) (b : Bool) where
   told (checked.Unreadable fault) is speaks few = absurd is
 
   -- and so does who looks for a path
-  seen : (x : Finding) → Found x → Speaks → x ≢ ClosureTooLarge → (IsPath x × Shown) ⊎ ((¬ (IsPath x)) × (¬ Shown))
+  seen : (x : PathFinding) → Found x → Speaks → x ≢ ClosureTooLarge → (IsPath x × Shown) ⊎ ((¬ (IsPath x)) × (¬ Shown))
   seen (Path a) is speaks few = inl (tt, (is.2.0, is.2.1))
   seen NoPath is speaks few = inr (λ path. path, λ shown. is.2 shown.0 shown.1)
   seen (NotTotal dead) is speaks few = absurd (never_both (logic_of p.formula) m dead speaks (inl is))
@@ -82,7 +82,7 @@ module _ (p : Problem) (m : Structure) (s : ℕ) (f : Formula) (b : Bool) where
   seen (Unreadable fault) is speaks few = absurd is
 
   -- a path is found where the logic speaks of the structure, and is shown
-  path_seen : (x : Finding) → Found x → IsPath x → Speaks × Shown
+  path_seen : (x : PathFinding) → Found x → IsPath x → Speaks × Shown
   path_seen (Path a) is path = (is.0, (is.2.0, is.2.1))
   path_seen NoPath is path = absurd path
   path_seen (NotTotal dead) is path = absurd path
@@ -90,7 +90,7 @@ module _ (p : Problem) (m : Structure) (s : ℕ) (f : Formula) (b : Bool) where
   path_seen ClosureTooLarge is path = absurd path
   path_seen (Unreadable fault) is path = absurd path
 
-  module _ (low : s < m.states) (linear : is_linear f ≡ true) (asks : AsksFor p f b) (x : Finding) (c : Checked)
+  module _ (low : s < m.states) (linear : is_linear f ≡ true) (asks : AsksFor p f b) (x : PathFinding) (c : Checked)
       (found : Found x) (checks : Checks c p m s) (few : NeitherIsLarge x c) where
     -- where a path is shown checking finds one thing, and where none is the other one
     with_path : (d : Checked)

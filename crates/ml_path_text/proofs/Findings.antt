@@ -16,14 +16,14 @@ use Rattle.ml_paths.proofs.OnePath.{some_path}
 use Rattle.ml_path_text.specs.Found.{Finds}
 use Rattle.ml_path_text.specs.Laws.{AreAlike}
 use Rattle.ml_path_text.specs.WrittenPath.{path_text}
-use Rattle.ml_path_text.specs.declared.finding.Finding.{Finding}
-use Rattle.ml_path_text.specs.declared.finding.Finding.TheVariants.{ClosureTooLarge, NoPath, NotAWord, NotTotal, Path, Unreadable}
+use Rattle.ml_path_text.specs.declared.finding.PathFinding.{PathFinding}
+use Rattle.ml_path_text.specs.declared.finding.PathFinding.TheVariants.{ClosureTooLarge, NoPath, NotAWord, NotTotal, Path, Unreadable}
 
 module _ (logic : Logic) (m : Structure) (s : ℕ) (f : Formula) (negated : Bool) where
   never : (state : ℕ) → IsAdmitted logic m → ¬ (IsFirstUnfit logic m state)
   never state = never_both logic m state
 
-  pub one_finding : (x y : Finding) → Finds x logic m s f negated → Finds y logic m s f negated → AreAlike x y
+  pub one_finding : (x y : PathFinding) → Finds x logic m s f negated → Finds y logic m s f negated → AreAlike x y
   one_finding (Path a) (Path b) x y = tt
   one_finding (Path a) NoPath x y = absurd (y.2 x.2.0 x.2.1)
   one_finding (Path a) ClosureTooLarge x y = absurd (x.1 y.1)
@@ -53,7 +53,7 @@ module _ (logic : Logic) (m : Structure) (s : ℕ) (f : Formula) (negated : Bool
   one_finding x (Unreadable fault) a b = absurd b
 
   abbrev SomeFinds : Type 0
-  SomeFinds = (x : Finding) × Finds x logic m s f negated
+  SomeFinds = (x : PathFinding) × Finds x logic m s f negated
 
   by_path : IsAdmitted logic m → (x : Found) → IsFound m s f negated x → SomeFinds
   by_path speaks (found.Path l) is = (Path (path_text m l f negated), (speaks, is.0, (l, is.1, refl)))

@@ -12,20 +12,20 @@ use Rattle.ml_front.specs.Logics.{logic_of}
 use Rattle.ml_front.specs.declared.problem.Problem.{Problem}
 use Rattle.ml_path_text.specs.Found.{Asks, Finds, IsFoundIn, IsUnreadable}
 use Rattle.ml_path_text.specs.Laws.{AreAlike, OneFinding, SomeFinding}
-use Rattle.ml_path_text.specs.declared.finding.Finding.{Finding}
-use Rattle.ml_path_text.specs.declared.finding.Finding.TheVariants.{ClosureTooLarge, NoPath, NotAWord, NotTotal, Path, Unreadable}
+use Rattle.ml_path_text.specs.declared.finding.PathFinding.{PathFinding}
+use Rattle.ml_path_text.specs.declared.finding.PathFinding.TheVariants.{ClosureTooLarge, NoPath, NotAWord, NotTotal, Path, Unreadable}
 use Rattle.ml_path_text.proofs.Documents.{AreSame, SomeAsked, SomeFault, asked_formula, asked_or_fault, asked_readable, one_asked, one_fault}
 use Rattle.ml_path_text.proofs.Findings as plain
 
-abbrev pub IsFoundOf : List ℕ → Finding → Type 0
+abbrev pub IsFoundOf : List ℕ → PathFinding → Type 0
 IsFoundOf text x =
     (p : Problem) × (m : Structure) × (s : ℕ) × (f : Formula) × (b : Bool)
     × Asks text p m s f b × Finds x (logic_of p.formula) m s f b
 
-abbrev pub IsFoundBad : List ℕ → Finding → Type 0
+abbrev pub IsFoundBad : List ℕ → PathFinding → Type 0
 IsFoundBad text x = (fault : DocFault) × (x ≡ Unreadable fault) × IsUnreadable text fault
 
-pub found_in : (text : List ℕ) (x : Finding) → IsFoundIn text x → IsFoundOf text x ⊎ IsFoundBad text x
+pub found_in : (text : List ℕ) (x : PathFinding) → IsFoundIn text x → IsFoundOf text x ⊎ IsFoundBad text x
 found_in text (Unreadable fault) is = inr (fault, refl, is)
 found_in text (Path a) is = inl is
 found_in text NoPath is = inl is
@@ -33,7 +33,7 @@ found_in text ClosureTooLarge is = inl is
 found_in text (NotTotal dead) is = inl is
 found_in text (NotAWord fork) is = inl is
 
-pub told : (text : List ℕ) (x : Finding) → IsFoundOf text x → IsFoundIn text x
+pub told : (text : List ℕ) (x : PathFinding) → IsFoundOf text x → IsFoundIn text x
 told text (Unreadable fault) (p, m, s, f, b, asks, finds) = absurd finds
 told text (Path a) is = is
 told text NoPath is = is
@@ -42,7 +42,7 @@ told text (NotTotal dead) is = is
 told text (NotAWord fork) is = is
 
 -- what is found of one is found of the other, if they are the same
-pub found_same : (x : Finding) (p q : Problem) (m n : Structure) (s t : ℕ) (f g : Formula) (b c : Bool)
+pub found_same : (x : PathFinding) (p q : Problem) (m n : Structure) (s t : ℕ) (f g : Formula) (b c : Bool)
     → AreSame p q m n s t f g b c
     → Finds x (logic_of p.formula) m s f b
     → Finds x (logic_of q.formula) n t g c
@@ -53,7 +53,7 @@ found_same x p q m n s t f g b c same finds =
     (subst (λ k. Finds x (logic_of q.formula) k s f b) same.structure
     (subst (λ (r : Problem). Finds x (logic_of r.formula) m s f b) same.problem finds))))
 
-same_bad : (x y : Finding) → x ≡ y → AreAlike x y
+same_bad : (x y : PathFinding) → x ≡ y → AreAlike x y
 same_bad (Path a) (Path b) is = tt
 same_bad (Path a) NoPath is = is
 same_bad (Path a) ClosureTooLarge is = is
@@ -82,11 +82,11 @@ pub some_finding : SomeFinding
 some_finding text = go (asked_or_fault text)
   where
     by_finding : (p : Problem) (m : Structure) (s : ℕ) (f : Formula) (b : Bool) → Asks text p m s f b
-        → ((x : Finding) × Finds x (logic_of p.formula) m s f b)
-        → (x : Finding) × IsFoundIn text x
+        → ((x : PathFinding) × Finds x (logic_of p.formula) m s f b)
+        → (x : PathFinding) × IsFoundIn text x
     by_finding p m s f b asks (x, finds) = (x, told text x (p, m, s, f, b, asks, finds))
 
-    go : SomeAsked text ⊎ SomeFault text → (x : Finding) × IsFoundIn text x
+    go : SomeAsked text ⊎ SomeFault text → (x : PathFinding) × IsFoundIn text x
     go (inl (p, m, s, f, b, asks)) =
         let written = asks.is_document.2 in
         by_finding p m s f b asks

@@ -1,41 +1,18 @@
 -- The structure of a word is in order where its letters are.
 --
---   places_ascend  == edges from place to place ascend
 --   run_ordered    == the structure of a word whose letters ascend is in order
 --   run_named      == where its letters are names, it has names
-use Rattle.std.proofs.Common.{ℕ, zero, suc, ◌≡◌, ◌<◌, ◌+◌, All, length, map, get_or, codes, refl, sym, ap, subst, arith}
+use Rattle.std.proofs.Common.{ℕ, ◌<◌, All, length, get_or, codes, refl, sym, subst, arith}
 use Rattle.std.proofs.lemmas.List.FromFn.{get_or-map-range_with_len, length-map-range_with_len}
-use Rattle.std.specs.Cmp.{nat_cmp_is}
 use Rattle.std.specs.Cmp.Lexicographic.{slice_cmp}
-use Rattle.std.specs.List.{AllByRecursion, range_with_len}
 use Rattle.std.specs.List.Sorted.{IsStrictlySortedBy}
-use Rattle.std.specs.Ordering.{nat_cmp, ordering_then}
-use Rattle.std.specs.declared.cmp.Ordering.TheVariants.{Less}
-use Rattle.ml_base.specs.EdgeOrder.{edge_cmp}
+use Rattle.std.specs.Ordering.{nat_cmp}
 use Rattle.ml_base.specs.Name.{IsAction, IsName}
 use Rattle.ml_base.specs.declared.structure.Edge.{Edge}
+use Rattle.ml_base.proofs.Edges.{places_ascend}
 use Rattle.ml_kripke.specs.Ordered.{HasNames, IsOrdered}
 use Rattle.ml_trace.specs.WordAutomata.{WordLasso}
 use Rattle.ml_word_automaton.specs.Words.{Letter, next_letter, word_structure}
-
-module _ (edge : ℕ → Edge) (from : (i : ℕ) → (edge i).source ≡ i) where
-  above_place : (a b : ℕ) → a < b → edge_cmp (edge a) (edge b) ≡ Less
-  above_place a b below =
-      let less : nat_cmp (edge a).source (edge b).source ≡ Less =
-      sym (nat_cmp_is (edge a).source (edge b).source Less (omega (arith, below, from a, from b))) in
-      ap
-      (λ o. ordering_then o
-      (ordering_then (slice_cmp nat_cmp (edge a).action (edge b).action) (nat_cmp (edge a).target (edge b).target)))
-      less
-
-  above_places : (a b n : ℕ) → a < b → AllByRecursion (λ e. edge_cmp (edge a) e ≡ Less) (map edge (range_with_len b n))
-  above_places a b zero below = tt
-  above_places a b (suc n) below = (above_place a b below, above_places a (b + 1) n (omega (arith, below)))
-
-  pub places_ascend : (a n : ℕ) → IsStrictlySortedBy edge_cmp (map edge (range_with_len a n))
-  unfolding IsStrictlySortedBy
-  places_ascend a zero = tt
-  places_ascend a (suc n) = (above_places a (a + 1) n (omega arith), places_ascend (a + 1) n)
 
 -- the edge from a place
 abbrev edge_from : WordLasso Letter → ℕ → Edge

@@ -33,8 +33,8 @@ use Rattle.ml_model_check.specs.declared.checked.Checked.TheVariants.{Holds}
 use Rattle.ml_paths.specs.Paths.{IsLarge, IsShown}
 use Rattle.ml_path_text.specs.PathProblems.{AsksFor, AsksForNone, AsksForSome}
 use Rattle.ml_path_text.specs.WrittenPath.{path_lines, path_text}
-use Rattle.ml_path_text.specs.declared.finding.Finding.{Finding}
-use Rattle.ml_path_text.specs.declared.finding.Finding.TheVariants.{ClosureTooLarge, NoPath, NotAWord, NotTotal, Path, Unreadable}
+use Rattle.ml_path_text.specs.declared.finding.PathFinding.{PathFinding}
+use Rattle.ml_path_text.specs.declared.finding.PathFinding.TheVariants.{ClosureTooLarge, NoPath, NotAWord, NotTotal, Path, Unreadable}
 
 -- ---- the first bad line
 
@@ -56,7 +56,7 @@ pub record Asks (text : List ℕ) (p : Problem) (m : Structure) (s : ℕ) (f : F
   pub is_document : IsDocument text p m s
   pub asks_for : AsksFor p f negated
 
-abbrev pub Finds : Finding → Logic → Structure → ℕ → Formula → Bool → Type 0
+abbrev pub Finds : PathFinding → Logic → Structure → ℕ → Formula → Bool → Type 0
 Finds (Path text) logic m s f negated =
     IsAdmitted logic m
     × (¬ (IsLarge f negated))
@@ -68,7 +68,7 @@ Finds (NotTotal dead) logic m s f negated = IsFirstDeadlock logic m dead
 Finds (NotAWord fork) logic m s f negated = IsFirstFork logic m fork
 Finds (Unreadable fault) logic m s f negated = ⊥
 
-abbrev pub IsFoundIn : List ℕ → Finding → Type 0
+abbrev pub IsFoundIn : List ℕ → PathFinding → Type 0
 IsFoundIn text (Unreadable fault) = IsUnreadable text fault
 IsFoundIn text x =
     (p : Problem) × (m : Structure) × (s : ℕ) × (f : Formula) × (negated : Bool)
@@ -80,6 +80,6 @@ abbrev pub IsConfirmedText : List ℕ → Type 0
 IsConfirmedText text =
     (l : Lasso) × (document : List ℕ) × (text ≡ path_lines l ++ document) × IsCheckedAs document Holds
 
-abbrev pub IsConfirmed : Finding → Type 0
+abbrev pub IsConfirmed : PathFinding → Type 0
 IsConfirmed (Path text) = IsConfirmedText text
 IsConfirmed _ = Unit {0}

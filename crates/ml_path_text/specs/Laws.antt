@@ -22,18 +22,18 @@ use Rattle.ml_model_check.specs.declared.checked.Checked.TheVariants as checked
 use Rattle.ml_paths.specs.Paths.{IsShown}
 use Rattle.ml_path_text.specs.Found.{Asks, IsConfirmedText, IsFoundIn}
 use Rattle.ml_path_text.specs.WrittenPath.{path_document}
-use Rattle.ml_path_text.specs.declared.finding.Finding.{Finding}
-use Rattle.ml_path_text.specs.declared.finding.Finding.TheVariants.{ClosureTooLarge, Path}
+use Rattle.ml_path_text.specs.declared.finding.PathFinding.{PathFinding}
+use Rattle.ml_path_text.specs.declared.finding.PathFinding.TheVariants.{ClosureTooLarge, Path}
 
-abbrev pub AreAlike : Finding → Finding → Type 0
+abbrev pub AreAlike : PathFinding → PathFinding → Type 0
 AreAlike (Path a) (Path b) = Unit {0}
 AreAlike x y = x ≡ y
 
 abbrev pub SomeFinding : Type 0
-SomeFinding = (text : List ℕ) → (x : Finding) × IsFoundIn text x
+SomeFinding = (text : List ℕ) → (x : PathFinding) × IsFoundIn text x
 
 abbrev pub OneFinding : Type 0
-OneFinding = (text : List ℕ) (x y : Finding) → IsFoundIn text x → IsFoundIn text y → AreAlike x y
+OneFinding = (text : List ℕ) (x y : PathFinding) → IsFoundIn text x → IsFoundIn text y → AreAlike x y
 
 abbrev pub PathsAreConfirmed : Type 0
 PathsAreConfirmed = (text : List ℕ) (p : Problem) (m : Structure) (s : ℕ) (f : Formula) (negated : Bool) (l : Lasso)
@@ -47,17 +47,17 @@ TextsAreConfirmed = (text out : List ℕ) → IsFoundIn text (Path out) → leng
 
 -- ---- beside checking
 
-abbrev pub IsPath : Finding → Type 0
+abbrev pub IsPath : PathFinding → Type 0
 IsPath (Path a) = Unit {0}
 IsPath _ = ⊥
 
-pub record NeitherIsLarge (x : Finding) (c : Checked) : Type 0 where
+pub record NeitherIsLarge (x : PathFinding) (c : Checked) : Type 0 where
   pub few_found : x ≢ ClosureTooLarge
   pub few_checked : c ≢ checked.ClosureTooLarge
 
 abbrev pub FoundWhereItHolds : Type 0
 FoundWhereItHolds =
-    (text : List ℕ) (p : Problem) (m : Structure) (s : ℕ) (f : Formula) (negated : Bool) (x : Finding) (c : Checked)
+    (text : List ℕ) (p : Problem) (m : Structure) (s : ℕ) (f : Formula) (negated : Bool) (x : PathFinding) (c : Checked)
     → Asks text p m s f negated
     → IsFoundIn text x
     → IsCheckedAs text c
@@ -67,7 +67,7 @@ FoundWhereItHolds =
 
 abbrev pub FoundWhereItFails : Type 0
 FoundWhereItFails =
-    (text : List ℕ) (p : Problem) (m : Structure) (s : ℕ) (f : Formula) (negated : Bool) (x : Finding) (c : Checked)
+    (text : List ℕ) (p : Problem) (m : Structure) (s : ℕ) (f : Formula) (negated : Bool) (x : PathFinding) (c : Checked)
     → Asks text p m s f negated
     → IsFoundIn text x
     → IsCheckedAs text c

@@ -5,8 +5,9 @@
 // It tells the path in two lines, and behind them stands a document of its own: the word of the labels along the path, which
 // whoever checks LTL on words confirms. Or it tells that there is no such path.
 //
-// What is asked of a path stands in `specs/PathProblems.antt`, how one is written in `specs/WrittenPath.antt`, and what is found
-// of a text in `specs/Found.antt`. `laws` says that exactly one thing is found, and that it agrees with `ml_model_check`.
+// What is asked of a path stands in `specs/PathProblems.antt`, how one is written in `specs/WrittenPath.antt`, and what is
+// found of a text in `specs/Found.antt`. `laws` says that exactly one thing is found, and that it agrees with
+// `ml_model_check`.
 //
 // Below stand `ml_paths`, which looks for paths; `ml_model_check`, for documents; `ml_front`, for problems and heads;
 // `ml_kripke`, for structures and bodies; `ml_word_check`, for words. Above stands the program.
@@ -19,5 +20,5 @@ mod problems;
 mod searching;
 mod writing;
 
-pub use finding::{Finding, WrittenPath};
+pub use finding::PathFinding;
 pub use searching::path_of;

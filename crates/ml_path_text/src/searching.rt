@@ -8,7 +8,7 @@ ghost use Rattle.ml_path_text.specs.Found.{Asks, Finds, IsConfirmed, IsFoundIn};
 ghost use Rattle.ml_path_text.specs.PathProblems.{AsksFor};
 
 use crate::admitted::{Unfit, first_unfit};
-use crate::finding::Finding;
+use crate::finding::PathFinding;
 use crate::problems::{PathProblem, path_problem};
 use crate::writing::written_path;
 use ml_base::{DocFault, DocRefusal, NoMemory};
@@ -26,10 +26,10 @@ const ASKS_FOR_PATH: u32 = 4;
 
 /// Is there a path of the structure of a document that shows its problem, and which?
 ///
-/// The document is one that `ml_model_check::check_document` reads, of any length: it answers `satisfiable`, and its body is a
-/// structure with a start. Its problem is one of LTL, on structures or on words, or one of CTL* whose whole formula is `E f` or
-/// `A f`, where f has no quantifier. A path shows a plain problem of LTL where it satisfies the formula, and a negated one where
-/// it doesn't; it shows `E f` where it satisfies f, and `A f` where it doesn't, whatever the sense.
+/// The document is one that `ml_model_check::check_document` reads, of any length: it answers `satisfiable`, and its body is
+/// a structure with a start. Its problem is one of LTL, on structures or on words, or one of CTL* whose whole formula is
+/// `E f` or `A f`, where f has no quantifier. A path shows a plain problem of LTL where it satisfies the formula, and a
+/// negated one where it doesn't; it shows `E f` where it satisfies f, and `A f` where it doesn't, whatever the sense.
 ///
 /// - `Path` exactly where the bytes are such a document, none of the last four answers comes, and some path from the start
 ///   shows the problem. Such a path is told by a line `path` with its states, and a line `loop` with the place to which the
@@ -49,26 +49,26 @@ const ASKS_FOR_PATH: u32 = 4;
 ///
 /// Cost: linear in the bytes to read them; then that of `ml_paths::find`, and for a path that of `ml_paths::run_along`. For a
 /// problem of LTL on words also that of `ml_word_check::holds`.
-pub fn path_of(alloc: Global, text: &[u8]) -> Result<Finding, NoMemory>
+pub fn path_of(alloc: Global, text: &[u8]) -> Result<PathFinding, NoMemory>
     ensures found { IfOk result (IsFoundIn text.now) }
     ensures confirmed { IfOk result IsConfirmed }
 {
     match read_head(alloc, text, Answer::Satisfiable) {
         Ok(head) => behind_head(alloc, text, &head),
-        Err(DocRefusal::Fault(fault)) => Ok(Finding::Unreadable(fault)),
+        Err(DocRefusal::Fault(fault)) => Ok(PathFinding::Unreadable(fault)),
         Err(DocRefusal::NoMemory) => Err(NoMemory),
     }
 }
 
 // behind a head
-fn behind_head(alloc: Global, _text: &[u8], head: &Head) -> Result<Finding, NoMemory>
+fn behind_head(alloc: Global, _text: &[u8], head: &Head) -> Result<PathFinding, NoMemory>
     requires { IsHead Satisfiable _text.now head.now.version head.now.problem head.now.rest.now }
     ensures found { IfOk result (IsFoundIn _text.now) }
     ensures confirmed { IfOk result IsConfirmed }
 {
     match path_problem(alloc, &head.problem)? {
         Some(asked) => in_body(alloc, _text, head, asked),
-        None => Ok(Finding::Unreadable(DocFault {
+        None => Ok(PathFinding::Unreadable(DocFault {
             line: FORMULA_LINE,
             rule: ASKS_FOR_PATH,
         })),
@@ -81,7 +81,7 @@ fn in_body(
     _text: &[u8],
     head: &Head,
     asked: PathProblem,
-) -> Result<Finding, NoMemory>
+) -> Result<PathFinding, NoMemory>
     requires is_head { IsHead Satisfiable _text.now head.now.version head.now.problem head.now.rest.now }
     requires asks { AsksFor head.now.problem asked.formula asked.negated }
     ensures found { IfOk result (IsFoundIn _text.now) }
@@ -89,7 +89,7 @@ fn in_body(
 {
     match read_model(alloc, head.rest, FIRST_BODY_LINE) {
         Ok(model) => in_model(alloc, _text, &head.problem, asked, &model),
-        Err(DocRefusal::Fault(fault)) => Ok(Finding::Unreadable(fault)),
+        Err(DocRefusal::Fault(fault)) => Ok(PathFinding::Unreadable(fault)),
         Err(DocRefusal::NoMemory) => Err(NoMemory),
     }
 }
@@ -101,14 +101,14 @@ fn in_model(
     problem: &Problem,
     asked: PathProblem,
     model: &Model,
-) -> Result<Finding, NoMemory>
+) -> Result<PathFinding, NoMemory>
     requires { Asks _text.now problem.now model.now.structure model.now.start asked.formula asked.negated }
     ensures found { IfOk result (IsFoundIn _text.now) }
     ensures confirmed { IfOk result IsConfirmed }
 {
     match first_unfit(alloc, problem, &model.structure, model.start)? {
-        Some(Unfit::Deadlock(state)) => Ok(Finding::NotTotal(state)),
-        Some(Unfit::Fork(state)) => Ok(Finding::NotAWord(state)),
+        Some(Unfit::Deadlock(state)) => Ok(PathFinding::NotTotal(state)),
+        Some(Unfit::Fork(state)) => Ok(PathFinding::NotAWord(state)),
         None => among_paths(alloc, problem, asked, model),
     }
 }
@@ -119,7 +119,7 @@ fn among_paths(
     _problem: &Problem,
     asked: PathProblem,
     model: &Model,
-) -> Result<Finding, NoMemory>
+) -> Result<PathFinding, NoMemory>
     requires { IsAdmitted (logic_of _problem.now.formula) model.now.structure }
     ensures found { IfOk result (λ x. Finds x (logic_of _problem.now.formula) model.now.structure model.now.start
         asked.formula asked.negated) }
@@ -129,9 +129,9 @@ fn among_paths(
     match find(alloc, structure, model.start, &asked.formula, asked.negated)? {
         Found::Path(path) => {
             let path = written_path(alloc, structure, model.start, asked, &path)?;
-            Ok(Finding::Path(path))
+            Ok(PathFinding::Path(path))
         }
-        Found::NoPath => Ok(Finding::NoPath),
-        Found::ClosureTooLarge => Ok(Finding::ClosureTooLarge),
+        Found::NoPath => Ok(PathFinding::NoPath),
+        Found::ClosureTooLarge => Ok(PathFinding::ClosureTooLarge),
     }
 }

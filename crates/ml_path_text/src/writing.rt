@@ -7,12 +7,11 @@ ghost use Rattle.ml_paths.specs.Paths.{IsShown};
 ghost use Rattle.ml_path_text.specs.Found.{IsConfirmedText};
 ghost use Rattle.ml_path_text.specs.WrittenPath.{path_document, path_lines, path_text};
 
-use crate::finding::WrittenPath;
 use crate::problems::PathProblem;
 use ml_base::NoMemory;
+use ml_decision_text::{WrittenText, append_satisfied};
 use ml_kripke::{Model, Structure};
 use ml_lines::{end_line, write_next_number, write_word};
-use ml_model_check::write_document;
 use ml_paths::{Path, run_along};
 use std::alloc::Global;
 
@@ -63,7 +62,8 @@ fn document_of(
     let _root = asked.formula.root();
     let run = run_along(alloc, structure, path)?;
     run.keeps();
-    let document = write_document(alloc, &asked.on_words(), &Model::new(run, 0))?;
+    let mut document = Vec::new(alloc);
+    append_satisfied(&mut document, &asked.on_words(), &Model::new(run, 0))?;
     Ok(document)
 }
 
@@ -79,7 +79,7 @@ pub(crate) fn written_path(
     _start: u32,
     asked: PathProblem,
     path: &Path,
-) -> Result<WrittenPath, NoMemory>
+) -> Result<WrittenText, NoMemory>
     requires { IsShown structure.now _start asked.formula asked.negated path.now }
     ensures text { IfOk result (λ text. text ≡ path_text structure.now path.now asked.formula asked.negated) }
     ensures confirmed { IfOk result IsConfirmedText }
@@ -87,5 +87,5 @@ pub(crate) fn written_path(
     let mut text = lines_of(alloc, path)?;
     let document = document_of(alloc, structure, _start, asked, path)?;
     text.extend_from_slice(document.as_slice())?;
-    Ok(WrittenPath::new(text))
+    Ok(WrittenText::new(text))
 }

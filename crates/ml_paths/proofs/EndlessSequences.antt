@@ -6,7 +6,7 @@
 --   alike_is_lasso    == lassos for the same endless sequence are lassos of the same relations
 use Rattle.std.proofs.Common.{ℕ, zero, suc, ◌≡◌, ◌+◌, ◌-◌, ◌<◌, ◌≤◌, ◌⊎◌, inl, inr, ltb, arith, refl, length, get_or, subst₂, sym, ap, ◌∙◌, lt-ltb, le-ltb}
 use Rattle.std.proofs.lemmas.Bool.{cases_eq, cases_lt, cond-true, cond-false}
-use Rattle.ml_ctl.proofs.PlaceWalks.{walk-sum}
+use Rattle.ml_lists.proofs.Walks.{walk-sum}
 use Rattle.ml_lists.specs.Lasso.{IsLassoOf, Lasso, entry, next_place, round, unrolled}
 use Rattle.ml_lists.specs.Walk.{walk}
 use Rattle.ml_lists.proofs.Lasso.{loop_length, round-end, round-entry}

@@ -20,13 +20,13 @@ use Rattle.std.proofs.lemmas.List.FromFn.{get_or-map-range_with_len, length-map-
 use Rattle.ml_base.specs.Structure.{Structure, lists}
 use Rattle.ml_base.specs.declared.structure.Edge.{Edge}
 use Rattle.ml_base.proofs.Listing.{among_iff, lists_iff}
-use Rattle.ml_kripke.specs.Built.{IsBuiltFrom, ends, first_bad_state, labels_at as given, named_states}
+use Rattle.ml_kripke.specs.Built.{IsBuiltFrom, first_bad_state, labels_at as given}
 use Rattle.ml_lists.specs.Lasso.{Lasso}
+use Rattle.ml_kripke.proofs.Range as range
 use Rattle.ml_lists.specs.Member.{IsMember}
-use Rattle.ml_lists.proofs.Entries.{find-none}
-use Rattle.ml_lists.proofs.Member.{All-member, Image, InList, member-All, member-append, member-filter, member-filter_from, member-flat_map, member-flat_map_from, member-map, member-map_from}
+use Rattle.ml_lists.proofs.Member.{All-member, Image, InList, member-All, member-filter, member-filter_from, member-flat_map, member-flat_map_from, member-map, member-map_from}
 use Rattle.ml_lists.proofs.Members.{contains_of_member, member_of_contains}
-use Rattle.ml_lists.proofs.Ranges.{member-range, range-member}
+use Rattle.ml_lists.proofs.Ranges.{member-range, range-member, range-more}
 use Rattle.ml_trace.specs.WordAutomata.{WordLasso}
 use Rattle.ml_word_automaton.specs.Words.{Letter, has, word_structure}
 use Rattle.ml_paths.specs.Paths.{labels_at}
@@ -35,17 +35,6 @@ use Rattle.ml_paths.specs.private.Built.{letter_of, pairs_at, pairs_of, round_ed
 
 abbrev pair : ℕ → List ℕ → ℕ × List ℕ
 pair k p = (k, p)
-
--- a range of one number more
-range_more : (n : ℕ) → range_with_len 0 (n + 1) ≡ range_with_len 0 n ++ n ∷ []
-range_more n =
-    let own = map_own (range_with_len 0 (n + 1)) in
-    let less = map_own (range_with_len 0 n) in
-    sym own ∙ map-range_with_len_more (λ (k : ℕ). k) 0 n n (omega arith) ∙ ap (λ xs. xs ++ n ∷ []) less
-  where
-    map_own : (xs : List ℕ) → map (λ (k : ℕ). k) xs ≡ xs
-    map_own [] = refl
-    map_own (x ∷ xs) = ap (λ ys. x ∷ ys) (map_own xs)
 
 pub edges_more : (n start i : ℕ) (edges more : List Edge) (e : Edge)
     → edges ≡ map (round_edge n start) (range_with_len 0 i)
@@ -59,7 +48,7 @@ edges_more n start i edges more e so_far is here =
 
 pub pairs_more : (letters : ℕ → Letter) (i : ℕ) → pairs_of letters (i + 1) ≡ pairs_of letters i ++ pairs_at i (letters i)
 pairs_more letters i =
-    ap (flat_map (λ k. pairs_at k (letters k))) (range_more i)
+    ap (flat_map (λ k. pairs_at k (letters k))) (range-more i)
     ∙ flat_map-append (λ k. pairs_at k (letters k)) (range_with_len 0 i) (i ∷ [])
     ∙ ap (λ xs. pairs_of letters i ++ xs) (none_more (pairs_at i (letters i)))
   where
@@ -119,8 +108,8 @@ pub none_bad : (n start : ℕ) (labels : List (ℕ × List ℕ)) (edges : List E
     → edges ≡ round_edges n start
     → first_bad_state n labels edges ≡ None
 none_bad n start labels edges loops low are =
-    find-none n (named_states labels edges)
-    (λ v m. by_part v (member-append v (map (λ (label : ℕ × List ℕ). label.0) labels) (flat_map ends edges) m))
+    range.none_bad n labels edges (All-member (λ (label : ℕ × List ℕ). label.0 < n) labels low)
+    (λ e m. of_edge e (member-map_from (round_edge n start) e (range_with_len 0 n) (subst (IsMember e) are m)))
   where
     next_low : (i : ℕ) → (suc i < n) ⊎ (n ≤ suc i) → cond (ltb (suc i) n) (suc i) start < n
     next_low i (inl inner) =
@@ -128,30 +117,11 @@ none_bad n start labels edges loops low are =
     next_low i (inr last) =
         subst (λ k. k < n) (sym (cond-false (ltb (suc i) n) (suc i) start (le-ltb (suc i) n last))) loops
 
-    of_end : (v : ℕ) (e : Edge) → Image (round_edge n start) e (range_with_len 0 n) → IsMember v (ends e) → v < n
-    of_end v e i (inl source) =
-        let is = source ∙ ap (λ (x : Edge). x.source) i.holds in
-        let low = range-member n i.from i.member in
-        omega (arith, is, low)
-    of_end v e i (inr (inl target)) =
-        let is = target ∙ ap (λ (x : Edge). x.target) i.holds in
-        subst (λ k. k < n) (sym is) (next_low i.from (cases_lt (suc i.from) n))
-    of_end v e i (inr (inr none)) = absurd none
-
-    of_edge : (v : ℕ) → InList ends v edges → v < n
-    of_edge v i =
-        of_end v i.from
-        (member-map_from (round_edge n start) i.from (range_with_len 0 n) (subst (IsMember i.from) are i.member)) i.inside
-
-    of_label : (v : ℕ) → Image (λ (label : ℕ × List ℕ). label.0) v labels → v < n
-    of_label v i =
-        let below = All-member (λ (label : ℕ × List ℕ). label.0 < n) labels low i.from i.member in
-        let is = i.holds in
-        omega (arith, below, is)
-
-    by_part : (v : ℕ) → IsMember v (map (λ (label : ℕ × List ℕ). label.0) labels) ⊎ IsMember v (flat_map ends edges) → v < n
-    by_part v (inl m) = of_label v (member-map_from (λ (label : ℕ × List ℕ). label.0) v labels m)
-    by_part v (inr m) = of_edge v (member-flat_map_from ends v edges m)
+    of_edge : (e : Edge) → Image (round_edge n start) e (range_with_len 0 n) → (e.source < n) × (e.target < n)
+    of_edge e i = (
+      subst (λ k. k < n) (sym (ap (λ (x : Edge). x.source) i.holds)) (range-member n i.from i.member),
+      subst (λ k. k < n) (sym (ap (λ (x : Edge). x.target) i.holds)) (next_low i.from (cases_lt (suc i.from) n)),
+    )
 
 -- ---- what is built
 

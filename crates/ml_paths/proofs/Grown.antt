@@ -1,23 +1,19 @@
 -- Labels and letters, as the program gathers them.
 --
---   AreBelow g letter n set == the set has the numbers below n of the propositions of g that are in the letter
---   with_number   == a set of numbers with one more
---   one_more      == so it has those below the next number, once this one is added where it is in the letter
+--   all_below     == a set that has the propositions that are in a letter has those in it
 --   labelled_keeps == what a list of labels has at a place it has still with one label more
 --   numbered_none, numbered_more == the numbers of the labels of no state, and of one state more
 --   row_none, row_more == the letters of no label, and of one more
 --   letters_are   == so each state has its letter
-use Rattle.std.proofs.Common.{◌≡◌, ℕ, ◌+◌, ◌<◌, ◌≤◌, ◌⊎◌, ◌↔◌, inl, inr, arith, Bool, true, List, [], ◌∷◌, ◌++◌, length, get_or, slice_get, Some, refl, sym, ap, ◌∙◌, subst, length-append}
+use Rattle.std.proofs.Common.{◌≡◌, ℕ, ◌+◌, ◌<◌, ◌≤◌, ◌⊎◌, inl, inr, arith, List, [], ◌∷◌, ◌++◌, length, get_or, slice_get, Some, sym, ap, ◌∙◌, subst, length-append}
 use Rattle.std.proofs.lemmas.Bool.{cases_lt}
 use Rattle.std.proofs.lemmas.List.{get_or_append_left, get_or_push}
 use Rattle.std.proofs.lemmas.Option.{same_Some, slice_get_within}
 use Rattle.ml_base.specs.Structure.{Structure}
 use Rattle.ml_graph.specs.Graph.{Graph, prop_at}
 use Rattle.ml_lists.specs.Added.{IsAdded}
-use Rattle.ml_lists.specs.Ascending.{insert_once}
-use Rattle.ml_lists.specs.Member.{IsMember}
 use Rattle.ml_lists.proofs.Added.{added_keeps}
-use Rattle.ml_lists.proofs.Ascending.{insert_once-keeps, insert_once-member, member-insert_once}
+use Rattle.ml_lists.proofs.PassingBelow.{AreBelow}
 use Rattle.ml_trace.specs.declared.letters.Transition.{Transition}
 use Rattle.ml_word_automaton.specs.Letters.{AreThoseIn, Automaton, HasTransitions}
 use Rattle.ml_word_automaton.specs.Words.{Letter, has}
@@ -26,50 +22,9 @@ use Rattle.ml_paths.specs.private.Letters.{AreLettersOf, AreNumbered, IsLabelled
 
 -- ---- the propositions of a label
 
-abbrev pub AreBelow : Graph → Letter → ℕ → List ℕ → Type 0
-AreBelow g letter n set = (p : ℕ) → IsMember p set ↔ ((p < n) × (has letter (prop_at g p) ≡ true))
-
-pub with_number : (set more : List ℕ) (n p : ℕ)
-    → more ≡ insert_once n set
-    → IsMember p more ↔ (IsMember p set ⊎ ((p ≡ n) × (true ≡ true)))
-with_number set more n p is = (there, back)
-  where
-    there : IsMember p more → IsMember p set ⊎ ((p ≡ n) × (true ≡ true))
-    there m = by (insert_once-member p n set (subst (IsMember p) is m))
-      where
-        by : (p ≡ n) ⊎ IsMember p set → IsMember p set ⊎ ((p ≡ n) × (true ≡ true))
-        by (inl same) = inr (same, refl)
-        by (inr old) = inl old
-
-    back : IsMember p set ⊎ ((p ≡ n) × (true ≡ true)) → IsMember p more
-    back (inl old) = subst (IsMember p) (sym is) (insert_once-keeps p n set old)
-    back (inr (same, holds)) =
-        subst (IsMember p) (sym is) (subst (λ q. IsMember q (insert_once n set)) (sym same) (member-insert_once n set))
-
-pub one_more : (g : Graph) (letter : Letter) (n : ℕ) (set more : List ℕ) (is : Bool)
-    → AreBelow g letter n set
-    → is ≡ has letter (prop_at g n)
-    → ((p : ℕ) → IsMember p more ↔ (IsMember p set ⊎ ((p ≡ n) × (is ≡ true))))
-    → AreBelow g letter (n + 1) more
-one_more g letter n set more is so_far told added p = (there, back)
-  where
-    there : IsMember p more → (p < n + 1) × (has letter (prop_at g p) ≡ true)
-    there m = by ((added p).0 m)
-      where
-        by : IsMember p set ⊎ ((p ≡ n) × (is ≡ true)) → (p < n + 1) × (has letter (prop_at g p) ≡ true)
-        by (inl old) = let found = (so_far p).0 old in (omega (arith, found.0), found.1)
-        by (inr (same, holds)) = (omega (arith, same), ap (λ q. has letter (prop_at g q)) same ∙ sym told ∙ holds)
-
-    back : (p < n + 1) × (has letter (prop_at g p) ≡ true) → IsMember p more
-    back (low, holds) = by (cases_lt p n)
-      where
-        by : (p < n) ⊎ (n ≤ p) → IsMember p more
-        by (inl less) = (added p).1 (inl ((so_far p).1 (less, holds)))
-        by (inr past) =
-            let same : p ≡ n = omega (arith, low, past) in
-            (added p).1 (inr (same, told ∙ ap (λ q. has letter (prop_at g q)) (sym same) ∙ holds))
-
-pub all_below : (g : Graph) (letter : Letter) (set : List ℕ) → AreBelow g letter (length g.props) set → AreThoseIn g letter set
+pub all_below : (g : Graph) (letter : Letter) (set : List ℕ)
+    → AreBelow (λ n. has letter (prop_at g n)) (length g.props) set
+    → AreThoseIn g letter set
 all_below g letter set below p low = (λ m. ((below p).0 m).1, λ h. (below p).1 (low, h))
 
 -- ---- numbers of labels

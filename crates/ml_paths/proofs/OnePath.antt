@@ -18,7 +18,7 @@ use Rattle.ml_emptiness.specs.Systems.{Goes, SystemTable}
 use Rattle.ml_emptiness.specs.declared.systems.Move.{Move}
 use Rattle.ml_emptiness.proofs.SomeLasso.{some_lasso}
 use Rattle.ml_graph.specs.Graph.{size}
-use Rattle.ml_listed_automata.proofs.Listed.{some_automaton, some_transitions}
+use Rattle.ml_word_automaton.proofs.Listed.{some_automaton, some_transitions}
 use Rattle.ml_lists.specs.Lasso.{Lasso}
 use Rattle.ml_lists.specs.Member.{IsMember}
 use Rattle.ml_lists.proofs.Member.{member-filter, member-filter_from, member-map, member-map_from}

@@ -31,9 +31,6 @@ module _ (m n : Structure) (l k : Lasso) (long : places l ≡ places k) (one : l
   next_same : (i : ℕ) → next_place l i ≡ next_place k i
   next_same i = λ j. cond (ltb (suc i) (long j)) (suc i) (one j)
 
-  next_low : (i : ℕ) → i < places l → next_place l i < places l
-  next_low i low = next_place_low l starts i low
-
   -- two properties of places are true together
   abbrev Alike : (ℕ → Type 0) → (ℕ → Type 0) → Type 0
   Alike F P = (i : ℕ) → i < places l → F i ↔ P i
@@ -47,12 +44,12 @@ module _ (m n : Structure) (l k : Lasso) (long : places l ≡ places k) (one : l
       there : G i ⊎ (F i × A (next_place l i)) → Q i ⊎ (P i × B (next_place k i))
       there (inl now) = inl ((g i low).0 now)
       there (inr (now, later)) =
-          inr ((f i low).0 now, subst B (next_same i) ((a (next_place l i) (next_low i low)).0 later))
+          inr ((f i low).0 now, subst B (next_same i) ((a (next_place l i) (next_place_low l starts i low)).0 later))
 
       back : Q i ⊎ (P i × B (next_place k i)) → G i ⊎ (F i × A (next_place l i))
       back (inl now) = inl ((g i low).1 now)
       back (inr (now, later)) =
-          inr ((f i low).1 now, (a (next_place l i) (next_low i low)).1 (subst B (sym (next_same i)) later))
+          inr ((f i low).1 now, (a (next_place l i) (next_place_low l starts i low)).1 (subst B (sym (next_same i)) later))
 
   release_more : (F G P Q A B : ℕ → Type 0) → Alike F P → Alike G Q → Alike A B
       → Alike (release_step (next_place l) F G A) (release_step (next_place k) P Q B)
@@ -63,11 +60,11 @@ module _ (m n : Structure) (l k : Lasso) (long : places l ≡ places k) (one : l
     where
       there : F i ⊎ A (next_place l i) → P i ⊎ B (next_place k i)
       there (inl now) = inl ((f i low).0 now)
-      there (inr later) = inr (subst B (next_same i) ((a (next_place l i) (next_low i low)).0 later))
+      there (inr later) = inr (subst B (next_same i) ((a (next_place l i) (next_place_low l starts i low)).0 later))
 
       back : P i ⊎ B (next_place k i) → F i ⊎ A (next_place l i)
       back (inl now) = inl ((f i low).1 now)
-      back (inr later) = inr ((a (next_place l i) (next_low i low)).1 (subst B (sym (next_same i)) later))
+      back (inr later) = inr ((a (next_place l i) (next_place_low l starts i low)).1 (subst B (sym (next_same i)) later))
 
   module _ (F G P Q : ℕ → Type 0) (f : Alike F P) (g : Alike G Q) where
     untils : (c : ℕ)
@@ -138,7 +135,7 @@ module _ (m n : Structure) (l k : Lasso) (long : places l ≡ places k) (one : l
         λ t. (λ x. b.1 (t.0 (a.0 x)), λ x. a.1 (t.1 (b.0 x))),
       )
   truth_alike (plain.Temporal tense.Next g) linear i low =
-      let a = truth_alike g linear (next_place l i) (next_low i low) in (
+      let a = truth_alike g linear (next_place l i) (next_place_low l starts i low) in (
         λ t. subst (TruthAt n k g) (next_same i) (a.0 t),
         λ t. a.1 (subst (TruthAt n k g) (sym (next_same i)) t),
       )

@@ -59,8 +59,8 @@ fn path_in(
 /// `start` is a state of the structure. A state from which no edge by `_` leads is on no path.
 ///
 /// Back comes `ClosureTooLarge` exactly where the graph of the word automaton, of the formula or of its negation, has more than
-/// `MOST_NODES` nodes. Else it is `Path`, with such a path, exactly where there is one, and `NoPath` exactly where there is none.
-/// No shorter path has the same endless sequence of states as the one that is shown.
+/// `MOST_NODES` nodes. Else it is `Path`, with such a path, exactly where there is one, and `NoPath` exactly where there is
+/// none. No shorter path has the same endless sequence of states as the one that is shown.
 ///
 /// # Errors
 /// `NoMemory` alone.

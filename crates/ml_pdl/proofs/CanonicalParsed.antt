@@ -4,6 +4,7 @@
 --   canonical_parsed  == that of a well-formed formula is parsed as it
 --   canonical_one     == that of a formula with spelled names stands for it and for no other
 use Rattle.std.proofs.Common.{false, [], arith}
+use Rattle.ml_text.proofs.TableItems.{counted_items}
 use Rattle.ml_text.specs.declared.token.WordStart.TheVariants.{AnyLetter}
 use Rattle.ml_text.specs.Tokens.{tokens}
 use Rattle.ml_text.specs.Refusals.{signs_of, IsAccepted}
@@ -17,7 +18,7 @@ use Rattle.ml_pdl.specs.Signs.{own}
 use Rattle.ml_pdl.specs.Text.{pdl_signs, items}
 use Rattle.ml_pdl.proofs.PdlGrammar.{one_formula}
 use Rattle.ml_pdl.proofs.CanonicalTexts.{canonical_tokens, canonical_stands, sign_spelt, tokens_onto}
-use Rattle.ml_pdl.proofs.Counting.{counts, counted_items}
+use Rattle.ml_pdl.proofs.Counting.{counts}
 use Rattle.ml_pdl.specs.WellFormed.{IsWellFormed}
 use Rattle.ml_pdl.proofs.CanonicalLimits.{few_open, tokens_short, token_bracket}
 
@@ -29,7 +30,7 @@ canonical_accepted f well =
       tokens_are = canonical_tokens f well.names_are_spelled;
       brackets = token_bracket text;
       stands = read;
-      few = omega (arith, counted_items text false (tokens AnyLetter text), counts read, well.is_small);
+      few = omega (arith, counted_items pdl_signs text false (tokens AnyLetter text), counts read, well.is_small);
       flat = omega (arith, few_open f [], well.is_small);
       short = tokens_short f well.names_are_short [] tt;
     })

@@ -1,12 +1,13 @@
 -- Formulas made of formulas that the program holds.
 --
---   negation_is_held, conjunction_is_held == negations and conjunctions of formulas that the program holds are such formulas, where
---                        they are small enough
-use Rattle.std.proofs.Common.{◌≡◌, ◌≤◌, true}
+--   negation_is_held, conjunction_is_held == negations and conjunctions of formulas that the program holds are such formulas,
+--                        where they are small enough
+use Rattle.std.proofs.Common.{◌≤◌}
 use Rattle.ml_text.specs.Limits.{most_occurrences}
 use Rattle.ml_text.specs.Names.{IsShortName}
 use Rattle.ml_text.specs.declared.token.Operator.TheVariants.{And}
-use Rattle.ml_text.proofs.Names.{all_both, spelled_both}
+use Rattle.ml_lists.proofs.AllOf.{all_both}
+use Rattle.ml_text.proofs.Names.{spelled_both}
 use Rattle.ml_pdl.specs.Formula.{Binary, Formula, Not, occurrences}
 use Rattle.ml_pdl.specs.FormulaNames.{names}
 use Rattle.ml_pdl.specs.Signs.{own}

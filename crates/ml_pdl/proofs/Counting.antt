@@ -1,14 +1,11 @@
 -- What a text counts is what its formula has.
 --
 --   count_signs b ts   == the occurrences that the signs count, where b says whether they stand directly behind `<` or `[`
---   counted_items      == the items of a text count what its signs do
 --   counts, program_counts, tested_counts == what is read has as many occurrences as its signs count
 --   few_names          == a formula has no more names than occurrences
-use Rattle.std.proofs.Common.{◌≡◌, ℕ, ◌+◌, ◌≤◌, Bool, true, false, List, [], ◌∷◌, length, Some, refl, arith, length-append}
-use Rattle.ml_text.specs.declared.token.Placed.{Placed}
-use Rattle.ml_text.specs.Refusals.{Item, signs_of, counted}
-use Rattle.ml_text.specs.Items as text_items
+use Rattle.std.proofs.Common.{◌≡◌, ℕ, ◌+◌, ◌≤◌, Bool, true, false, List, ◌∷◌, length, Some, refl, arith, length-append}
 use Rattle.ml_text.specs.Levels.{Level}
+use Rattle.ml_text.proofs.TableItems.{count_from}
 use Rattle.ml_pdl.specs.Formula as plain
 use Rattle.ml_pdl.specs.Formula.{Formula, Program, occurrences, program_occurrences}
 use Rattle.ml_pdl.specs.FormulaNames.{names, program_names}
@@ -19,23 +16,10 @@ use Rattle.ml_pdl.specs.Grammar as grammar
 use Rattle.ml_pdl.specs.Grammar.{Reads, alone, joined, negation, modal, modal_blank, repetition}
 use Rattle.ml_pdl.specs.Grammar.{group, constant, proposition, ReadsProgram, alt_alone, alt, seq_alone, seq, star_alone, star, action, test}
 use Rattle.ml_pdl.specs.Grammar.{program_group, ReadsTested, tested_negation, tested_constant, tested_proposition, tested_group}
-use Rattle.ml_pdl.specs.Text.{weight_of, begins_modality, pdl_signs, sign_at}
-use Rattle.ml_pdl.specs.TextLaws.{items_from}
+use Rattle.ml_pdl.specs.Text.{pdl_signs}
 
 abbrev pub count_signs : Bool → List Sign → ℕ
-count_signs b [] = 0
-count_signs b (t ∷ ts) = weight_of b t + count_signs (begins_modality t) ts
-
-pub counted_items : (text : List ℕ) (b : Bool) (ps : List Placed)
-    → counted (items_from text b ps) ≡ count_signs b (signs_of (items_from text b ps))
-counted_items text b [] = refl
-counted_items text b (p ∷ ps) =
-    let here =
-    Rattle.std.proofs.lemmas.List.Sums.sum_by-cons (λ (i : Item Sign). i.weight) (text_items.item_at pdl_signs text b p)
-    (items_from text (begins_modality (sign_at text p)) ps)
-    in
-    let later = counted_items text (begins_modality (sign_at text p)) ps in
-    omega (arith, here, later)
+count_signs = count_from pdl_signs
 
 -- the first sign of a program counts the same, wherever it stands
 action_first : (a : List ℕ) (s : Sign) (ts : List Sign)

@@ -7,6 +7,7 @@
 --   parsed_well      == what is parsed is well formed
 --   found_well       == so is what was found
 use Rattle.std.proofs.Common.{◌≡◌, ℕ, false, List, length, subst, arith}
+use Rattle.ml_text.proofs.TableItems.{counted_items}
 use Rattle.ml_base.specs.declared.parse_refusal.ParseRefusal.{ParseRefusal}
 use Rattle.ml_text.specs.declared.token.WordStart.TheVariants.{AnyLetter}
 use Rattle.ml_text.specs.Grammar.{StandsFor}
@@ -21,9 +22,9 @@ use Rattle.ml_pdl.specs.Formula.{Formula}
 use Rattle.ml_pdl.specs.Grammar.{IsReadAs}
 use Rattle.ml_pdl.specs.Parsing.{IsParsedAs, IsRefusedBy}
 use Rattle.ml_pdl.specs.Tables.{Phrase, formula_of, pdl_grammar}
-use Rattle.ml_pdl.specs.Text.{items}
+use Rattle.ml_pdl.specs.Text.{pdl_signs, items}
 use Rattle.ml_pdl.specs.WellFormed.{IsWellFormed}
-use Rattle.ml_pdl.proofs.Counting.{counts, counted_items}
+use Rattle.ml_pdl.proofs.Counting.{counts}
 use Rattle.ml_pdl.proofs.Refusals.{pdl_fits, pdl_same, accepted}
 use Rattle.ml_pdl.proofs.ReadNames.{text_short, text_spelled}
 
@@ -53,7 +54,7 @@ refused_first text e = answer.refused_first IsReadAs (items text) (length text) 
 pub parsed_well : (text : List ℕ) (f : Formula) → IsParsedAs text f → IsWellFormed f
 parsed_well text f parsed =
     let few = few_items (items text) (λ k fault. parsed.keeps TooMany k fault) in
-    let same = counted_items text false (tokens AnyLetter text) in
+    let same = counted_items pdl_signs text false (tokens AnyLetter text) in
     let has = counts parsed.stands in
     record {
       is_small = omega (arith, few, same, has);

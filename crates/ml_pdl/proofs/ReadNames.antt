@@ -1,8 +1,8 @@
 -- The names of a formula that is read are those of its signs, each as what it stands there.
 --
 --   spelled_mark, short_mark == a mark has no name
---   reads_names, program_reads_names, tested_reads_names == what holds of the names of signs, and of the action `_`, holds of the
---                    names of what is read from them
+--   reads_names, program_reads_names, tested_reads_names == what holds of the names of signs, and of the action `_`, holds of
+--                    the names of what is read from them
 --   text_spelled  == the names of a formula that a text stands for are spelled as they must be
 --   text_short    == and they are short, where the text has no long names
 use Rattle.std.proofs.Common.{◌≡◌, ℕ, Bool, ◌-◌, true, false, List, ◌++◌, Some, codes, refl, subst, arith}
@@ -17,7 +17,8 @@ use Rattle.ml_text.specs.SignKinds.{HasShortName}
 use Rattle.ml_text.specs.declared.named_signs.Sign.TheVariants.{Open, Lower, Upper, Added}
 use Rattle.ml_text.proofs.Cover.{are_tokens}
 use Rattle.ml_text.proofs.NamedSigns.{IsSpelledSign, short_name, spelled_sign}
-use Rattle.ml_text.proofs.Names.{Bears, IsSpelledName, all_both, bears_short, bears_spelled, spelled_all}
+use Rattle.ml_lists.proofs.AllOf.{all_both}
+use Rattle.ml_text.proofs.Names.{Bears, IsSpelledName, bears_short, bears_spelled, spelled_all}
 use Rattle.ml_text.proofs.TableItems.{signs_all, signs_short}
 use Rattle.ml_pdl.specs.Formula.{Formula, Program}
 use Rattle.ml_pdl.specs.FormulaNames.{names, program_names}

@@ -1,6 +1,5 @@
 // The canonical text of a formula.
 ghost use Rattle.std.specs.Prelude.{◌≡◌, ◌++◌, ℕ, List, [], if◌then◌else◌, take, IfOk, OnOk, OnErr, codes, vec_len};
-ghost use Rattle.ml_text.specs.Operators.{spelling_of};
 ghost use Rattle.ml_pdl.specs.Canonical.{canonical_text, modality_text, program_text, whole_program};
 ghost use Rattle.ml_pdl.specs.Parsing.{IsParsedAs};
 ghost use Rattle.ml_pdl.specs.Term.{formula_of, program_of};
@@ -9,7 +8,7 @@ ghost use Rattle.ml_pdl.specs.WellFormed.{IsWellFormed};
 use crate::{Formula, Modality, Program, Term};
 use ml_base::NoMemory;
 use ml_lines::whole_or_none;
-use ml_text::Operator;
+use ml_text::infix;
 use std::alloc::{AllocError, Global};
 
 /// The canonical text of a formula, which is read back as the same formula.
@@ -73,18 +72,6 @@ fn write_term(text: &mut Vec<u8>, term: &Term) -> Result<(), AllocError>
             write_program(text, program)?;
             text.extend_from_slice(b")")
         }
-    }
-}
-
-// a connective with its blanks
-fn infix(operator: Operator) -> &'static [u8]
-    ensures { result.now ≡ codes " " ++ spelling_of operator ++ codes " " }
-{
-    match operator {
-        Operator::And => b" & ",
-        Operator::Or => b" | ",
-        Operator::Implies => b" -> ",
-        Operator::Iff => b" <-> ",
     }
 }
 

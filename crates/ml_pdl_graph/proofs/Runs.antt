@@ -4,7 +4,7 @@
 --   walked      == where the opponent wins a program's node, a run of the program is such a walk
 use Rattle.std.proofs.Common.{◌≡◌, ℕ, zero, suc, ◌+◌, ◌*◌, ◌<◌, ◌≤◌, ◌==◌, ◌⊎◌, Bool, true, false, ◌&&◌, min, List, [], ◌∷◌, inl, inr, refl, sym, ap, subst, ◌∙◌, ⊎_elim, arith}
 use Rattle.std.specs.Str.{bytes_eq}
-use Rattle.std.proofs.lemmas.Bool.{false≢true, and_parts, or_cases, eqb-true}
+use Rattle.std.proofs.lemmas.Bool.{false≢true, and_parts, or_cases, eqb-true, and_from}
 use Rattle.ml_lists.specs.Iterate.{iterate}
 use Rattle.ml_lists.specs.Member.{IsMember}
 use Rattle.ml_lists.proofs.Member.{list_any-member, member-map, member-filter}
@@ -41,11 +41,6 @@ three true true false is = absurd (false≢true is)
 three true false c is = absurd (false≢true is)
 three false b c is = absurd (false≢true is)
 
-two : (a b : Bool) → a ≡ true → b ≡ true → (a && b) ≡ true
-two true true x y = refl
-two true false x y = absurd (false≢true y)
-two false b x y = absurd (false≢true x)
-
 -- an edge leads to a target of it
 pub edge_target : (m : Structure) (a : List ℕ) (s t : ℕ) → has_edge m a s t ≡ true → IsMember t (targets m s a)
 edge_target m a s t is =
@@ -54,7 +49,7 @@ edge_target m a s t is =
     subst (λ x. IsMember x (targets m s a)) (eqb-true some.item.target t parts.2)
     (member-map (λ (d : Edge). d.target) some.item _
     (member-filter (λ d. (d.source == s) && bytes_eq d.action a) some.item m.edges some.member
-    (two (some.item.source == s) (bytes_eq some.item.action a) parts.0 parts.1)))
+    (and_from (some.item.source == s) (bytes_eq some.item.action a) parts.0 parts.1)))
 
 module _ (g : Graph) (m : Structure) (g_ok : IsGraph g) (m_ok : IsStructure m) (e : Bool) (strategy : ℕ → ℕ)
     (is_strategy : IsStrategyOf (checking_game g m) (opponent (player_of e)) strategy) where

@@ -16,7 +16,8 @@ use Rattle.ml_pgsolver.specs.private.Assembled.{HasUnknownIn, unknown_from}
 use Rattle.ml_pgsolver.specs.private.Machine.{State, Step, start, outcome_from, IsTold}
 use Rattle.ml_pgsolver.specs.private.Signs.{signs_in, signs_from}
 use Rattle.ml_pgsolver.proofs.Ended.{Whole, whole, small_number, no_fault_of}
-use Rattle.ml_pgsolver.proofs.FirstUnknown.{first_stranger, stranger_there}
+use Rattle.ml_pgsolver.proofs.FirstStranger.{first_stranger}
+use Rattle.ml_pgsolver.proofs.FirstUnknown.{stranger_among, successors}
 use Rattle.ml_pgsolver.proofs.Outcomes.{Comes, RefusedIn, comes}
 
 abbrev pub outcome_of : List ℕ → Step
@@ -60,9 +61,9 @@ pub answered_unknown : (text : List ℕ) (s : State) → Whole (signs_of (tokens
 answered_unknown text s w unknown =
     let ts = signs_of (tokens text) in
     let ids : map (λ (r : Row). r.id) s.rows ≡ s.ids = ap (map (λ (r : Row). r.id)) w.rows ∙ sym w.ids in
-    let there = stranger_there s.ids (map (λ (r : Row). r.id) s.rows) s.rows ts
+    let there = stranger_among s.ids (map (λ (r : Row). r.id) s.rows) s.rows ts
     (w.successors_there ∙ ap (flat_map (λ (r : Row). r.successors)) (sym w.rows)) ids unknown in
-    let found = first_stranger s.ids (length text) (tokens text) (small_number ts w.faultless) there in
+    let found = first_stranger s.ids successors (length text) (tokens text) (small_number ts w.faultless) there in
     let f = found.1 in
     let same : s.ids ≡ ids_of ts = w.ids ∙ sym w.ids_there in (
       found.0,

@@ -10,7 +10,7 @@
 use Rattle.std.proofs.Common.{◌≡◌, ◌≢◌, ℕ, ◌+◌, List, [], length, take, map, Option, Some, None, Ok, Err, refl, sym, ◌∙◌, ap, subst, inl, inr}
 use Rattle.ml_game_check.specs.RightClaims.{Claims}
 use Rattle.ml_lists.specs.Times.{IsApart}
-use Rattle.ml_pgsolver.specs.CheckedText.{ComesLast, IsCheckRefusedBy, IsCheckedAs, game_part, part_before, solution_part, tokens_behind, word_in}
+use Rattle.ml_pgsolver.specs.CheckedText.{ComesLast, IsCheckRefusedBy, IsCheckedAs, IsFirstStranger, game_part, part_before, solution_part, tokens_behind, word_in}
 use Rattle.ml_pgsolver.specs.GameText.{NamedGame}
 use Rattle.ml_pgsolver.specs.Refusals.{HasNoFault, HasNoFaultIn, IsReadAs, IsRefusedBy}
 use Rattle.ml_pgsolver.specs.SolutionGrammar.{solution_form}
@@ -25,7 +25,8 @@ use Rattle.ml_pgsolver.proofs.RowClaims.{entered_all}
 use Rattle.ml_pgsolver.proofs.SolutionAnswers.{WholeSolution, no_fault_of, refused_solution, small_entry_number, whole_solution}
 use Rattle.ml_pgsolver.proofs.SolutionComings.{entry_row}
 use Rattle.ml_pgsolver.proofs.SolutionOutcomes.{RefusedIn}
-use Rattle.ml_pgsolver.proofs.Strangers.{entry_stranger, first_stranger}
+use Rattle.ml_pgsolver.proofs.FirstStranger.{first_stranger}
+use Rattle.ml_pgsolver.proofs.Strangers.{entry_stranger, references}
 
 pub read_faultless : (text : List ℕ) (named : NamedGame) → IsReadAs text named → HasNoFault (signs_of (tokens text))
 read_faultless text named is = is.faultless
@@ -140,9 +141,14 @@ module _ (text : List ℕ) (i : ℕ) (word : word_in text ≡ Some i) (from : �
             (subst (λ xs. RowsHaveStranger xs (map entry_row w.draft.entries)) are_ids
             (subst (RowsHaveStranger ids) (sym are_rows ∙ w.rows) strange)) in
             let small = small_entry_number (signs_of solution) w.faultless in
-            let found = first_stranger named.ids (length text) solution small there in
+            let found = first_stranger named.ids references (length text) solution small there in
             let from_front : stranger_from ids (length text) 1 (signs_from text from)
             ≡ stranger_from named.ids (length text) 1 (signs_in solution) =
             ap (λ xs. stranger_from xs (length text) 1 (signs_from text from)) are_ids
             ∙ ap (stranger_from named.ids (length text) 1) same_signs in
-            (faultless_behind, inr (named, game, (found.0, found.1, is ∙ from_front ∙ found.2)))
+            let f = found.1 in
+            let first : IsFirstStranger named.ids (signs_of solution) found.0 = record {
+              comes = (f.before, f.token, f.there, f.strange);
+              first = λ j odd. f.first j odd.0 odd.1 odd.2 odd.3;
+            } in
+            (faultless_behind, inr (named, game, (found.0, first, is ∙ from_front ∙ found.2)))

@@ -84,7 +84,7 @@ further_at_body h vs v digits at =
 
 -- ---- an owner
 
-owner_small : (owner : Player) → value (owner_digits owner) ≤ greatest_number
+pub owner_small : (owner : Player) → value (owner_digits owner) ≤ greatest_number
 owner_small Even = omega arith
 owner_small Odd = omega arith
 

@@ -32,6 +32,8 @@ mod MadeGames
 mod SortedRows
 -- a text that was read to its end
 mod Ended
+-- the first number that ought to be an id and is none
+mod FirstStranger
 -- the first successor that is no id
 mod FirstUnknown
 -- what is answered to a text

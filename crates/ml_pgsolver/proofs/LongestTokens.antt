@@ -112,6 +112,16 @@ kind b rest (Stray x) proper begins = absurd proper
 abbrev Bound : Token → Token → Type 0
 Bound t u = IsProper t × (length (spelling u) ≤ length (spelling t))
 
+pub proper_number : (b : ℕ) (rest : List ℕ) → is_digit b ≡ true → IsProper (Number (b ∷ take_while is_digit rest))
+proper_number b rest digit = (
+  omega arith,
+  member-All (λ c. is_digit c ≡ true) (b ∷ take_while is_digit rest) (λ c m. each c m),
+)
+  where
+    each : (c : ℕ) → IsMember c (b ∷ take_while is_digit rest) → is_digit c ≡ true
+    each c (inl same) = ap is_digit same ∙ digit
+    each c (inr m) = run_passes is_digit rest c m
+
 number_first : (b : ℕ) (rest : List ℕ)
     → is_digit b ≡ true
     → IsLongest (b ∷ rest) (Number (b ∷ take_while is_digit rest))
@@ -124,13 +134,9 @@ number_first b rest digit = record {
   longest = λ u proper begins. by u (kind b rest u proper begins);
 }
   where
-    all : (c : ℕ) → IsMember c (b ∷ take_while is_digit rest) → is_digit c ≡ true
-    all c (inl e) = ap is_digit e ∙ digit
-    all c (inr m) = run_passes is_digit rest c m
-
     by : (u : Token) → Kind b rest u → Bound (Number (b ∷ take_while is_digit rest)) u
     by u (number ds is short) =
-        ((omega arith, member-All (λ c. is_digit c ≡ true) (b ∷ take_while is_digit rest) all), short)
+        (proper_number b rest digit, short)
     by u (name inner is closed) = let e = ap is_digit is in absurd (cc)
     by u (parity is starts) = let e = ap is_digit is in absurd (cc)
     by u (comma is) = let e = ap is_digit is in absurd (cc)

@@ -36,13 +36,13 @@ one_game_of_text text g h a b =
 
 -- ---- one refusal
 
--- a refusal, by its cause; the successor that is no id; want of memory
-data Kind : Type 0 where
+-- a refusal, by its cause; the number that ought to be an id and is none; want of memory
+pub data Kind : Type 0 where
   Fault : Cause → ℕ → Kind
   Stranger : ℕ → Kind
   Nothing : Kind
 
-abbrev kind : GameTextRefusal → Kind
+abbrev pub kind : GameTextRefusal → Kind
 kind (refusal.Syntax at) = Fault Syntax at
 kind (refusal.Repeated at) = Fault Repeated at
 kind (refusal.Unknown at) = Stranger at
@@ -50,7 +50,7 @@ kind (refusal.TooMany at) = Fault TooMany at
 kind (refusal.TooLarge at) = Fault TooLarge at
 kind refusal.NoMemory = Nothing
 
-abbrev refusal_of : Kind → GameTextRefusal
+abbrev pub refusal_of : Kind → GameTextRefusal
 refusal_of (Fault Syntax at) = refusal.Syntax at
 refusal_of (Fault Repeated at) = refusal.Repeated at
 refusal_of (Fault TooMany at) = refusal.TooMany at
@@ -58,7 +58,7 @@ refusal_of (Fault TooLarge at) = refusal.TooLarge at
 refusal_of (Stranger at) = refusal.Unknown at
 refusal_of Nothing = refusal.NoMemory
 
-of_kind : (e : GameTextRefusal) → refusal_of (kind e) ≡ e
+pub of_kind : (e : GameTextRefusal) → refusal_of (kind e) ≡ e
 of_kind (refusal.Syntax at) = refl
 of_kind (refusal.Repeated at) = refl
 of_kind (refusal.Unknown at) = refl

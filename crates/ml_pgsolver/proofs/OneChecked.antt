@@ -3,18 +3,16 @@
 --   one_checked         == it stands for one game with one list of claims at most
 --   one_check_refusal   == it is refused in one way at most
 --   never_both_checked  == what is read is refused by nothing but want of memory
-use Rattle.std.proofs.Common.{◌≡◌, ◌≢◌, ℕ, ◌<◌, ◌≤◌, ◌⊎◌, List, [], ◌∷◌, ◌++◌, length, Option, Some, None, Ok, Err, refl, sym, ◌∙◌, ap, subst, arith, inl, inr}
+use Rattle.std.proofs.Common.{◌≡◌, ◌≢◌, ℕ, ◌⊎◌, List, [], ◌∷◌, ◌++◌, length, Option, Some, None, Ok, Err, refl, sym, ◌∙◌, ap, subst, arith, inl, inr}
 use Rattle.std.specs.List.{flat_map}
-use Rattle.std.proofs.lemmas.Bool.{cases_lt}
 use Rattle.std.proofs.lemmas.List.{ext_get_or}
 use Rattle.ml_game_check.specs.RightClaims.{Claims, claim_at}
 use Rattle.ml_game_check.specs.declared.claims.Claim.{Claim}
 use Rattle.ml_lists.specs.Ascending.{IsAscending}
 use Rattle.ml_lists.specs.Member.{IsMember}
-use Rattle.ml_lists.proofs.Ascending.{ascending-apart}
 use Rattle.ml_lists.proofs.Member.{member-append_left, member-append_right, member-flat_map_from, place-member}
 use Rattle.ml_pgsolver.specs.CheckedText.{AreClaimsOf, ComesBehind, ComesLast, ComesLater, IsCheckRefusedBy, IsCheckedAs, IsClaimOf, IsFirstStranger, IsMoveOf, IsStranger, game_part, solution_part}
-use Rattle.ml_pgsolver.specs.GameText.{NamedGame, id_at}
+use Rattle.ml_pgsolver.specs.GameText.{NamedGame}
 use Rattle.ml_pgsolver.specs.Refusals.{Cause, HasNoFault, HasNoFaultIn, IsReadAs, IsRefusedBy, Repeated, Syntax, TooLarge, TooMany, next_place, offset_of, place_from, rank, roles_from}
 use Rattle.ml_pgsolver.specs.SolutionGrammar.{Entry, SolutionDraft, reference_at_place, solution_form, solution_tokens}
 use Rattle.ml_pgsolver.specs.Tokens.{Placed, Token, signs_of, tokens}
@@ -22,21 +20,14 @@ use Rattle.ml_pgsolver.specs.declared.refusal.GameTextRefusal.{GameTextRefusal}
 use Rattle.ml_pgsolver.specs.declared.refusal.GameTextRefusal.TheVariants as refusal
 use Rattle.ml_pgsolver.specs.private.EntryMachine.{EntryState, EntryStep, entries_come, start}
 use Rattle.ml_pgsolver.specs.private.Signs.{signs_in}
-use Rattle.ml_pgsolver.proofs.OneAnswers.{both_first, never_both, one_cause, one_game_of_text, one_refusal, roles-append}
+use Rattle.ml_pgsolver.proofs.OneAnswers.{Kind, Fault, Stranger, both_first, kind, never_both, of_kind, refusal_of, one_cause, one_game_of_text, one_refusal, roles-append}
 use Rattle.ml_pgsolver.proofs.SolutionAnswers.{WholeSolution, refused_solution, whole_solution}
 use Rattle.ml_pgsolver.proofs.SolutionComings.{entry_references, move_reference}
 use Rattle.ml_pgsolver.proofs.SolutionOutcomes.{RefusedIn}
 use Rattle.ml_pgsolver.proofs.SolutionTrees.{solution-ended}
+use Rattle.ml_pgsolver.proofs.OneGame.{one_id}
 
 -- ---- one list of claims
-
-one_place : (ids : List ℕ) → IsAscending ids → (v w : ℕ) → v < length ids → w < length ids → id_at ids v ≡ id_at ids w → v ≡ w
-one_place ids up v w v_low w_low same = by (cases_lt v w) (cases_lt w v)
-  where
-    by : (v < w) ⊎ (w ≤ v) → (w < v) ⊎ (v ≤ w) → v ≡ w
-    by (inl low) other = let apart = ascending-apart ids v w 0 up low w_low in absurd (omega arith)
-    by (inr late) (inl low) = let apart = ascending-apart ids w v 0 up low v_low in absurd (omega arith)
-    by (inr late) (inr early) = omega arith
 
 one_move : (ids : List ℕ) → IsAscending ids → (to : Option (List ℕ)) (x y : Option ℕ) → IsMoveOf ids to x → IsMoveOf ids to y
     → x ≡ y
@@ -45,14 +36,14 @@ one_move ids up None None (Some y) a b = absurd b
 one_move ids up None (Some x) y a b = absurd a
 one_move ids up (Some to) None y a b = absurd a
 one_move ids up (Some to) (Some x) None a b = absurd b
-one_move ids up (Some to) (Some x) (Some y) a b = ap Some (one_place ids up x y a.0 b.0 (a.1 ∙ sym b.1))
+one_move ids up (Some to) (Some x) (Some y) a b = ap Some (one_id ids up x y a.0 b.0 (a.1 ∙ sym b.1))
 
 one_claim : (ids : List ℕ) → IsAscending ids → (e : Entry) (v w : ℕ) (c d : Claim) → IsClaimOf ids e v c → IsClaimOf ids e w d
     → (v ≡ w) × (c ≡ d)
 one_claim ids up e v w c d a b =
     let winner : c.winner ≡ d.winner = a.winner ∙ sym b.winner in
     let move_to = one_move ids up e.move_to c.move_to d.move_to a.move_to b.move_to in (
-      one_place ids up v w a.within b.within (a.vertex ∙ sym b.vertex),
+      one_id ids up v w a.within b.within (a.vertex ∙ sym b.vertex),
       ap (λ p. let x : Claim = record { winner = p; move_to = c.move_to } in x) winner
           ∙ ap (λ m. let x : Claim = record { winner = d.winner; move_to = m } in x) move_to,
     )
@@ -148,7 +139,7 @@ no_stranger_there text g cs a k (before, t, there, (n, role, none)) =
     let claimed = a.claims.each from.from from.member in
     none (entry_known g.ids from.from claimed.0 claimed.1 claimed.3 n from.inside)
 
-unknown_told : (at : ℕ) → refusal.Unknown at ≢ refusal.NoMemory
+pub unknown_told : (at : ℕ) → refusal.Unknown at ≢ refusal.NoMemory
 unknown_told at e = cc
 
 module _ (text : List ℕ) (g : NamedGame) (cs : Claims) (a : IsCheckedAs text g cs) where
@@ -183,43 +174,13 @@ never_both_checked text g cs refusal.NoMemory a r = refl
 
 -- ---- one refusal
 
--- a refusal, by its cause; the number that is no id; want of memory
-data Kind : Type 0 where
-  Fault : Cause → ℕ → Kind
-  Foreign : ℕ → Kind
-  Nothing : Kind
-
-abbrev kind : GameTextRefusal → Kind
-kind (refusal.Syntax at) = Fault Syntax at
-kind (refusal.Repeated at) = Fault Repeated at
-kind (refusal.Unknown at) = Foreign at
-kind (refusal.TooMany at) = Fault TooMany at
-kind (refusal.TooLarge at) = Fault TooLarge at
-kind refusal.NoMemory = Nothing
-
-abbrev refusal_of : Kind → GameTextRefusal
-refusal_of (Fault Syntax at) = refusal.Syntax at
-refusal_of (Fault Repeated at) = refusal.Repeated at
-refusal_of (Fault TooMany at) = refusal.TooMany at
-refusal_of (Fault TooLarge at) = refusal.TooLarge at
-refusal_of (Foreign at) = refusal.Unknown at
-refusal_of Nothing = refusal.NoMemory
-
-of_kind : (e : GameTextRefusal) → refusal_of (kind e) ≡ e
-of_kind (refusal.Syntax at) = refl
-of_kind (refusal.Repeated at) = refl
-of_kind (refusal.Unknown at) = refl
-of_kind (refusal.TooMany at) = refl
-of_kind (refusal.TooLarge at) = refl
-of_kind refusal.NoMemory = refl
-
 -- a fault of the game's text, or one behind it
 data Comes (text : List ℕ) : Kind → Type 0 where
   in_front : (c : Cause) (at : ℕ) → refusal_of (Fault c at) ≢ refusal.NoMemory
       → IsRefusedBy (game_part text) (refusal_of (Fault c at))
       → Comes text (Fault c at)
   later : (c : Cause) (at : ℕ) → ComesLater text c at → Comes text (Fault c at)
-  last : (at : ℕ) → ComesLast text at → Comes text (Foreign at)
+  last : (at : ℕ) → ComesLast text at → Comes text (Stranger at)
 
 comes_so : (text : List ℕ) (e : GameTextRefusal) → e ≢ refusal.NoMemory → IsCheckRefusedBy text e → Comes text (kind e)
 comes_so text (refusal.Syntax at) other (inl front) = in_front Syntax at other front
@@ -265,7 +226,7 @@ one_later text c d at to (x_front, (k, x, x_is)) (y_front, (j, y, y_is)) =
 not_after_last : (text : List ℕ) (c : Cause) (at to : ℕ) → ComesLater text c at → ComesLast text to → ⊥
 not_after_last text c at to (front, (k, first, is)) (faultless, comes) = faultless c k first.comes
 
-one_last : (text : List ℕ) (at to : ℕ) → ComesLast text at → ComesLast text to → Foreign at ≡ Foreign to
+one_last : (text : List ℕ) (at to : ℕ) → ComesLast text at → ComesLast text to → Stranger at ≡ Stranger to
 one_last text at to x y = by x.1 y.1
   where
     Here : ℕ → Type 0
@@ -280,7 +241,7 @@ one_last text at to x y = by x.1 y.1
 
     by : IsRefusedBy (game_part text) (refusal.Unknown at) ⊎ Here at
         → IsRefusedBy (game_part text) (refusal.Unknown to) ⊎ Here to
-        → Foreign at ≡ Foreign to
+        → Stranger at ≡ Stranger to
     by (inl a) (inl b) =
         ap kind (one_refusal (game_part text) (refusal.Unknown at) (refusal.Unknown to) (unknown_told at) (unknown_told to) a b)
     by (inl a) (inr (named, game, rest)) = absurd (not_read at a named game)
@@ -291,7 +252,7 @@ one_last text at to x y = by x.1 y.1
         let low = first.first j b_first.comes in
         let high = b_first.first k first.comes in
         let place : k ≡ j = omega arith in
-        ap Foreign (is ∙ ap (offset_of (length text) (solution_part text)) place ∙ sym also_is)
+        ap Stranger (is ∙ ap (offset_of (length text) (solution_part text)) place ∙ sym also_is)
 
 one_kind : (text : List ℕ) (a b : Kind) → Comes text a → Comes text b → a ≡ b
 one_kind text _ _ (in_front c at c_other x) (in_front d to d_other y) =

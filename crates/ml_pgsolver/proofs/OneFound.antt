@@ -13,13 +13,13 @@ use Rattle.ml_game_check.proofs.SomeVerdict.{some_verdict}
 use Rattle.ml_pgsolver.specs.CheckedText.{IsCheckRefusedBy, IsCheckedAs, IsFoundIn, finding_of}
 use Rattle.ml_pgsolver.specs.GameText.{NamedGame, id_at}
 use Rattle.ml_pgsolver.specs.Laws.{NamesFour}
-use Rattle.ml_pgsolver.specs.declared.finding.Finding.{Finding}
+use Rattle.ml_pgsolver.specs.declared.finding.SolutionFinding.{SolutionFinding}
 use Rattle.ml_pgsolver.specs.declared.refusal.GameTextRefusal.{GameTextRefusal}
 use Rattle.ml_pgsolver.specs.declared.refusal.GameTextRefusal.TheVariants as refusal
 use Rattle.ml_pgsolver.proofs.OneChecked.{never_both_checked, one_checked}
 use Rattle.ml_pgsolver.proofs.SomeChecked.{IsRefused, some_checked_answer}
 
-pub some_found : (text : List ℕ) → ((f : Finding) × IsFoundIn text f) ⊎ IsRefused text
+pub some_found : (text : List ℕ) → ((f : SolutionFinding) × IsFoundIn text f) ⊎ IsRefused text
 some_found text =
     ⊎_elim
     (λ (read : (g : NamedGame) × (cs : Claims) × IsCheckedAs text g cs).
@@ -37,10 +37,10 @@ some_found text =
     (λ (refused : IsRefused text). inr refused)
     (some_checked_answer text)
 
-four_of : (ids : List ℕ) (v : Verdict) (f : Finding) → f ≡ finding_of ids v → NamesFourth v → NamesFour f
+four_of : (ids : List ℕ) (v : Verdict) (f : SolutionFinding) → f ≡ finding_of ids v → NamesFourth v → NamesFour f
 four_of ids v f told (at, is) = (id_at ids at, told ∙ ap (finding_of ids) is)
 
-pub one_found : (text : List ℕ) (f h : Finding)
+pub one_found : (text : List ℕ) (f h : SolutionFinding)
     → IsFoundIn text f
     → IsFoundIn text h
     → (f ≡ h) ⊎ (NamesFour f × NamesFour h)
@@ -58,6 +58,6 @@ one_found text f h x y =
     inr (four_of x.named.ids a.answer f a.is_told both.0, four_of x.named.ids b.answer h told both.1))
     (one_verdict x.named.game x.claims a.answer b.answer a.is_verdict other)
 
-pub found_or_refused : (text : List ℕ) (f : Finding) (e : GameTextRefusal) → IsFoundIn text f → IsCheckRefusedBy text e
+pub found_or_refused : (text : List ℕ) (f : SolutionFinding) (e : GameTextRefusal) → IsFoundIn text f → IsCheckRefusedBy text e
     → e ≡ refusal.NoMemory
 found_or_refused text f e x = never_both_checked text x.named x.claims e x.is_read

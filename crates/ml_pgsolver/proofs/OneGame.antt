@@ -78,7 +78,7 @@ one_list P f one (x ∷ xs) (y ∷ ys) all_x all_y is =
     let rest = one_list P f one xs ys (λ a m. all_x a (inr m)) (λ a m. all_y a (inr m)) (cc) in
     cc
 
-one_id : (ids : List ℕ) → IsAscending ids → (a b : ℕ) → a < length ids → b < length ids → id_at ids a ≡ id_at ids b → a ≡ b
+pub one_id : (ids : List ℕ) → IsAscending ids → (a b : ℕ) → a < length ids → b < length ids → id_at ids a ≡ id_at ids b → a ≡ b
 one_id ids ascends a b a_in b_in is =
     ⊎_elim (λ (e : a ≡ b). e)
     (λ (ne : a ≡ b → ⊥). ⊎_elim

@@ -15,8 +15,6 @@ use Rattle.std.proofs.lemmas.Grind.{flat_map-append}
 use Rattle.ml_lines.specs.Reading.{value}
 use Rattle.ml_lists.specs.Member.{IsMember}
 use Rattle.ml_parity.specs.declared.players.Player.{Player}
-use Rattle.ml_parity.specs.declared.players.Player.TheVariants.{Even, Odd}
-use Rattle.ml_pgsolver.specs.Grammar.{owner_digits}
 use Rattle.ml_pgsolver.specs.Refusals.{greatest_number, id_at_place, most_vertices, next_place}
 use Rattle.ml_pgsolver.specs.SolutionGrammar.{Entry, reference_at_place}
 use Rattle.ml_pgsolver.specs.Tokens.{Token, Number, Name, Parity, Comma, Semicolon, Stray}
@@ -30,6 +28,7 @@ use Rattle.ml_pgsolver.specs.private.Signs.{fitting, owner_named, sign_of}
 use Rattle.ml_pgsolver.proofs.Images.{among-cases, fitting-cases, full-cases}
 use Rattle.ml_pgsolver.proofs.SolutionTrees.{Body, Close, HeaderEnd, Move, Piece, Reading, Vertex, Winner, Word, entry_of, grow, turned, won}
 use Rattle.ml_pgsolver.proofs.Trees.{owner_named-is}
+use Rattle.ml_pgsolver.proofs.Comings.{owner_small}
 
 -- ---- what the reader knows
 
@@ -320,10 +319,6 @@ number_came p q next digits at no_vertex next_is = by (fitting-cases (value digi
 
 -- ---- a winner
 
-winner_small : (winner : Player) → value (owner_digits winner) ≤ greatest_number
-winner_small Even = omega arith
-winner_small Odd = omega arith
-
 winner_came : (h : Option (List ℕ)) (es : List Entry) (v digits : List ℕ) (at : ℕ) (o : Option Player) (q : Reading)
     → owner_named digits ≡ o
     → turned h es (won v o) ≡ Some q
@@ -334,7 +329,7 @@ winner_came h es v digits at (Some winner) q is so =
     let p = Body h es (Winner v) in
     let e : Body h es (Move v winner) ≡ q = cc in
     let same = owner_named-is digits winner is in
-    let small : value digits ≤ greatest_number = subst (λ ds. value ds ≤ greatest_number) (sym same) (winner_small winner) in
+    let small : value digits ≤ greatest_number = subst (λ ds. value ds ≤ greatest_number) (sym same) (owner_small winner) in
     subst (λ r. Came p (Number digits) r at (led_to (image p) (with_winner (value v) (owner_named digits) at))) e
     (goes (ap (λ w. led_to (image p) (with_winner (value v) w at)) is) (plain p (Number digits) refl (small_same digits small)))
 

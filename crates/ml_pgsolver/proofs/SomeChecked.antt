@@ -26,6 +26,7 @@ use Rattle.ml_pgsolver.proofs.CheckedAnswers.{checked, entries_never_lack, entri
 use Rattle.ml_pgsolver.proofs.Images.{among-cases}
 use Rattle.ml_pgsolver.proofs.RowClaims.{enter_step, entered_none, no_claims_more, no_claims_none, row_stranger}
 use Rattle.ml_pgsolver.proofs.SomeAnswers.{some_answer}
+use Rattle.ml_pgsolver.proofs.OneChecked.{unknown_told}
 
 -- ---- claims
 
@@ -108,9 +109,6 @@ IsRefused text = (e : GameTextRefusal) × (e ≢ refusal.NoMemory) × IsCheckRef
 
 abbrev pub CheckedAnswer : List ℕ → Type 0
 CheckedAnswer text = ((g : NamedGame) × (cs : Claims) × IsCheckedAs text g cs) ⊎ IsRefused text
-
-unknown_told : (at : ℕ) → refusal.Unknown at ≢ refusal.NoMemory
-unknown_told at e = cc
 
 no_word_answer : (text : List ℕ) → word_in text ≡ None → HasNoFault (signs_of (tokens text)) → CheckedAnswer text
 no_word_answer text is faultless = inr (refusal.Syntax (length text), (λ e. cc), no_word text is faultless)

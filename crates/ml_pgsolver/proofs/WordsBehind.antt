@@ -19,7 +19,7 @@ use Rattle.ml_pgsolver.specs.Longest.{IsProper}
 use Rattle.ml_pgsolver.specs.Tokens.{Token, Number, Name, Parity, Comma, Semicolon, Stray, front_token, is_inner, quoted, signs_of, spelling, tokens, tokens_at}
 use Rattle.ml_pgsolver.specs.private.WordSearch.{word_from, word_sought}
 use Rattle.ml_pgsolver.proofs.FirstTokens.{front_token-within, skipped, tokens_at-blank, tokens_at-token}
-use Rattle.ml_pgsolver.proofs.LongestTokens.{closed_name, front_is_longest, run_passes}
+use Rattle.ml_pgsolver.proofs.LongestTokens.{closed_name, front_is_longest, proper_number, run_passes}
 use Rattle.ml_pgsolver.proofs.WordPlaces.{one_byte, passed, stands, word}
 
 -- ---- quiet tokens
@@ -112,22 +112,12 @@ quoted_proper rest =
 pub front_proper : (b : ℕ) (rest : List ℕ) → ProperOrStray (front_token b rest)
 front_proper b rest =
     cond_both (is_digit b) _ _ ProperOrStray
-    (λ digit. inl (proper_number digit))
+    (λ digit. inl (proper_number b rest digit))
     (λ other. cond_both (b == 34) _ _ ProperOrStray (λ quote. quoted_proper rest)
     (λ other. cond_both (b == 44) _ _ ProperOrStray (λ comma. inl tt)
     (λ other. cond_both (b == 59) _ _ ProperOrStray (λ semicolon. inl tt)
     (λ other. cond_both (starts_with nat_eq (b ∷ rest) (codes "parity")) _ _ ProperOrStray (λ parity. inl tt)
     (λ other. inr (b, refl))))))
-  where
-    proper_number : is_digit b ≡ true → IsProper (Number (b ∷ take_while is_digit rest))
-    proper_number digit = (
-      omega arith,
-      member-All (λ c. is_digit c ≡ true) (b ∷ take_while is_digit rest) (λ c m. each c m),
-    )
-      where
-        each : (c : ℕ) → IsMember c (b ∷ take_while is_digit rest) → is_digit c ≡ true
-        each c (inl same) = ap is_digit same ∙ digit
-        each c (inr m) = run_passes is_digit rest c m
 
 -- ---- bytes that are passed over
 

@@ -8,13 +8,13 @@ use Rattle.std.specs.List.{enumerate_from, flat_map}
 use Rattle.std.proofs.Math.Seq.{drop-append_seam, take-append_seam}
 use Rattle.std.proofs.lemmas.Bool.{cases_lt}
 use Rattle.std.proofs.lemmas.List.{append_assoc, get_or_past, length-map}
-use Rattle.std.proofs.lemmas.List.FromFn.{get_or-enumerate_from, get_or-map-range_with_len, length-enumerate_from, length-map-range_with_len}
+use Rattle.std.proofs.lemmas.List.FromFn.{get_or-enumerate_from, length-enumerate_from, length-map-range_with_len}
 use Rattle.std.proofs.lemmas.List.Sorted.{IsPermutation-map, IsPermutation-sym, length_permutation}
 use Rattle.ml_game_check.specs.Laws.{claim_of, claims_of, move_of}
 use Rattle.ml_game_check.specs.RightClaims.{claim_at}
 use Rattle.ml_game_check.specs.declared.claims.Claim.{Claim}
 use Rattle.ml_game_check.specs.declared.verdict.Verdict.TheVariants.{Right}
-use Rattle.ml_game_check.proofs.OfSolutions.{solutions_are_right}
+use Rattle.ml_game_check.proofs.OfSolutions.{solutions_are_right, told_claim}
 use Rattle.ml_lines.specs.Lines.{next, number}
 use Rattle.ml_lists.specs.Member.{IsMember}
 use Rattle.ml_lists.proofs.Member.{member-map, member-map_from, member-place, place-member}
@@ -104,9 +104,6 @@ module _ (ids : List ℕ) (g : ParityGame) (s : GameSolution) (ok : IsGame g) (s
     choice_low : (v : ℕ) → v < size g → choice_at s.choice v < length ids
     choice_low v low = omega (arith, ok.in_range v (choice_at s.choice v) (solves.strategies (owner_of g v) v low refl))
 
-    there : (v : ℕ) → v < size g → claim_at (claims_of g s) v ≡ claim_of g s v
-    there v low = get_or-map-range_with_len (claim_of g s) 0 (size g) v v None low (omega arith)
-
     claim_there : ℕ → Claim
     claim_there v = record {
       winner = winner_at s.winner v;
@@ -149,7 +146,7 @@ module _ (ids : List ℕ) (g : ParityGame) (s : GameSolution) (ok : IsGame g) (s
             sym (at.holds (0, 0)) ∙ get_or-enumerate_from 0 ids at.place (0, 0) low ∙ ap (λ k. (k, id_at ids at.place)) e in (
               at.place,
               claim_there at.place,
-              there at.place inside,
+              told_claim g s at.place inside,
               subst (λ x. IsRowClaim ids x at.place (claim_there at.place)) (sym (from.holds ∙ ap row is)) (row_claim at.place inside),
             )
 
@@ -162,7 +159,7 @@ module _ (ids : List ℕ) (g : ParityGame) (s : GameSolution) (ok : IsGame g) (s
             let here : get_or (enumerate_from 0 ids) v (0, 0) ≡ (v, id_at ids v) =
             get_or-enumerate_from 0 ids v (0, 0) inside ∙ ap (λ k. (k, id_at ids v)) e in
             let listed = place-member (enumerate_from 0 ids) v (0, 0) (omega arith) in
-            let both : Some (claim_there v) ≡ Some c = sym (there v low) ∙ is in
+            let both : Some (claim_there v) ≡ Some c = sym (told_claim g s v low) ∙ is in
             let same : claim_there v ≡ c = cc in (
               row (v, id_at ids v),
               member-map row (v, id_at ids v) (enumerate_from 0 ids) (subst (λ x. IsMember x (enumerate_from 0 ids)) here listed),

@@ -29,8 +29,8 @@ use Rattle.ml_pgsolver.specs.GameText.{NamedGame, id_at}
 use Rattle.ml_pgsolver.specs.Refusals.{Cause, HasNoFault, HasNoFaultIn, IsAt, IsFirstFaultIn, IsReadAs, IsRefusedBy, Repeated, Syntax, TooLarge, TooMany, offset_of, place_in}
 use Rattle.ml_pgsolver.specs.SolutionGrammar.{Entry, SolutionDraft, reference_at_place, solution_form, solution_tokens}
 use Rattle.ml_pgsolver.specs.Tokens.{Placed, Token, signs_of, tokens, tokens_at}
-use Rattle.ml_pgsolver.specs.declared.finding.Finding.{Finding}
-use Rattle.ml_pgsolver.specs.declared.finding.Finding.TheVariants as finding
+use Rattle.ml_pgsolver.specs.declared.finding.SolutionFinding.{SolutionFinding}
+use Rattle.ml_pgsolver.specs.declared.finding.SolutionFinding.TheVariants as finding
 use Rattle.ml_pgsolver.specs.declared.refusal.GameTextRefusal.{GameTextRefusal}
 use Rattle.ml_pgsolver.specs.declared.refusal.GameTextRefusal.TheVariants as refusal
 
@@ -87,16 +87,16 @@ pub record IsCheckedAs (text : List ℕ) (named : NamedGame) (cs : Claims) : Typ
 -- ---- what a check finds
 
 -- by the vertices' ids
-abbrev pub finding_of : List ℕ → Verdict → Finding
+abbrev pub finding_of : List ℕ → Verdict → SolutionFinding
 finding_of ids verdict.Right = finding.Accepted
 finding_of ids (verdict.Broken v rule) = finding.Rejected (id_at ids v) rule
 
-pub record IsFoundOf (named : NamedGame) (cs : Claims) (f : Finding) : Type 0 where
+pub record IsFoundOf (named : NamedGame) (cs : Claims) (f : SolutionFinding) : Type 0 where
   pub answer : Verdict
   pub is_verdict : IsVerdict named.game cs answer
   pub is_told : f ≡ finding_of named.ids answer
 
-pub record IsFoundIn (text : List ℕ) (f : Finding) : Type 0 where
+pub record IsFoundIn (text : List ℕ) (f : SolutionFinding) : Type 0 where
   pub named : NamedGame
   pub claims : Claims
   pub is_read : IsCheckedAs text named claims

@@ -4,8 +4,8 @@
 --   OneCheckedAnswer == the same of a game's text with a solution behind it, and its claims
 --   OneFinding      == something is found of the claims, or the text is refused, and never both; and one thing alone, but for
 --                      the vertex that is named with the fourth rule
---   WrittenIsAccepted == what is written for a solution of a text's game, behind the text, is read as the solution's claims, and
---                      found to be right
+--   WrittenIsAccepted == what is written for a solution of a text's game, behind the text, is read as the solution's claims,
+--                      and found to be right
 --   SolutionOrFault == tokens are those of a solution without a fault, or have a first fault
 --   TokensAreLongest == each token stands where it is said to, and no longer one begins there
 use Rattle.ml_game_check.specs.Laws.{claims_of}
@@ -19,8 +19,8 @@ use Rattle.ml_pgsolver.specs.Tokens.{Placed, signs_of}
 use Rattle.std.specs.Prelude.{ℕ, ◌≡◌, ◌≢◌, ◌⊎◌, List, ◌++◌}
 use Rattle.ml_pgsolver.specs.GameText.{NamedGame, StandsFor}
 use Rattle.ml_pgsolver.specs.Refusals.{Cause, HasNoFaultIn, IsFirstFaultIn, IsReadAs, IsRefusedBy}
-use Rattle.ml_pgsolver.specs.declared.finding.Finding.{Finding}
-use Rattle.ml_pgsolver.specs.declared.finding.Finding.TheVariants.{Accepted, Rejected}
+use Rattle.ml_pgsolver.specs.declared.finding.SolutionFinding.{SolutionFinding}
+use Rattle.ml_pgsolver.specs.declared.finding.SolutionFinding.TheVariants.{Accepted, Rejected}
 use Rattle.ml_pgsolver.specs.declared.refusal.GameTextRefusal.{GameTextRefusal}
 use Rattle.ml_pgsolver.specs.declared.refusal.GameTextRefusal.TheVariants as refusal
 
@@ -54,16 +54,16 @@ pub record OneCheckedAnswer : Type 0 where
   pub exclusive : (text : List ℕ) (g : NamedGame) (cs : Claims) (e : GameTextRefusal)
       → IsCheckedAs text g cs → IsCheckRefusedBy text e → e ≡ refusal.NoMemory
 
-abbrev pub NamesFour : Finding → Type 0
+abbrev pub NamesFour : SolutionFinding → Type 0
 NamesFour f = (id : ℕ) × (f ≡ Rejected id NoBadCycle)
 
 pub record OneFinding : Type 0 where
   pub some : (text : List ℕ)
-      → ((f : Finding) × IsFoundIn text f)
+      → ((f : SolutionFinding) × IsFoundIn text f)
       ⊎ ((e : GameTextRefusal) × (e ≢ refusal.NoMemory) × IsCheckRefusedBy text e)
-  pub one : (text : List ℕ) (f h : Finding) → IsFoundIn text f → IsFoundIn text h
+  pub one : (text : List ℕ) (f h : SolutionFinding) → IsFoundIn text f → IsFoundIn text h
       → (f ≡ h) ⊎ (NamesFour f × NamesFour h)
-  pub exclusive : (text : List ℕ) (f : Finding) (e : GameTextRefusal)
+  pub exclusive : (text : List ℕ) (f : SolutionFinding) (e : GameTextRefusal)
       → IsFoundIn text f → IsCheckRefusedBy text e → e ≡ refusal.NoMemory
 
 pub record IsWrittenRight (text : List ℕ) (g : NamedGame) (s : GameSolution) : Type 0 where

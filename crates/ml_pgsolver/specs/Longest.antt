@@ -2,7 +2,8 @@
 --
 --   IsProper t           == t is a token of the grammar: a number has digits alone and has one, a name has neither `"` nor LF
 --   BeginsWith text t    == the text begins with the bytes that spell t
---   IsLongest text t     == so it does, and with no longer token of the grammar; t is a stray byte only where it begins with none
+--   IsLongest text t     == so it does, and with no longer token of the grammar; t is a stray byte only where it begins with
+--                           none
 --   FrontIsLongest       == the token at the front of a text is the longest one
 use Rattle.std.specs.Prelude.{ℕ, ◌≡◌, ◌<◌, ◌≤◌, true, List, ◌∷◌, ◌++◌, length, All}
 use Rattle.ml_text.specs.Bytes.{is_digit}

@@ -13,7 +13,7 @@ use std::alloc::Global;
 
 /// What the check of a solution finds.
 #[derive(Clone, Copy, Debug, PartialEq, Eq)]
-pub enum Finding {
+pub enum SolutionFinding {
     /// No entry breaks a rule.
     Accepted,
     /// The entry of the vertex with this id breaks this rule.
@@ -30,7 +30,7 @@ pub enum Finding {
 /// Those of `read_checked`.
 ///
 /// Cost: that of `read_checked`, and of `ml_game_check::check`.
-pub fn check_solution(alloc: Global, text: &[u8]) -> Result<Finding, GameTextRefusal>
+pub fn check_solution(alloc: Global, text: &[u8]) -> Result<SolutionFinding, GameTextRefusal>
     ensures { MatchResult result (IsFoundIn text.now) (IsCheckRefusedBy text.now) }
 {
     let checked = read_checked(alloc, text)?;
@@ -39,7 +39,11 @@ pub fn check_solution(alloc: Global, text: &[u8]) -> Result<Finding, GameTextRef
 }
 
 // what the check of these claims finds
-fn found(alloc: Global, named: &Named, claims: &[Option<Claim>]) -> Result<Finding, NoMemory>
+fn found(
+    alloc: Global,
+    named: &Named,
+    claims: &[Option<Claim>],
+) -> Result<SolutionFinding, NoMemory>
     requires { length claims.now ≡ size named.now.game }
     ensures { IfOk result (IsFoundOf named.now claims.now) }
 {
@@ -48,13 +52,13 @@ fn found(alloc: Global, named: &Named, claims: &[Option<Claim>]) -> Result<Findi
 }
 
 // the same, by the vertices' ids
-fn finding_of(ids: &[u32], verdict: Verdict) -> Finding
+fn finding_of(ids: &[u32], verdict: Verdict) -> SolutionFinding
     requires { IsInside ids.now verdict }
     ensures { result ≡ finding_of ids.now verdict }
 {
     match verdict {
-        Verdict::Right => Finding::Accepted,
-        Verdict::Broken { vertex, rule } => Finding::Rejected {
+        Verdict::Right => SolutionFinding::Accepted,
+        Verdict::Broken { vertex, rule } => SolutionFinding::Rejected {
             id: ids[vertex as usize],
             rule,
         },

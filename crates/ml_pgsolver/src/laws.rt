@@ -18,8 +18,8 @@ pub fn one_checked_answer()
     ensures { OneCheckedAnswer }
 {}
 
-/// Something is found of the claims of such a text, or it is refused, and never both. Two things that are found are the same, but
-/// that with the fourth rule they may name two vertices. So `check_solution` answers each exactly where it is said to come.
+/// Something is found of the claims of such a text, or it is refused, and never both. Two things that are found are the same,
+/// but that with the fourth rule they may name two vertices. So `check_solution` answers each exactly where it is said to come.
 pub fn one_finding()
     ensures { OneFinding }
 {}
@@ -40,8 +40,8 @@ pub fn limits()
     ensures checked_bytes { limit.LONGEST_CHECKED_TEXT ≡ 134217728 }
 {}
 
-/// What is written for a solution of the game that a text stands for, put behind the text, is read as the claims of the solution,
-/// and `check_solution` accepts it.
+/// What is written for a solution of the game that a text stands for, put behind the text, is read as the claims of the
+/// solution, and `check_solution` accepts it.
 pub fn written_is_accepted()
     ensures { WrittenIsAccepted }
 {}

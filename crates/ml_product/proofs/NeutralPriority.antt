@@ -32,7 +32,7 @@ use Rattle.ml_trace.proofs.Priorities.{priority-most}
 use Rattle.ml_history.specs.CycleLaws.{entry}
 use Rattle.ml_history.specs.HistoryStep.{live, stepped, step_mark}
 use Rattle.ml_history.proofs.definition.StepNames.{step_names}
-use Rattle.ml_history.proofs.plain_step.PlainStep.{live-length, ascending_length}
+use Rattle.ml_history.proofs.definition.SmallHistories.{live-length, ascending_length}
 use Rattle.ml_sequent.specs.declared.choice.Side.{Side}
 use Rattle.ml_sequent.specs.declared.choice.Side.TheVariants.{Left, Right}
 use Rattle.ml_sequent.specs.LocalWalk.{stays}

@@ -10,7 +10,7 @@ use Rattle.std.proofs.lemmas.Bool.{cases_Bool, cond-true, cond-false}
 use Rattle.std.proofs.lemmas.List.{length-map}
 use Rattle.ml_lists.specs.Member.{IsMember}
 use Rattle.ml_graph.specs.Graph.{Graph, size}
-use Rattle.ml_history.proofs.plain_step.PlainStep.{ascending_length}
+use Rattle.ml_history.proofs.definition.SmallHistories.{ascending_length}
 use Rattle.ml_sequent.specs.declared.choice.Side.{Side}
 use Rattle.ml_sequent.specs.Choice.{side_of, IsChoice, with_side}
 use Rattle.ml_sequent.proofs.Choices.{with_is_choice}

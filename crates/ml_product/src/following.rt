@@ -2,7 +2,6 @@
 ghost use Rattle.std.specs.Prelude.{◌≡◌, ◌≤◌, ◌^◌, IfOk};
 ghost use Rattle.ml_graph.specs.Graph.{IsGraph};
 ghost use Rattle.ml_trace.specs.Marks.{priority};
-ghost use Rattle.ml_trace.specs.MarkOrder.{FitsBelow};
 ghost use Rattle.ml_sequent.specs.Spread.{IsSpreadOf};
 ghost use Rattle.ml_sequent.specs.Step.{IsDiamondOf};
 ghost use Rattle.ml_product.specs.Position.{automaton_states, Follows};
@@ -14,9 +13,8 @@ ghost use Rattle.ml_product.specs.private.Exploring.{AreTerms};
 use crate::pool::Fresh;
 use crate::view::View;
 use ml_base::NoMemory;
-use ml_history::Mark;
 use ml_sequent::Branch;
-use ml_trace::letter_of;
+use ml_trace::{letter_of, priority_of};
 use std::alloc::Global;
 
 /// What is asked of the graph at each position: its odd priorities, and the neutral priority.
@@ -24,18 +22,6 @@ use std::alloc::Global;
 pub(crate) struct Terms {
     pub(crate) odds: Vec<u32>,
     pub(crate) neutral: u32,
-}
-
-// the priority of a mark
-fn priority_of(mark: Mark, neutral: u32) -> u32
-    requires { FitsBelow neutral mark }
-    ensures { result ≡ priority neutral mark }
-{
-    match mark {
-        Mark::Red(name) => 2 * name,
-        Mark::Green(name) => 2 * name + 1,
-        Mark::Neutral => neutral,
-    }
 }
 
 // the position to which the step along a diamond leads

@@ -8,8 +8,6 @@ pub mod HistoryGame
 pub mod RightOutcomes
 -- what is played answers the task
 pub mod Found
--- graphs that are one but for their lists of names
-pub mod AlikeGraphs
 -- the games of the readings of a task
 pub mod OneGame
 -- each task has a reading

@@ -27,7 +27,7 @@ use Rattle.ml_task.specs.Task.{Task}
 use Rattle.ml_realize.specs.Laws.{OneGame}
 use Rattle.ml_realize.specs.Realizing.{inputs_of, outputs_of}
 use Rattle.ml_realize.specs.TaskGame.{Reading, states}
-use Rattle.ml_realize.proofs.AlikeGraphs.{leads_alike, states_alike}
+use Rattle.ml_word_automaton.proofs.AlikeGraphs.{leads_alike, states_alike}
 
 graphs_alike : (t : Task) (r s : Reading t) → AreAlike r.automaton.graph s.automaton.graph
 graphs_alike t r s =

@@ -1,29 +1,22 @@
--- The propositions of a graph that are true under a valuation, one after the other.
+-- The propositions that are true under a valuation, one after the other.
 --
 --   members_append       == a set of names that stand one behind the other is one of each
 --   has_append           == so a name is in it if it is in one of them
 --   valuations_are_sets  == the letter of a valuation has the names of both its sets
---   AreBelow g letter n set == the set has the numbers below n of the graph's propositions that are in the letter
---   with_number          == a set of numbers with one more
 --   first_more           == a row of letters with one more
---   one_more             == so it has those below the next number, once this one is added where it is in the letter
-use Rattle.std.proofs.Common.{◌≡◌, ℕ, ◌+◌, ◌*◌, ◌/◌, ◌%◌, ◌^◌, ◌<◌, ◌≤◌, ◌==◌, ◌||◌, ◌↔◌, ◌⊎◌, get_or, refl, subst, Bool, true, false, List, [], ◌∷◌, ◌++◌, length, inl, inr, sym, ap, ◌∙◌, arith, bytes_eq, if◌then◌else◌}
+use Rattle.std.proofs.Common.{◌≡◌, ℕ, ◌+◌, ◌*◌, ◌/◌, ◌%◌, ◌^◌, ◌<◌, ◌≤◌, ◌==◌, ◌||◌, ◌⊎◌, get_or, refl, subst, Bool, true, false, List, [], ◌∷◌, ◌++◌, length, inl, inr, sym, ap, ◌∙◌, arith, bytes_eq, if◌then◌else◌}
 use Rattle.std.proofs.Math.Nat.{add-mul-div_left, add-mul-mod_self_left, div-div-eq-div-mul, mul_assoc, mul_comm, pow-suc}
 use Rattle.std.proofs.Math.ListN.{get_or-append}
 use Rattle.std.proofs.Math.Seq.{get_or-append_seam}
 use Rattle.std.proofs.lemmas.Bool.{cases_lt}
 use Rattle.std.proofs.lemmas.List.{length-append}
 use Rattle.std.proofs.lemmas.List.Folds.{list_any-append}
-use Rattle.ml_graph.specs.Graph.{Graph, prop_at}
-use Rattle.ml_lists.specs.Ascending.{insert_once}
-use Rattle.ml_lists.specs.Member.{IsMember}
-use Rattle.ml_lists.proofs.Ascending.{insert_once-keeps, insert_once-member, member-insert_once}
 use Rattle.ml_synthesis.specs.Machines.{valuation}
 use Rattle.ml_synthesis.proofs.AlongWords.{letter_parts}
 use Rattle.ml_task.specs.NameSets.{members}
 use Rattle.ml_trace.specs.declared.letters.Transition.{Transition}
 use Rattle.ml_word_automaton.specs.Letters.{Automaton, HasTransitions}
-use Rattle.ml_word_automaton.specs.Words.{Letter, has}
+use Rattle.ml_word_automaton.specs.Words.{has}
 use Rattle.ml_realize.specs.Laws.{ValuationsAreSets}
 use Rattle.ml_realize.specs.private.Rows.{AreFirst}
 
@@ -64,26 +57,6 @@ valuations_are_sets ins outs s u low =
     members_append ins outs (valuation (length ins) s u)
     ∙ (λ j. members_below ins s u j ++ members outs ((letter_parts (2 ^ length ins) (valuation (length ins) s u) s u low refl).outputs j))
 
-abbrev pub AreBelow : Graph → Letter → ℕ → List ℕ → Type 0
-AreBelow g letter n set = (p : ℕ) → IsMember p set ↔ ((p < n) × (has letter (prop_at g p) ≡ true))
-
-pub with_number : (set more : List ℕ) (n p : ℕ)
-    → more ≡ insert_once n set
-    → IsMember p more ↔ (IsMember p set ⊎ ((p ≡ n) × (true ≡ true)))
-with_number set more n p is = (there, back)
-  where
-    there : IsMember p more → IsMember p set ⊎ ((p ≡ n) × (true ≡ true))
-    there m = by (insert_once-member p n set (subst (IsMember p) is m))
-      where
-        by : (p ≡ n) ⊎ IsMember p set → IsMember p set ⊎ ((p ≡ n) × (true ≡ true))
-        by (inl same) = inr (same, refl)
-        by (inr old) = inl old
-
-    back : IsMember p set ⊎ ((p ≡ n) × (true ≡ true)) → IsMember p more
-    back (inl old) = subst (IsMember p) (sym is) (insert_once-keeps p n set old)
-    back (inr (same, holds)) =
-        subst (IsMember p) (sym is) (subst (λ q. IsMember q (insert_once n set)) (sym same) (member-insert_once n set))
-
 pub first_more : (ns : List (List ℕ)) (a : Automaton) (row : List (List Transition)) (letter : List Transition) (v : ℕ)
     → length row ≡ v
     → AreFirst ns a row
@@ -98,26 +71,3 @@ first_more ns a row letter v long so_far next w low = by (cases_lt w (length row
         let here : w ≡ length row = omega (arith, low, past, size) in
         subst (HasTransitions a (members ns w)) (sym (ap (λ k. get_or (row ++ letter ∷ []) k []) here ∙ get_or-append_seam row letter [] []))
         (subst (λ k. HasTransitions a (members ns k) letter) (sym (here ∙ long)) next)
-
-pub one_more : (g : Graph) (letter : Letter) (n : ℕ) (set more : List ℕ) (is : Bool)
-    → AreBelow g letter n set
-    → is ≡ has letter (prop_at g n)
-    → ((p : ℕ) → IsMember p more ↔ (IsMember p set ⊎ ((p ≡ n) × (is ≡ true))))
-    → AreBelow g letter (n + 1) more
-one_more g letter n set more is so_far told added p = (there, back)
-  where
-    there : IsMember p more → (p < n + 1) × (has letter (prop_at g p) ≡ true)
-    there m = by ((added p).0 m)
-      where
-        by : IsMember p set ⊎ ((p ≡ n) × (is ≡ true)) → (p < n + 1) × (has letter (prop_at g p) ≡ true)
-        by (inl old) = let found = (so_far p).0 old in (omega (arith, found.0), found.1)
-        by (inr (same, holds)) = (omega (arith, same), ap (λ q. has letter (prop_at g q)) same ∙ sym told ∙ holds)
-
-    back : (p < n + 1) × (has letter (prop_at g p) ≡ true) → IsMember p more
-    back (low, holds) = by (cases_lt p n)
-      where
-        by : (p < n) ⊎ (n ≤ p) → IsMember p more
-        by (inl less) = (added p).1 (inl ((so_far p).1 (less, holds)))
-        by (inr past) =
-            let same : p ≡ n = omega (arith, low, past) in
-            (added p).1 (inr (same, told ∙ ap (λ q. has letter (prop_at g q)) (sym same) ∙ holds))

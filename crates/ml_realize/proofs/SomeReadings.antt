@@ -7,7 +7,7 @@ use Rattle.std.specs.List.{range_with_len}
 use Rattle.std.proofs.lemmas.List.FromFn.{get_or-map-range_with_len, length-map-range_with_len}
 use Rattle.ml_ctl.specs.Formula.{Formula}
 use Rattle.ml_trace.specs.declared.letters.Transition.{Transition}
-use Rattle.ml_listed_automata.proofs.Listed.{some_automaton, some_transitions}
+use Rattle.ml_word_automaton.proofs.Listed.{some_automaton, some_transitions}
 use Rattle.ml_task.specs.NameSets.{members}
 use Rattle.ml_task.specs.Task.{Task, names_of}
 use Rattle.ml_word_automaton.specs.Letters.{Automaton, HasTransitions, IsAutomatonOf}

@@ -1,4 +1,5 @@
--- The body of a document: what is written of a machine or an environment that fits is readable, and what is readable is so written.
+-- The body of a document: what is written of a machine or an environment that fits is readable, and what is readable is so
+-- written.
 --
 --   machine_body, environment_body   == the lines of one that fits are readable
 --   MachineBody, EnvironmentBody     == the lines are those of one that fits
@@ -8,17 +9,18 @@ use Rattle.std.specs.List.{AllByRecursion, enumerate_from, flat_map}
 use Rattle.ml_lines.specs.Lines.{Line, Word}
 use Rattle.ml_lines.specs.Reading.{AreWords, value, word}
 use Rattle.ml_lists.specs.Documents.{rule}
-use Rattle.ml_lists.specs.Readings.{IsReadable}
+use Rattle.ml_lists.specs.Readings.{IsReadable, Runs}
 use Rattle.ml_synthesis.specs.Machines.{EnvironmentFits, EnvironmentTable, MachineFits, MachineTable}
 use Rattle.ml_realize_text.specs.RealizeRules.{AtEnd, AtStates, Signals, at_state, realize}
 use Rattle.ml_realize_text.specs.RealizeText.{end_line, environment_lines, environment_state_lines, machine_lines, machine_state_lines, states_line}
 use Rattle.ml_realize_text.specs.private.Reads.{PlayFits, PlayRow, RowFits, environment_of, machine_of}
 use Rattle.ml_realize_text.proofs.BodyLines.{numbered_back, states_good, value_back}
 use Rattle.ml_realize_text.proofs.BodyRows.{play_lines, plays_at, plays_lead, plays_read, row_lines, rows_at, rows_lead, rows_read, rows_turn}
-use Rattle.ml_realize_text.proofs.CutLines.{IsCut, all_behind, no_empty_line}
+use Rattle.ml_realize_text.proofs.CutLines.{IsCut, no_empty_line}
+use Rattle.ml_lists.proofs.AllOf.{all_parts}
 use Rattle.ml_realize_text.proofs.InTurn.{AreRead, in_turn, read_in_turn, runs_in_turn}
 use Rattle.ml_realize_text.proofs.Places.{states_done}
-use Rattle.ml_realize_text.proofs.Runs.{Runs, runs_readable}
+use Rattle.ml_lists.proofs.Runs.{runs_readable}
 use Rattle.ml_realize_text.proofs.Tables.{environment_rows, environment_turn, lines_from, machine_rows, nexts_of, play_rows, plays_of, row_at, row_count, rows_back, rows_environment, rows_machine, table_of}
 
 -- ---- the end
@@ -100,7 +102,7 @@ module _ (left : List ℕ) (ins outs : List Word) where
           let long : n ≡ length rows.items = omega (arith, rows.long) in
           let lines = in_turn (realize left) (rows_at left ins outs n) (row_lines left ins outs n) (RowFits (length ins) (length outs) n) n 0 rows.items in
           let behind = end_read (machine_of ins outs) n left rows.rest
-          (all_behind IsCut lines rows.rest (subst (AllByRecursion IsCut) rows.all_is cut.1)) rows.readable in
+          ((all_parts IsCut lines rows.rest (subst (AllByRecursion IsCut) rows.all_is cut.1)).1) rows.readable in
           record {
             table = rows.items;
             fits =
@@ -206,7 +208,7 @@ module _ (left : List ℕ) (ins outs : List Word) where
           let count : n ≡ length (plays_of rows.items) = long ∙ sym (row_count rows.items).0 in
           let lines = in_turn (realize left) (plays_at left ins outs n) (play_lines left ins outs n) (PlayFits (length ins) (length outs) n) n 0 rows.items in
           let behind = end_read (environment_of ins outs) n left rows.rest
-          (all_behind IsCut lines rows.rest (subst (AllByRecursion IsCut) rows.all_is cut.1)) rows.readable in
+          ((all_parts IsCut lines rows.rest (subst (AllByRecursion IsCut) rows.all_is cut.1)).1) rows.readable in
           record {
             table = table_of rows.items;
             fits =

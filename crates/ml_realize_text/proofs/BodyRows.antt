@@ -1,5 +1,5 @@
--- The lines of the states of a machine, and of those of an environment: they lead from the first state to the end, and what leads
--- there is lines of states.
+-- The lines of the states of a machine, and of those of an environment: they lead from the first state to the end, and what
+-- leads there is lines of states.
 --
 --   steps_turn, replies_turn   == the lines of the sets of a state, one after the other
 --   steps_lead, replies_lead   == each leads on to the next one
@@ -13,7 +13,7 @@ use Rattle.std.specs.List.{AllByRecursion, enumerate_from, flat_map}
 use Rattle.ml_lines.specs.Lines.{Line, Word}
 use Rattle.ml_lines.specs.Reading.{AreWords, value, word}
 use Rattle.ml_lists.specs.Documents.{Format, rule}
-use Rattle.ml_lists.specs.Readings.{IsReadable}
+use Rattle.ml_lists.specs.Readings.{IsReadable, Runs}
 use Rattle.ml_synthesis.specs.declared.machines.MachineStep.{MachineStep}
 use Rattle.ml_realize_text.specs.RealizeRules.{AtReply, AtState, AtStep, Place, Signals, at_reply, at_state, at_step, realize}
 use Rattle.ml_realize_text.specs.RealizeText.{answer_line, machine_state_lines, play_line, state_line, step_line}
@@ -21,7 +21,6 @@ use Rattle.ml_realize_text.specs.private.Reads.{PlayFits, PlayRow, RowFits, Step
 use Rattle.ml_realize_text.proofs.BodyLines.{numbered_back, play_back, play_good, reply_back, reply_good, state_good, step_back, step_good}
 use Rattle.ml_realize_text.proofs.InTurn.{AreRead, LeadOn, Read, Reads, in_turn, read_in_turn, runs_in_turn}
 use Rattle.ml_realize_text.proofs.Places.{replies_done, reply_next, state_next, step_next, steps_done}
-use Rattle.ml_realize_text.proofs.Runs.{Runs}
 
 -- ---- one line for each item
 

@@ -48,7 +48,3 @@ text_of_three l m n first second third =
 pub no_empty_line : (line : Line) → IsCut line → line ≡ [] → ⊥
 no_empty_line line cut none =
     omega (arith, ap length (cut.words ∙ none), some_part is_blank (bytes_of line))
-
-pub all_behind : {X : Type 0} (P : X → Type 0) (xs ys : List X) → AllByRecursion P (xs ++ ys) → AllByRecursion P ys
-all_behind P [] ys all = all
-all_behind P (x ∷ xs) ys all = all_behind P xs ys all.1

@@ -6,11 +6,12 @@
 use Rattle.std.proofs.Common.{◌≡◌, ◌≢◌, ℕ, ◌+◌, ◌*◌, ◌<◌, ◌^◌, ◌⊎◌, List, [], ◌∷◌, ◌++◌, length, drop, get_or, codes, inl, inr, refl, sym, ap, subst, ◌∙◌, append_assoc, length-append, arith}
 use Rattle.std.proofs.lemmas.List.{append_cancel_left}
 use Rattle.ml_lines.specs.Lines.{Line, Word}
-use Rattle.ml_lines.specs.Reading.{AreWords, IsTextBehind, IsWordBehind, value, word}
-use Rattle.ml_lines.proofs.DecidedWords.{decided_line, decided_number, decided_words}
+use Rattle.ml_lines.specs.Reading.{AreWords, IsTextBehind, value, word}
+use Rattle.ml_lines.proofs.DecidedWords.{decided_behind, decided_line, decided_number, decided_words}
 use Rattle.ml_lists.specs.Readings.{Judges}
 use Rattle.ml_lists.proofs.Decided as is
 use Rattle.ml_lists.proofs.Decided.{Decided}
+use Rattle.ml_lists.proofs.Deciding.{decided_not}
 use Rattle.ml_lists.proofs.Documents.{judged}
 use Rattle.ml_task.specs.TaskText as task
 use Rattle.ml_task.proofs.JudgedLines as tasks
@@ -228,13 +229,6 @@ decided_told line =
     go (inr x) (inr y) (inl z) = inl (Undecided, z)
     go (inr x) (inr y) (inr z) = inr (λ (a, same). one x y z a same)
 
-decided_not : {P : Type 0} → Decided P → Decided (¬ P)
-decided_not (inl p) = inr (λ none. none p)
-decided_not (inr none) = inl none
-
-word_behind : (fixed : Word) (line : Line) → Decided (IsWordBehind fixed line)
-word_behind fixed line = is.decided_both (decided_words line) (decided_line line (fixed ∷ word line 1 ∷ []))
-
 text_behind : (fixed : Word) (line : Line) → Decided (IsTextBehind fixed line)
 text_behind fixed [] = inr (λ (w, ws, same). cc)
 text_behind fixed (x ∷ []) = inr (λ (w, ws, same). absurd (omega (arith, ap length same)))
@@ -252,12 +246,12 @@ judges left (AtOutputs a inputs) line = tasks.judges (task.AtOutputs inputs) lin
 judges left (AtFormula g) line = tasks.judges (task.AtFormula (g.inputs ++ g.outputs)) line
 judges left (AtStates g) line =
     judged line (rules left (AtStates g)) (
-      word_behind (codes "states") line,
+      decided_behind (codes "states") line,
       λ _. (decided_number (word line 1), λ _. (is.decided_less 0 (value (word line 1)), λ _. tt)),
     )
 judges left (AtState g n i) line =
     judged line (rules left (AtState g n i)) (
-      word_behind (codes "state") line,
+      decided_behind (codes "state") line,
       λ _. (decided_number (word line 1), λ _. (is.decided_number (value (word line 1)) i, λ _. tt)),
     )
 judges left (AtPlay g n i) line =

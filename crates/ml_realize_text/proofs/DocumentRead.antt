@@ -6,17 +6,17 @@
 --   input_words, output_words == the names of a task have bytes
 use Rattle.std.proofs.Common.{◌≡◌, ℕ, true, List, [], ◌∷◌, ◌++◌, codes, refl, sym, ap, subst, ◌∙◌}
 use Rattle.std.specs.List.{AllByRecursion, list_all}
-use Rattle.std.proofs.lemmas.Bool.{and_from, and_parts}
+use Rattle.std.proofs.lemmas.Bool.{and_parts}
 use Rattle.std.proofs.lemmas.List.Folds.{list_all-append}
 use Rattle.ml_base.specs.declared.doc_refusal.DocRefusal.{DocRefusal}
-use Rattle.ml_lines.specs.Lines.{Line, Word}
-use Rattle.ml_lines.specs.Reading.{AreWords, is_word, words_of}
-use Rattle.ml_lists.specs.Readings.{IsReadable}
+use Rattle.ml_lines.specs.Lines.{Line}
+use Rattle.ml_lines.specs.Reading.{AreWords, words_of}
+use Rattle.ml_lists.specs.Readings.{IsReadable, Runs}
 use Rattle.ml_synthesis.specs.declared.outcome.Outcome.{Outcome}
 use Rattle.ml_task.specs.Task.{IsTask, Task, is_named}
 use Rattle.ml_task.specs.TaskText as tasks
 use Rattle.ml_task.specs.TaskText.{IsTaskText, task, task_lines}
-use Rattle.ml_task.proofs.ReadableTasks.{task_readable}
+use Rattle.ml_task.proofs.ReadableTasks.{are_words, task_readable}
 use Rattle.ml_realize_text.specs.ReadText.{IsRealizeText}
 use Rattle.ml_realize_text.specs.RealizeRules.{AtInputs, AtStates, AtTitle, realize}
 use Rattle.ml_realize_text.specs.RealizeText.{end_line, lines_about, outcome_lines, title_line, told_line}
@@ -27,7 +27,7 @@ use Rattle.ml_realize_text.specs.private.Reads.{Goes, IsBodyRead, IsTaskRead, Te
 use Rattle.ml_realize_text.proofs.CutLines.{IsCut, cut_lines, text_of_three}
 use Rattle.ml_realize_text.proofs.Going.{goes_on, told_behind}
 use Rattle.ml_realize_text.proofs.HeadRead.{head_runs}
-use Rattle.ml_realize_text.proofs.Runs.{Runs, runs_on}
+use Rattle.ml_lists.proofs.Runs.{run_on}
 
 abbrev lines_of_task : Task → List ℕ → List Line
 lines_of_task t text =
@@ -69,7 +69,7 @@ module _ (at lines : Rest) (body : BodyOf) (head : Goes at (title_line ∷ told_
         told_behind AtTitle (AtStates (signals_of (answer_of body) t)) at rest
         (title_line ∷ told_line (answer_of body) ∷ lines_of_task t read.formula_text) e (goes_on head read.goes)
         (λ left.
-        runs_on (realize left) AtTitle (AtInputs (answer_of body)) (AtStates (signals_of (answer_of body) t))
+        run_on (realize left) AtTitle (AtInputs (answer_of body)) (AtStates (signals_of (answer_of body) t))
         (title_line ∷ told_line (answer_of body) ∷ []) (lines_of_task t read.formula_text) (head_runs body left)
         (task_runs lines t rest read (answer_of body) left))
         tells
@@ -90,16 +90,6 @@ module _ (at lines : Rest) (body : BodyOf) (head : Goes at (title_line ∷ told_
 
 -- ---- the names of a task have bytes
 
-some_byte : (w : Word) → is_named w ≡ true → is_word w ≡ true
-some_byte [] is = absurd (cc)
-some_byte (b ∷ bs) is = refl
-
-named_words : (ws : List Word) → list_all is_named ws ≡ true → AreWords ws
-named_words [] all = refl
-named_words (w ∷ ws) all =
-    let parts = and_parts (is_named w) (list_all is_named ws) all in
-    and_from (is_word w) (list_all is_word ws) (some_byte w parts.0) (named_words ws parts.1)
-
 module _ (t : Task) (is : IsTask t) where
   named : (list_all is_named t.inputs ≡ true) × (list_all is_named t.outputs ≡ true)
   named =
@@ -107,7 +97,7 @@ module _ (t : Task) (is : IsTask t) where
       (sym (list_all-append is_named t.inputs t.outputs) ∙ is.are_named)
 
   pub input_words : AreWords t.inputs
-  input_words = named_words t.inputs named.0
+  input_words = are_words t.inputs named.0
 
   pub output_words : AreWords t.outputs
-  output_words = named_words t.outputs named.1
+  output_words = are_words t.outputs named.1

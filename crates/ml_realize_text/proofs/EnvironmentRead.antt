@@ -21,9 +21,10 @@ use Rattle.ml_realize_text.proofs.BodyLines.{play_good, state_good, states_good,
 use Rattle.ml_realize_text.proofs.BodyRows.{play_lines, plays_at, plays_lead, replies_at, replies_lead, replies_turn, reply_lines}
 use Rattle.ml_realize_text.proofs.Going.{goes_begin, goes_on, told_behind}
 use Rattle.ml_realize_text.proofs.InTurn.{in_turn, runs_in_turn}
-use Rattle.ml_realize_text.proofs.ListedLines.{all_last, lines_more, rows_more}
+use Rattle.ml_lists.proofs.AllOf.{all_last}
+use Rattle.ml_realize_text.proofs.ListedLines.{lines_more, rows_more}
 use Rattle.ml_realize_text.proofs.Places.{reply_next, state_next, states_done}
-use Rattle.ml_realize_text.proofs.Runs.{Runs}
+use Rattle.ml_lists.specs.Readings.{Runs}
 use Rattle.ml_realize_text.proofs.Tables.{environment_rows, environment_turn, lines_from, nexts_of, play_rows, plays_of, row_at, row_count, rows_back, rows_environment, table_of}
 
 -- ---- the next states of a state

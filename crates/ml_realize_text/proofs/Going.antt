@@ -16,7 +16,8 @@ use Rattle.ml_realize_text.specs.RealizeRules.{Place, realize, rule_number}
 use Rattle.ml_realize_text.specs.private.Reads.{Breaks, Goes, HasRoom, TellsFault}
 use Rattle.ml_realize_text.specs.declared.line_rule.LineRule.{LineRule}
 use Rattle.ml_realize_text.specs.declared.rest.Rest.{Rest}
-use Rattle.ml_realize_text.proofs.Runs.{Runs, runs_bad}
+use Rattle.ml_lists.specs.Readings.{Runs}
+use Rattle.ml_lists.proofs.Runs.{runs_bad}
 
 pub goes_begin : (at : Rest) → Goes at [] at
 goes_begin at = record { lines_are = refl; left_is = refl; counted = omega arith; shorter = omega arith }

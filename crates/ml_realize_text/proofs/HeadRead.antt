@@ -12,6 +12,7 @@
 use Rattle.std.proofs.Common.{◌≡◌, ◌≢◌, ℕ, suc, ◌+◌, ◌-◌, ◌≤◌, List, [], ◌∷◌, ◌++◌, length, take, drop, codes, inl, inr, refl, sym, ap, subst, ◌∙◌, append_assoc, length-append, arith}
 use Rattle.std.specs.List.{AllByRecursion}
 use Rattle.std.proofs.lemmas.List.{append-nil}
+use Rattle.ml_lists.proofs.AllOf.{all_parts}
 use Rattle.ml_base.specs.declared.doc_fault.DocFault.{DocFault}
 use Rattle.ml_base.specs.declared.doc_refusal.DocRefusal.{DocRefusal}
 use Rattle.ml_base.specs.declared.doc_refusal.DocRefusal.TheVariants as refused
@@ -34,7 +35,7 @@ use Rattle.ml_realize_text.specs.private.Reads.{AreFirst, Breaks, Goes, IsBehind
 use Rattle.ml_realize_text.proofs.CutLines.{IsCut, bytes_of, cut_lines}
 use Rattle.ml_realize_text.proofs.Documents.{apart, told_back}
 use Rattle.ml_realize_text.proofs.Going.{goes_on, told_behind}
-use Rattle.ml_realize_text.proofs.Runs.{Runs}
+use Rattle.ml_lists.specs.Readings.{Runs}
 use Rattle.ml_realize_text.proofs.SetReads.{text_is}
 
 -- ---- the title and the answer
@@ -111,10 +112,6 @@ lines_back (l ∷ ls) all =
       ap left_of text ∙ first.1 ∙ others.1,
     )
 
-all_before : {X : Type 0} (P : X → Type 0) (xs ys : List X) → AllByRecursion P (xs ++ ys) → AllByRecursion P xs
-all_before P [] ys all = tt
-all_before P (x ∷ xs) ys all = (all.0, all_before P xs ys all.1)
-
 text_append : (ls ks : List Line) → text_of (ls ++ ks) ≡ text_of ls ++ text_of ks
 text_append [] ks = refl
 text_append (l ∷ ls) ks =
@@ -137,7 +134,7 @@ module _ (at rest : Rest) (lines : List Line) (goes : Goes at lines rest) where
       ∙ ap (λ behind. text_of lines ++ behind) (text_read rest.text.now)
 
   cut : AllByRecursion IsCut lines
-  cut = all_before IsCut lines (lines_of rest.text.now) (subst (AllByRecursion IsCut) goes.lines_are (cut_lines at.text.now))
+  cut = (all_parts IsCut lines (lines_of rest.text.now) (subst (AllByRecursion IsCut) goes.lines_are (cut_lines at.text.now))).0
 
   pub task_lines_are : (text : List ℕ)
       → text ≡ take (length at.text.now - length rest.text.now) at.text.now

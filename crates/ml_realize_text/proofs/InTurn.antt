@@ -4,7 +4,7 @@
 --
 --   in_turn lines s xs    == the lines of the items xs, the first of which has the number s
 --   runs_in_turn          == where the lines of each item lead on to the next one, those of all do
---   turn_more, fit_more   == one more item behind others
+--   turn_more             == one more item behind others
 --   Read                  == one item was read: its lines, and then the rest, which is readable
 --   AreRead               == so were all up to a number
 --   read_in_turn          == where each item is read from readable lines, all are
@@ -12,8 +12,8 @@ use Rattle.std.proofs.Common.{◌≡◌, ℕ, zero, suc, ◌+◌, ◌<◌, ◌�
 use Rattle.std.specs.List.{AllByRecursion}
 use Rattle.std.proofs.lemmas.List.{append-nil}
 use Rattle.ml_lists.specs.Documents.{Format}
-use Rattle.ml_lists.specs.Readings.{IsReadable}
-use Rattle.ml_realize_text.proofs.Runs.{Runs, runs_on}
+use Rattle.ml_lists.specs.Readings.{IsReadable, Runs}
+use Rattle.ml_lists.proofs.Runs.{run_on}
 
 module _ {Line Place Item : Type 0} (F : Format Line Place) (at : ℕ → Place) (lines : ℕ → Item → List Line)
     (Fits : Item → Type 0) (m : ℕ) where
@@ -31,7 +31,7 @@ module _ {Line Place Item : Type 0} (F : Format Line Place) (at : ℕ → Place)
       → Runs F (at s) (in_turn s xs) (at j)
   runs_in_turn lead s [] j long most fit = let e : s ≡ j = omega (arith, long) in ap at e
   runs_in_turn lead s (x ∷ xs) j long most fit =
-      runs_on F (at s) (at (s + 1)) (at j) (lines s x) (in_turn (s + 1) xs) (lead s x (omega (arith, long, most)) fit.0)
+      run_on F (at s) (at (s + 1)) (at j) (lines s x) (in_turn (s + 1) xs) (lead s x (omega (arith, long, most)) fit.0)
       (runs_in_turn lead (s + 1) xs j (omega (arith, long)) most fit.1)
 
   -- one more item behind them
@@ -43,10 +43,6 @@ module _ {Line Place Item : Type 0} (F : Format Line Place) (at : ℕ → Place)
   turn_more s (y ∷ xs) j x long =
       ap (λ ls. lines s y ++ ls) (turn_more (s + 1) xs j x (omega (arith, long)))
       ∙ sym (append_assoc (lines s y) (in_turn (s + 1) xs) (lines j x))
-
-  pub fit_more : (xs : List Item) (x : Item) → AllByRecursion Fits xs → Fits x → AllByRecursion Fits (xs ++ x ∷ [])
-  fit_more [] x all fits = (fits, tt)
-  fit_more (y ∷ xs) x all fits = (all.0, fit_more xs x all.1 fits)
 
   pub record Read (s : ℕ) (all : List Line) : Type 0 where
     pub item : Item

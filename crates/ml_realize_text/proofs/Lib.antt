@@ -1,7 +1,5 @@
 -- what is written word by word and line by line
 pub mod WrittenParts
--- lines that lead from one place of a format to another
-pub mod Runs
 -- items that stand one after the other
 pub mod InTurn
 -- words that were compared with fixed ones
@@ -38,8 +36,6 @@ pub mod OneAnswer
 pub mod OneBody
 -- a text is of one task and one outcome at most
 pub mod OneDocument
--- the canonical text of a formula stands in one line
-pub mod FormulaLines
 -- what is written is read back
 pub mod WrittenDocuments
 -- going through a text line by line

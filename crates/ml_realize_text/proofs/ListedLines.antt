@@ -1,9 +1,8 @@
 -- Lists that are read item by item, each with its place.
 --
 --   lines_more, rows_more   == the lines of one more item stand behind those of the others
---   all_last                == what is true of all items, and of one more
 use Rattle.std.proofs.Common.{◌≡◌, ℕ, ◌+◌, List, [], ◌∷◌, ◌++◌, length, map, sym, ap, ◌∙◌, append_assoc, arith}
-use Rattle.std.specs.List.{AllByRecursion, enumerate_from, flat_map}
+use Rattle.std.specs.List.{enumerate_from, flat_map}
 use Rattle.std.proofs.lemmas.List.{append-nil}
 use Rattle.ml_lines.specs.Lines.{Line}
 
@@ -22,7 +21,3 @@ module _ {X : Type 0} where
   rows_more f s j (y ∷ ys) x long =
       ap (λ ls. f (s, y) ++ ls) (rows_more f (s + 1) j ys x (omega (arith, long)))
       ∙ sym (append_assoc (f (s, y)) (flat_map f (enumerate_from (s + 1) ys)) (f (j, x)))
-
-  pub all_last : (P : X → Type 0) (xs : List X) (x : X) → AllByRecursion P xs → P x → AllByRecursion P (xs ++ x ∷ [])
-  all_last P [] x all last = (last, tt)
-  all_last P (y ∷ ys) x all last = (all.0, all_last P ys x all.1 last)

@@ -21,9 +21,10 @@ use Rattle.ml_realize_text.proofs.BodyLines.{state_good, states_good, value_back
 use Rattle.ml_realize_text.proofs.BodyRows.{row_lines, rows_at, rows_lead, rows_turn, step_lines, steps_at, steps_lead, steps_turn}
 use Rattle.ml_realize_text.proofs.Going.{goes_begin, goes_on, told_behind}
 use Rattle.ml_realize_text.proofs.InTurn.{runs_in_turn}
-use Rattle.ml_realize_text.proofs.ListedLines.{all_last, lines_more, rows_more}
+use Rattle.ml_lists.proofs.AllOf.{all_last}
+use Rattle.ml_realize_text.proofs.ListedLines.{lines_more, rows_more}
 use Rattle.ml_realize_text.proofs.Places.{state_next, states_done, step_next}
-use Rattle.ml_realize_text.proofs.Runs.{Runs}
+use Rattle.ml_lists.specs.Readings.{Runs}
 
 module _ (ins outs : List Word) (n : ℕ) where
   -- ---- the steps of a state

@@ -4,10 +4,10 @@
 --   once_new       == names that are new one after the other come once each
 --   no_member      == a word that is no name is the first member of no set
 --   one_members, one_set == the members of a set, and its words, are those of no other set below 2^n
-use Rattle.std.proofs.Common.{◌≡◌, ◌≢◌, ℕ, ◌<◌, ◌^◌, ◌/◌, ◌%◌, ◌⊎◌, Bool, true, false, ◌||◌, not, List, [], ◌∷◌, ◌++◌, length, drop, get_or, codes, inl, inr, refl, sym, ap, ◌∙◌, arith}
+use Rattle.std.proofs.Common.{◌≡◌, ◌≢◌, ℕ, ◌<◌, ◌^◌, ◌/◌, ◌%◌, ◌⊎◌, Bool, true, false, not, List, [], ◌∷◌, ◌++◌, length, drop, get_or, codes, inl, inr, refl, sym, ap, ◌∙◌, arith}
 use Rattle.std.specs.List.{list_any}
 use Rattle.std.specs.Str.{bytes_eq}
-use Rattle.std.proofs.lemmas.Bool.{and_parts, or_from, or_parts, true≢false}
+use Rattle.std.proofs.lemmas.Bool.{and_parts, not-true, or_from, or_left, or_parts, or_right, true≢false}
 use Rattle.std.proofs.lemmas.List.Folds.{list_any-append}
 use Rattle.std.proofs.lemmas.Slice.Eq.{bytes_eq-Decides}
 use Rattle.ml_lines.specs.Lines.{Word}
@@ -26,30 +26,19 @@ Once (n ∷ ns) = (is_in n ns ≡ false) × Once ns
 same_in : (n : Word) → bytes_eq n n ≡ true
 same_in n = (bytes_eq-Decides n n).1 refl
 
-or_true : (a b : Bool) → a ≡ true → (a || b) ≡ true
-or_true a b is = ap (λ x. x || b) is
-
-or_right : (a b : Bool) → b ≡ true → (a || b) ≡ true
-or_right true b is = refl
-or_right false b is = is
-
-not_true : (b : Bool) → not b ≡ true → b ≡ false
-not_true true is = absurd (cc)
-not_true false is = refl
-
 absent : (n : Word) (seen ns : List Word) → is_in n seen ≡ true → are_new seen ns ≡ true → is_in n ns ≡ false
 absent n seen [] stood new = refl
 absent n seen (w ∷ ws) stood new =
     let parts = and_parts (not (is_in w seen)) (are_new (seen ++ w ∷ []) ws) new in
     let later : is_in n (seen ++ w ∷ []) ≡ true =
-    list_any-append (bytes_eq n) seen (w ∷ []) ∙ or_true (is_in n seen) (is_in n (w ∷ [])) stood in
+    list_any-append (bytes_eq n) seen (w ∷ []) ∙ or_left (is_in n seen) (is_in n (w ∷ [])) stood in
     go (bytes_eq n w) refl parts.0 (absent n (seen ++ w ∷ []) ws later parts.1)
   where
     go : (b : Bool) → bytes_eq n w ≡ b → not (is_in w seen) ≡ true → is_in n ws ≡ false → is_in n (w ∷ ws) ≡ false
     go false other fresh rest = or_from (bytes_eq n w) (is_in n ws) other rest
     go true same fresh rest =
         let is : n ≡ w = (bytes_eq-Decides n w).0 same in
-        absurd (true≢false (sym (ap (λ v. is_in v seen) (sym is) ∙ stood) ∙ not_true (is_in w seen) fresh))
+        absurd (true≢false (sym (ap (λ v. is_in v seen) (sym is) ∙ stood) ∙ not-true (is_in w seen) fresh))
 
 pub once_new : (seen ns : List Word) → are_new seen ns ≡ true → Once ns
 once_new seen [] new = tt
@@ -57,7 +46,7 @@ once_new seen (n ∷ ns) new =
     let parts = and_parts (not (is_in n seen)) (are_new (seen ++ n ∷ []) ns) new in
     let stood : is_in n (seen ++ n ∷ []) ≡ true =
     list_any-append (bytes_eq n) seen (n ∷ [])
-    ∙ or_right (is_in n seen) (is_in n (n ∷ [])) (or_true (bytes_eq n n) false (same_in n)) in
+    ∙ or_right (is_in n seen) (is_in n (n ∷ [])) (or_left (bytes_eq n n) false (same_in n)) in
     (absent n (seen ++ n ∷ []) ns stood parts.1, once_new (seen ++ n ∷ []) ns parts.1)
 
 pub no_member : (w : Word) (ns : List Word) (t : ℕ) (ws : List Word) → is_in w ns ≡ false → w ∷ ws ≢ members ns t

@@ -2,8 +2,8 @@
 --
 --   dash_behind, members_behind == what stands behind the words of a set
 --   no_members      == where there is no name, no words are the members of a set
---   first_found, first_missing == where the first word is the first name, the others are the members of a set of the further names,
---                      or of none
+--   first_found, first_missing == where the first word is the first name, the others are the members of a set of the further
+--                      names, or of none
 --   later_found, later_missing == where it isn't, all words are, or are of none
 --   dash_is_set     == `-` is the empty set
 --   members_are_set == words of a text that isn't `-` are a set exactly where they are the members of one

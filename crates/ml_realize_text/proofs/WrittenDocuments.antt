@@ -1,26 +1,28 @@
 -- What is written of a task and an outcome is read as them.
 --
---   Plain w              == the word w has neither a blank nor an LF
 --   are_plain            == the lines of an outcome that fits are made of such words
 --   lines_of_all         == the lines of written ones, whose bytes have no LF
 --   written_reads_back   == so it is
-use Rattle.std.proofs.Common.{◌≡◌, ℕ, ◌+◌, ◌<◌, ◌≤◌, ◌^◌, ◌/◌, ◌%◌, ◌==◌, ◌||◌, Bool, true, false, nat_le}
+use Rattle.std.proofs.Common.{◌≡◌, ℕ, ◌+◌, ◌<◌, ◌≤◌, ◌^◌, ◌/◌, ◌%◌, ◌==◌, Bool, true, false, nat_le}
 use Rattle.std.proofs.Common.{List, [], ◌∷◌, ◌++◌, length, map, get_or, codes, refl, sym, ap, subst, ◌∙◌, append_assoc, if◌then◌else◌, arith}
 use Rattle.std.specs.List.{AllByRecursion, enumerate_from, flat_map, list_all}
 use Rattle.std.proofs.lemmas.Bool.{and_parts}
-use Rattle.std.proofs.lemmas.Bool.Decides.{nat_tests}
-use Rattle.std.proofs.lemmas.Fmt.{decimal_by_steps}
 use Rattle.std.proofs.lemmas.Grind.{flat_map-append}
-use Rattle.std.proofs.lemmas.List.Folds.{list_all-append, list_any-append}
+use Rattle.std.proofs.lemmas.List.Folds.{list_all-append}
 use Rattle.ml_base.specs.Name.{longest_name}
 use Rattle.ml_ctl.specs.Canonical.{canonical_text}
 use Rattle.ml_ctl.specs.Spelling.{is_proposition}
 use Rattle.ml_ctl.specs.declared.language.Language.TheVariants.{Ltl}
+use Rattle.ml_ctl.specs.Signs.{own}
+use Rattle.ml_ctl.proofs.CanonicalLines.{canonical_in_line}
 use Rattle.ml_ctl.proofs.CanonicalParsed.{canonical_parsed}
-use Rattle.ml_lines.specs.Lines.{Line, Word, line_text, number, text_of}
+use Rattle.ml_lines.specs.Lines.{Line, line_text, number, text_of}
 use Rattle.ml_lines.specs.Reading.{left_of, lines_of, words_of}
 use Rattle.ml_lines.proofs.LineFronts.{IsInLine, line_front}
-use Rattle.ml_lines.proofs.Unique.{ArePlain, IsPlain, avoids, has}
+use Rattle.ml_lines.proofs.PlainWords.{ArePlainWords, Plain, number_plain, numbered_plain, plain_append, plain_line}
+use Rattle.ml_lines.proofs.Unique.{ArePlain, IsPlain}
+use Rattle.ml_lists.proofs.AllOf.{all_both}
+use Rattle.ml_text.proofs.WithoutByte.{proposition_without}
 use Rattle.ml_lines.proofs.WrittenLines.{lines_read}
 use Rattle.ml_synthesis.specs.declared.machines.MachineStep.{MachineStep}
 use Rattle.ml_synthesis.specs.declared.outcome.Outcome.{Outcome}
@@ -35,55 +37,17 @@ use Rattle.ml_realize_text.specs.declared.answer.Answer.{Answer}
 use Rattle.ml_realize_text.specs.declared.answer.Answer.TheVariants.{Realizable, Undecided, Unrealizable}
 use Rattle.ml_realize_text.specs.private.Reads.{PlayFits, PlayRow, RowFits, StepFits}
 use Rattle.ml_realize_text.proofs.CutLines.{IsCut, bytes_of, cut_lines}
-use Rattle.ml_realize_text.proofs.FormulaLines.{canonical_in_line, proposition_without}
 use Rattle.ml_realize_text.proofs.LastWords.{words_around}
 use Rattle.ml_realize_text.proofs.Tables.{environment_rows, environment_turn, lines_from, machine_rows, nexts_of, play_rows, plays_of, row_at, row_count, rows_back, table_of}
 
 -- ---- words
-
-abbrev Plain : Word → Type 0
-Plain word = (has 32 word ≡ false) × (has 10 word ≡ false)
-
-abbrev ArePlainWords : Line → Type 0
-ArePlainWords words = AllByRecursion Plain words
-
-all_more : (xs ys : Line) → ArePlainWords xs → ArePlainWords ys → ArePlainWords (xs ++ ys)
-all_more [] ys first second = second
-all_more (x ∷ xs) ys first second = (first.0, all_more xs ys first.1 second)
-
-avoid_blanks : (ws : Line) → ArePlainWords ws → avoids 32 ws
-avoid_blanks [] all = tt
-avoid_blanks (w ∷ ws) all = (all.0.0, avoid_blanks ws all.1)
-
-avoid_ends : (ws : Line) → ArePlainWords ws → avoids 10 ws
-avoid_ends [] all = tt
-avoid_ends (w ∷ ws) all = (all.0.1, avoid_ends ws all.1)
-
-plain_line : (w : Word) (ws : Line) → ArePlainWords (w ∷ ws) → IsPlain (w ∷ ws)
-plain_line w ws all = (avoid_blanks (w ∷ ws) all, avoid_ends (w ∷ ws) all)
-
-digit_plain : (n c : ℕ) → c < 48 → (48 + n == c) ≡ false
-digit_plain n c small = grind (arith, nat_tests)
-
-has_last : (c x : ℕ) (xs : List ℕ) → has c xs ≡ false → (x == c) ≡ false → has c (xs ++ x ∷ []) ≡ false
-has_last c x xs e f =
-    list_any-append (λ y. y == c) xs (x ∷ []) ∙ ap (λ front. front || ((x == c) || false)) e ∙ ap (λ last. last || false) f
-
-number_without : (c : ℕ) → c < 48 → (n : ℕ) → n < 2 ^ 64 → has c (number n) ≡ false
-number_without c small =
-    decimal_by_steps (λ n ds. has c ds ≡ false) (λ n below. ap (λ first. first || false) (digit_plain n c small))
-    (λ n ds above front. has_last c (48 + n % 10) ds front (digit_plain (n % 10) c small))
-
-plain_number : (n : ℕ) → n < 2 ^ 32 → Plain (number n)
-plain_number n fits =
-    (number_without 32 (omega arith) n (omega (arith, fits)), number_without 10 (omega arith) n (omega (arith, fits)))
 
 plain_names : (ns : Line) → list_all is_named ns ≡ true → ArePlainWords ns
 plain_names [] all = tt
 plain_names (n ∷ ns) all =
     let parts = and_parts (is_named n) (list_all is_named ns) all in
     let named = (and_parts (is_proposition n) (nat_le (length n) longest_name) parts.0).0 in
-    ((proposition_without 32 refl n named, proposition_without 10 refl n named), plain_names ns parts.1)
+    ((proposition_without 32 refl own n named, proposition_without 10 refl own n named), plain_names ns parts.1)
 
 plain_members : (ns : Line) (s : ℕ) → ArePlainWords ns → ArePlainWords (members ns s)
 plain_members [] s all = tt
@@ -104,16 +68,9 @@ plain_set ns s all = plain_dash (members ns s) (plain_members ns s all)
 
 -- ---- lines
 
-lines_more : (ls ks : List Line) → ArePlain ls → ArePlain ks → ArePlain (ls ++ ks)
-lines_more [] ks first second = second
-lines_more (l ∷ ls) ks first second = (first.0, lines_more ls ks first.1 second)
-
-plain_numbered : (w : Word) (n : ℕ) → Plain w → n < 2 ^ 32 → IsPlain (w ∷ number n ∷ [])
-plain_numbered w n plain fits = plain_line w (number n ∷ []) (plain, (plain_number n fits, tt))
-
 module _ (ins outs : Line) (n : ℕ) (few : n < 2 ^ 32) (plain_ins : ArePlainWords ins) (plain_outs : ArePlainWords outs) where
   plain_goto : (x : ℕ) → x < n → ArePlainWords (codes "goto" ∷ number x ∷ [])
-  plain_goto x below = ((refl, refl), (plain_number x (omega (arith, below, few)), tt))
+  plain_goto x below = ((refl, refl), (number_plain x (omega (arith, below, few)), tt))
 
   plain_steps : (s : ℕ) (xs : List MachineStep)
       → AllByRecursion (StepFits (length outs) n) xs
@@ -122,10 +79,10 @@ module _ (ins outs : Line) (n : ℕ) (few : n < 2 ^ 32) (plain_ins : ArePlainWor
   plain_steps s (x ∷ xs) all = (
     plain_line (codes "on") (set_words ins s ++ (codes "give" ∷ (set_words outs x.give ++ (codes "goto" ∷ number x.next ∷ [])))) (
       (refl, refl),
-      all_more (set_words ins s) (codes "give" ∷ (set_words outs x.give ++ (codes "goto" ∷ number x.next ∷ [])))
+      all_both Plain (set_words ins s) (codes "give" ∷ (set_words outs x.give ++ (codes "goto" ∷ number x.next ∷ [])))
           (plain_set ins s plain_ins) (
             (refl, refl),
-            all_more (set_words outs x.give) (codes "goto" ∷ number x.next ∷ []) (plain_set outs x.give plain_outs)
+            all_both Plain (set_words outs x.give) (codes "goto" ∷ number x.next ∷ []) (plain_set outs x.give plain_outs)
                 (plain_goto x.next all.0.leads),
           ),
     ),
@@ -138,7 +95,7 @@ module _ (ins outs : Line) (n : ℕ) (few : n < 2 ^ 32) (plain_ins : ArePlainWor
   plain_replies s [] all = tt
   plain_replies s (x ∷ xs) all = (
     plain_line (codes "on") (set_words outs s ++ (codes "goto" ∷ number x ∷ []))
-        ((refl, refl), all_more (set_words outs s) (codes "goto" ∷ number x ∷ []) (plain_set outs s plain_outs) (plain_goto x all.0)),
+        ((refl, refl), all_both Plain (set_words outs s) (codes "goto" ∷ number x ∷ []) (plain_set outs s plain_outs) (plain_goto x all.0)),
     plain_replies (s + 1) xs all.1,
   )
 
@@ -148,8 +105,8 @@ module _ (ins outs : Line) (n : ℕ) (few : n < 2 ^ 32) (plain_ins : ArePlainWor
       → ArePlain (flat_map (machine_state_lines ins outs) (enumerate_from i rows))
   plain_rows i [] most all = tt
   plain_rows i (row ∷ rows) most all =
-      lines_more (machine_state_lines ins outs (i, row)) (flat_map (machine_state_lines ins outs) (enumerate_from (i + 1) rows))
-      (plain_numbered (codes "state") i (refl, refl) (omega (arith, most, few)), plain_steps 0 row all.0.fit)
+      plain_append (machine_state_lines ins outs (i, row)) (flat_map (machine_state_lines ins outs) (enumerate_from (i + 1) rows))
+      (numbered_plain (codes "state") i (refl, refl) (omega (arith, most, few)), plain_steps 0 row all.0.fit)
       (plain_rows (i + 1) rows (omega (arith, most)) all.1)
 
   plain_plays : (next : List (List ℕ)) (i : ℕ) (rows : List PlayRow)
@@ -158,9 +115,9 @@ module _ (ins outs : Line) (n : ℕ) (few : n < 2 ^ 32) (plain_ins : ArePlainWor
       → ArePlain (lines_from ins outs next i rows)
   plain_plays next i [] most all = tt
   plain_plays next i (row ∷ rows) most all =
-      lines_more (state_line i ∷ play_line ins row.0 ∷ map (answer_line outs) (enumerate_from 0 row.1))
+      plain_append (state_line i ∷ play_line ins row.0 ∷ map (answer_line outs) (enumerate_from 0 row.1))
       (lines_from ins outs next (i + 1) rows) (
-        plain_numbered (codes "state") i (refl, refl) (omega (arith, most, few)),
+        numbered_plain (codes "state") i (refl, refl) (omega (arith, most, few)),
         (
           plain_line (codes "play") (set_words ins row.0) ((refl, refl), plain_set ins row.0 plain_ins),
           plain_replies 0 row.1 all.0.lead,
@@ -178,7 +135,7 @@ plain_environment ins outs rows few plain_ins plain_outs all =
     let turned =
     environment_turn ins outs (nexts_of rows) 0 rows (λ k below.
     let e : 0 + k ≡ k = omega arith in ap (λ j. get_or (nexts_of rows) j []) e ∙ (row_at rows k).1) in (
-      plain_numbered (codes "states") (length (plays_of rows)) (refl, refl) (omega (arith, few, (row_count rows).0)),
+      numbered_plain (codes "states") (length (plays_of rows)) (refl, refl) (omega (arith, few, (row_count rows).0)),
       subst ArePlain (sym turned) (plain_plays ins outs (length rows) few plain_ins plain_outs (nexts_of rows) 0 rows (omega arith) all),
     )
 
@@ -192,7 +149,7 @@ module _ (t : Task) (is : IsTask t) where
 
   plain_outcome : (r : Outcome) → Fits t r → states_of r < 2 ^ 32 → ArePlain (outcome_lines t r)
   plain_outcome (outcome.Made m) fits few = (
-    plain_numbered (codes "states") (length m) (refl, refl) few,
+    numbered_plain (codes "states") (length m) (refl, refl) (omega (arith, few)),
     plain_rows t.inputs t.outputs (length m) few plain_signals.0 plain_signals.1 0 m (omega arith)
         (machine_rows (length t.inputs) (length t.outputs) m fits),
   )
@@ -247,7 +204,7 @@ written_reads_back t r is well fits few =
     let behind = outcome_lines t r ++ end_line ∷ [] in
     let body =
     lines_read behind
-    (lines_more (outcome_lines t r) (end_line ∷ []) (plain_outcome t is r fits few) (plain_line (codes "end") [] ((refl, refl), tt), tt)) in
+    (plain_append (outcome_lines t r) (end_line ∷ []) (plain_outcome t is r fits few) (plain_line (codes "end") [] ((refl, refl), tt), tt)) in
     let rest = text_of (outcome_lines t r) ++ text_of (end_line ∷ []) in
     let rest_is : rest ≡ text_of behind = sym (flat_map-append line_text (outcome_lines t r) (end_line ∷ [])) in
     let head =

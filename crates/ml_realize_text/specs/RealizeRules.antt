@@ -11,8 +11,8 @@
 --   Place                  == what stands at a line
 --   told line              == the answer that a line tells
 --   at_state g n i         == the line of the state i of n, and behind the last state `end`
---   at_step g n i s, at_reply g n i s == the line of the set s of inputs, or of outputs, in the state i, and behind the last set
---                             the next state
+--   at_step g n i s, at_reply g n i s == the line of the set s of inputs, or of outputs, in the state i, and behind the last
+--                             set the next state
 --   after place line       == what stands behind a line, if that one is good
 --   IsSet names ws         == the words are a set of the names: `-`, or some of them in their order
 --   step_words ins s ws w  == the words `on S give ws goto w`, with the set s of inputs for S

@@ -10,9 +10,9 @@
 --
 -- The body of a machine is `states n`, and for each state i a line `state i` and a line `on S give T goto j` for each set S
 -- of inputs: there it gives the set T of outputs and goes to state j. That of an environment has in each state a line
--- `play S`, the set of inputs that it sets, and a line `on T goto j` for each set T of outputs. A set is written by its names in
--- the order of the task, or as `-`, if it is empty. States and sets ascend, sets by their numbers, of which bit k stands for the
--- k-th name. The body of what is undecided is one line, `cause positions N` or `cause closure N`.
+-- `play S`, the set of inputs that it sets, and a line `on T goto j` for each set T of outputs. A set is written by its names
+-- in the order of the task, or as `-`, if it is empty. States and sets ascend, sets by their numbers, of which bit k stands for
+-- the k-th name. The body of what is undecided is one line, `cause positions N` or `cause closure N`.
 --
 --   Answer                  == realizable, unrealizable or undecided
 --   title_line, told_line a == the first line, and the second one, which tells the answer a

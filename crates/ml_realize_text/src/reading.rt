@@ -65,16 +65,17 @@ fn read_lines(alloc: Global, at: Rest) -> Result<Document, DocRefusal>
     }
 }
 
-/// The task and the outcome of which this text is the document. Any text that is parsed as the formula may stand for it. The outcome
-/// fits the task: it has its inputs and outputs, at least one state, and a line for each set.
+/// The task and the outcome of which this text is the document. Any text that is parsed as the formula may stand for it. The
+/// outcome fits the task: it has its inputs and outputs, at least one state, and a line for each set.
 ///
 /// # Errors
 /// `Fault` exactly where the bytes are the document of no task and no outcome, with the first bad line, counted from 1, and the
-/// lowest rule that it breaks: 1 where the first line isn't `mlsolver realize 1` or the second one tells no answer; 3 where that
-/// is `undecided`; 41 to 46 where one of the lines 3 to 5 is refused, as `ml_task::read` says of the three lines; 51 where a line
-/// of the body is missing or not of the kind that stands there, or something follows `end`; 52 where a number isn't spelt as numbers
-/// are, or is above 4,294,967,295; 53 where there are no states; 54 where a `state` line hasn't the next number; 55 where a set
-/// isn't `-`, or names of its line in their order; 56 where the state behind `goto` is none. A last line without its LF is missing. `NoMemory`.
+/// lowest rule that it breaks: 1 where the first line isn't `mlsolver realize 1` or the second one tells no answer; 3 where
+/// that is `undecided`; 41 to 46 where one of the lines 3 to 5 is refused, as `ml_task::read` says of the three lines; 51 where
+/// a line of the body is missing or not of the kind that stands there, or something follows `end`; 52 where a number isn't
+/// spelt as numbers are, or is above 4,294,967,295; 53 where there are no states; 54 where a `state` line hasn't the next
+/// number; 55 where a set isn't `-`, or names of its line in their order; 56 where the state behind `goto` is none. A last line
+/// without its LF is missing. `NoMemory`.
 ///
 /// Cost: linear in the bytes, on average.
 pub fn read(alloc: Global, text: &[u8]) -> Result<Document, DocRefusal>

@@ -19,7 +19,7 @@ use Rattle.ml_lines.specs.Lines.{Line, text_of}
 use Rattle.ml_lines.specs.Reading.{lines_of, left_of, words_of, fronts, is_line_end, is_blank}
 use Rattle.ml_lines.proofs.Cuts.{some_part}
 use Rattle.ml_lines.proofs.WrittenLines.{text_read}
-use Rattle.ml_lists.specs.Readings.{IsReadTo, nothing_read, line_read}
+use Rattle.ml_lists.specs.Readings.{IsReadTo, nothing_read, line_read, Runs}
 use Rattle.ml_refutation.specs.Refutation.{Refutation, Entry, Fits, IsRefutation}
 use Rattle.ml_refutation_text.specs.RefutationText.{names_line, entries_line, end_line}
 use Rattle.ml_refutation_text.specs.BodyRules.{Form}
@@ -36,7 +36,7 @@ use Rattle.ml_refutation_text.specs.declared.lines.EntryLines.{EntryLines}
 use Rattle.ml_refutation_text.specs.declared.rest.Rest.{Rest}
 use Rattle.ml_refutation_text.specs.declared.body_rule.BodyRule.TheVariants.{OfKind, HasEntries}
 use Rattle.ml_refutation_text.proofs.ReadWords.{value_back}
-use Rattle.ml_refutation_text.proofs.Runs.{Runs, run_on}
+use Rattle.ml_lists.proofs.Runs.{run_on}
 use Rattle.ml_refutation_text.proofs.GoodLines.{numbered_of, numbered_fits, names_run, entries_run, end_run}
 use Rattle.ml_refutation_text.proofs.RefutationTexts.{text_refutation}
 use Rattle.ml_refutation_text.proofs.Going.{goes_run}

@@ -30,7 +30,7 @@ use Rattle.ml_refutation_text.specs.declared.body_rule.BodyRule.{BodyRule}
 use Rattle.ml_refutation_text.specs.declared.rest.Rest.{Rest}
 use Rattle.ml_refutation_text.specs.declared.branches.Around as split
 use Rattle.ml_refutation_text.specs.declared.branches.Around.TheVariants as around
-use Rattle.ml_refutation_text.proofs.Runs.{Runs}
+use Rattle.ml_lists.specs.Readings.{Runs}
 use Rattle.ml_refutation_text.proofs.GoodLines.{split_run, decision_run}
 use Rattle.ml_refutation_text.proofs.Going.{goes_begin, goes_on, goes_run, fault_on, fault_line, room_on}
 use Rattle.ml_refutation_text.proofs.ClosedBranches.{arounds_push}

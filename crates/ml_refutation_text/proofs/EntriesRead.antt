@@ -2,7 +2,8 @@
 --
 --   entry_goes, entry_wrong      == the first line of an entry of version 1, and one with another number
 --   sequent_goes                 == the sequent of an entry of version 1
---   placed_goes, placed_wrong, placed_outside == the first line of an entry of version 2, with its number and that of its sequent
+--   placed_goes, placed_wrong, placed_outside == the first line of an entry of version 2, with its number and that of its
+--                                                sequent
 --   live_goes, live_wrong        == the names in use
 --   begun_goes                   == the lines of an entry up to its decision
 --   some_entries                 == so many entries

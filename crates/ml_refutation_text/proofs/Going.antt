@@ -13,7 +13,7 @@ use Rattle.ml_lines.specs.Lines.{Line}
 use Rattle.ml_lines.specs.Reading.{lines_of, left_of}
 use Rattle.ml_lines.proofs.Faults.{fault_here}
 use Rattle.ml_lists.specs.Documents.{IsGood, IsFirstBad}
-use Rattle.ml_lists.specs.Readings.{IsReadTo, nothing_read, line_read}
+use Rattle.ml_lists.specs.Readings.{IsReadTo, nothing_read, line_read, Runs}
 use Rattle.ml_lists.proofs.Documents.{bad_behind, read_on}
 use Rattle.ml_refutation_text.specs.BodyRules.{Place, after, body}
 use Rattle.ml_refutation_text.specs.RuleNumbers.{rule_number}
@@ -22,7 +22,6 @@ use Rattle.ml_refutation_text.specs.declared.body_rule.BodyRule.{BodyRule}
 use Rattle.ml_refutation_text.specs.declared.rest.Rest.{Rest}
 use Rattle.ml_lines.specs.declared.refusal.LineRefusal.{LineRefusal}
 use Rattle.ml_lines.specs.declared.refusal.LineRefusal.TheVariants as line
-use Rattle.ml_refutation_text.proofs.Runs.{Runs}
 
 pub goes_on : {v : Version} {p q r : Place} {at mid rest : Rest} → Goes v p at q mid → Goes v q mid r rest → Goes v p at r rest
 goes_on {v = v} {p = p} {q = q} {r = r} {at = at} {mid = mid} {rest = rest} first second = record {

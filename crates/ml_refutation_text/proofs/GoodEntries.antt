@@ -30,7 +30,7 @@ use Rattle.ml_refutation_text.specs.BodyRules.{Known, Begun, Place, AtNames, AtS
 use Rattle.ml_refutation_text.specs.BodyRules.{AtEnd, AtNothing, IsNextItem, item_kind, state_of, stack_of, at_entry, body}
 use Rattle.ml_refutation_text.specs.private.ListKinds.{heights_kind}
 use Rattle.ml_refutation_text.specs.private.ItemReads.{MayStand, SomeIn}
-use Rattle.ml_refutation_text.proofs.Runs.{run_on}
+use Rattle.ml_lists.proofs.Runs.{run_on}
 use Rattle.ml_refutation_text.proofs.ReadWords.{is_number, are_numbers, words_first, words_number, words_numbers, value_back}
 use Rattle.ml_refutation_text.proofs.ReadWords.{values_back, guess_back, guess_word_fits, guess_is_word, differ, spelt_is_word}
 use Rattle.ml_refutation_text.proofs.GoodLines.{Run, numbered_of, numbered_fits, names_fit, sequent_good, sequent_fits, names_run}

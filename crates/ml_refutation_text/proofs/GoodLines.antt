@@ -33,7 +33,8 @@ use Rattle.ml_refutation_text.specs.private.ListKinds.{sequent_kind}
 use Rattle.ml_refutation_text.specs.BodyRules.{Begun, Place, AtNames, AtSequents, AtTableSequent, AtStacks, AtTableStack, AtEntries, AtLive, AtItem, AtDecision}
 use Rattle.ml_refutation_text.specs.BodyRules.{AtEnd, AtNothing, at_sequent_table, at_stack_table, at_entry, closed, after_names, body}
 use Rattle.ml_refutation_text.specs.private.BranchReads.{FitsMark}
-use Rattle.ml_refutation_text.proofs.Runs.{Runs, run_on}
+use Rattle.ml_lists.specs.Readings.{Runs}
+use Rattle.ml_lists.proofs.Runs.{run_on}
 use Rattle.ml_refutation_text.proofs.ReadWords.{is_number, are_numbers, words_first, words_number, words_numbers, value_back, values_back, differ, spelt_is_word}
 
 -- the parts of a split are nested less deep

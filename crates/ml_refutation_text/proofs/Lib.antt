@@ -16,8 +16,6 @@ pub mod WrittenLines
 pub mod TableEntries
 -- what is written is a text of the refutation
 pub mod WrittenTexts
--- lines that are good one behind the other
-pub mod Runs
 -- what the words of written lines are read as
 pub mod ReadWords
 -- the lines of a refutation are good

@@ -20,7 +20,7 @@ use Rattle.ml_lists.proofs.Entries.{same_head}
 use Rattle.ml_refutation.specs.Refutation.{Refutation, Entry, Decision, Split, IsRefutation}
 use Rattle.ml_refutation_text.specs.BodyRules.{Form, InFull, ByTables, Known, Around, InLeft, InRight, Begun, Place, AtNames, AtSequents, AtTableSequent}
 use Rattle.ml_refutation_text.specs.BodyRules.{AtStacks, AtTableStack, AtEntries, AtEntry, AtSequent, AtLive, AtItem, AtDecision, AtEnd, AtNothing}
-use Rattle.ml_refutation_text.specs.BodyRules.{Runs, at_entry, after, after_entry, body, closed, leaf_of, state_of, stack_of, values, whole, with_item}
+use Rattle.ml_refutation_text.specs.BodyRules.{at_entry, after, after_entry, body, closed, leaf_of, state_of, stack_of, values, whole, with_item}
 use Rattle.ml_refutation_text.specs.Canonical.{IsWrittenText, written_form, used_stacks}
 use Rattle.ml_refutation_text.specs.Laws.{OneWrittenText, WrittenIsRead, WrittenIsWritten}
 use Rattle.ml_refutation_text.specs.RefutationText.{entries_line, end_line}
@@ -31,7 +31,8 @@ use Rattle.ml_refutation_text.proofs.OneForm.{IsOnceForm, one_body}
 use Rattle.ml_refutation_text.proofs.OnePlace.{each_once_once}
 use Rattle.ml_refutation_text.proofs.ReadableTexts.{readable_has_lines}
 use Rattle.ml_refutation_text.proofs.RefutationTexts.{text_lines, lines_back, one_text, text_readable}
-use Rattle.ml_refutation_text.proofs.Runs.{run_on, one_end}
+use Rattle.ml_lists.specs.Readings.{Runs}
+use Rattle.ml_lists.proofs.Runs.{run_on, one_end}
 use Rattle.ml_refutation_text.proofs.WrittenTexts.{written_body}
 
 -- ---- places behind the number of entries

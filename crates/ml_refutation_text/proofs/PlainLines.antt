@@ -1,48 +1,28 @@
 -- Lines that are good have neither a blank nor an LF in their words.
 --
---   digits_without     == digits are neither
 --   kinds_plain, place_plain == a line of a kind whose fixed words are plain is plain
 --   run_plain          == so are good lines one behind the other, where nothing may stand behind the last one
-use Rattle.std.proofs.Common.{◌≡◌, ◌==◌, ℕ, ◌<◌, ◌≤◌, Bool, true, false, nat_le, List, [], ◌∷◌, length, All, codes, refl, ap, ◌∙◌, inl, inr, arith}
-use Rattle.std.specs.Str.{all_ascii_digits}
-use Rattle.std.specs.Char.{is_ascii_digit}
-use Rattle.std.proofs.lemmas.Bool.Decides.{nat_tests}
+use Rattle.std.proofs.Common.{◌≡◌, ℕ, ◌<◌, Bool, false, List, [], ◌∷◌, length, All, codes, refl, ap, ◌∙◌, inl, inr, arith}
 use Rattle.std.proofs.lemmas.List.Elements.{All-head, All-tail}
-use Rattle.std.proofs.lemmas.Bool.{and_parts, or_from}
 use Rattle.ml_base.specs.declared.version.Version.{Version}
-use Rattle.ml_lines.specs.Lines.{Word, Line, number}
+use Rattle.ml_lines.specs.Lines.{Word, Line}
 use Rattle.ml_lines.specs.Reading.{IsNumber}
-use Rattle.ml_lines.proofs.Numbers.{digits-number}
+use Rattle.ml_lines.proofs.PlainWords.{digits_without}
+use Rattle.ml_lines.proofs.PlainWords as plain_words
 use Rattle.ml_lines.proofs.Unique.{has, avoids, IsPlain, ArePlain}
 use Rattle.ml_lists.specs.Documents.{IsGood}
 use Rattle.ml_refutation_text.specs.BodyRules.{Form, InFull, ByTables}
 use Rattle.ml_refutation_text.specs.LineKinds.{Slot, Fixed, ANumber, AGuess, AnySize, Kind, InSlot, FitsSlot, InSlots, FitSlots, IsOfKind, HasNumbers, IsOfKinds, HaveNumbers}
 use Rattle.ml_refutation_text.specs.BodyRules.{Place, AtNames, AtSequents, AtTableSequent, AtStacks, AtTableStack, AtEntries, AtEntry, AtSequent}
 use Rattle.ml_refutation_text.specs.BodyRules.{AtLive, AtItem, AtDecision, AtEnd, AtNothing, entry_kind, item_kind, after, body, kinds}
-use Rattle.ml_refutation_text.proofs.Runs.{Runs}
+use Rattle.ml_lists.specs.Readings.{Runs}
 
 -- ---- words
-
-no_digit : (c b : ℕ) → c < 48 → is_ascii_digit b ≡ true → (b == c) ≡ false
-no_digit c b small digit = go (b == c) refl
-  where
-    go : (t : Bool) → (b == c) ≡ t → (b == c) ≡ false
-    go false e = e
-    go true e =
-        let same : b ≡ c = grind (arith, nat_tests) in
-        let low = (and_parts (nat_le 48 b) (nat_le b 57) digit).0 in
-        let above : 48 ≤ b = grind (arith, nat_tests) in absurd (omega (arith, same, above, small))
-
-digits_without : (c : ℕ) → c < 48 → (w : Word) → all_ascii_digits w ≡ true → has c w ≡ false
-digits_without c small [] digits = refl
-digits_without c small (b ∷ bs) digits =
-    let parts = and_parts (is_ascii_digit b) (all_ascii_digits bs) digits in
-    or_from (b == c) (has c bs) (no_digit c b small parts.0) (digits_without c small bs parts.1)
 
 module _ (c : ℕ) (small : c < 48) (no_dash : has c (codes "-") ≡ false) where
   number_without : (w : Word) → IsNumber w → has c w ≡ false
   number_without w (n, fits, is) =
-      ap (has c) is ∙ digits_without c small (number n) (digits-number n (omega (arith, fits)))
+      ap (has c) is ∙ plain_words.number_without c small n (omega (arith, fits))
 
   -- the fixed word of a slot hasn't the byte
   abbrev pub SlotWithout : Slot → Type 0

@@ -20,7 +20,8 @@ use Rattle.ml_refutation_text.specs.BodyRules.{AtSequent, AtLive, AtItem, AtDeci
 use Rattle.ml_refutation_text.specs.Laws.{IsReadableBody}
 use Rattle.ml_refutation_text.proofs.ReadableTexts.{readable_has_lines}
 use Rattle.ml_refutation_text.specs.private.TextLines.{HasLines}
-use Rattle.ml_refutation_text.proofs.Runs.{Runs, one_end, run_readable}
+use Rattle.ml_lists.specs.Readings.{Runs}
+use Rattle.ml_lists.proofs.Runs.{one_end, run_readable}
 use Rattle.ml_refutation_text.proofs.GoodEntries.{body_run}
 use Rattle.ml_refutation_text.proofs.JudgedLines.{judges}
 use Rattle.ml_refutation_text.proofs.PlainLines.{run_plain}

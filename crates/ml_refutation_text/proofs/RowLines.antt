@@ -19,7 +19,7 @@ use Rattle.ml_refutation_text.specs.BodyRules.{Place, AtSequents, AtTableSequent
 use Rattle.ml_refutation_text.specs.private.ListKinds.{sequent_kind}
 use Rattle.ml_refutation_text.specs.private.ItemReads.{AreNames}
 use Rattle.ml_refutation_text.proofs.ReadWords.{values_back, value_back, words_first, spelt_is_word}
-use Rattle.ml_refutation_text.proofs.Runs.{Runs}
+use Rattle.ml_lists.specs.Readings.{Runs}
 use Rattle.ml_refutation_text.proofs.GoodLines.{numbered_of, numbered_fits, sequent_good, sequent_fits, stack_good, stack_fits, names_fit}
 
 -- ---- sequents: the rules are the same in both places

@@ -22,7 +22,7 @@ use Rattle.ml_refutation_text.specs.private.EntryReads.{IsSequentRead, TellsSequ
 use Rattle.ml_refutation_text.specs.declared.rest.Rest.{Rest}
 use Rattle.ml_lines.specs.declared.refusal.LineRefusal.{LineRefusal}
 use Rattle.ml_refutation_text.specs.declared.body_rule.BodyRule.{BodyRule}
-use Rattle.ml_refutation_text.proofs.Runs.{Runs}
+use Rattle.ml_lists.specs.Readings.{Runs}
 use Rattle.ml_refutation_text.proofs.RowLines.{sequents_first, sequent_row, stacks_first, stack_row}
 use Rattle.ml_refutation_text.proofs.Going.{goes_begin, goes_on, goes_run, fault_on, refused_line, room_on}
 

@@ -5,7 +5,7 @@
 --   written_body         == the written lines are those of the refutation, in the form in which it is written
 --   has_lines            == the written text has them
 --   written_is_text      == so it is a text of it
-use Rattle.std.proofs.Common.{ℕ, ◌+◌, ◌<◌, ◌≤◌, List, [], ◌∷◌, ◌++◌, length, map, All, refl, arith}
+use Rattle.std.proofs.Common.{ℕ, ◌+◌, ◌<◌, ◌≤◌, List, [], ◌∷◌, length, map, All, refl, arith}
 use Rattle.std.specs.List.{flat_map, AllByRecursion}
 use Rattle.std.proofs.lemmas.List.{length-map}
 use Rattle.std.proofs.lemmas.List.Elements.{All-nil, All-head, All-tail, All-append, All-map, All-weaker}
@@ -13,6 +13,7 @@ use Rattle.ml_base.specs.declared.version.Version.{Version}
 use Rattle.ml_base.specs.declared.version.Version.TheVariants.{One, Two}
 use Rattle.ml_lines.specs.Lines.{number}
 use Rattle.ml_lists.specs.Ascending.{IsAscending}
+use Rattle.ml_lists.proofs.AllOf.{all_parts}
 use Rattle.ml_trace.specs.declared.letters.AutomatonState.{AutomatonState}
 use Rattle.ml_trace.specs.Stack as traced
 use Rattle.ml_refutation.specs.Refutation.{Refutation, Entry, Fits, IsStack, IsItem, IsEntry, IsRefutation}
@@ -27,12 +28,6 @@ use Rattle.ml_refutation_text.proofs.StackCounts.{spells_wide, few_stacks}
 use Rattle.ml_refutation_text.proofs.TableEntries.{Has, made_has, made_all, made_length, has_inside, has_place}
 
 -- ---- both forms
-
-split_all : {X : Type 0} (P : X → Type 0) (xs ys : List X)
-    → AllByRecursion P (xs ++ ys)
-    → AllByRecursion P xs × AllByRecursion P ys
-split_all P [] ys all = (tt, all)
-split_all P (x ∷ xs) ys all = let parts = split_all P xs ys all.1 in ((all.0, parts.0), parts.1)
 
 anything : {X : Type 0} (P : X → Type 0) → ((x : X) → P x) → (xs : List X) → AllByRecursion P xs
 anything P always [] = tt
@@ -68,7 +63,7 @@ module _ (W : Writing) (F : Form) (IsHead IsUsed : List ℕ → Type 0)
       → AllByRecursion IsUsed (flat_map used_stacks es) → EntriesLines F i es (entries_lines W i es)
   entries_written i [] head used = refl
   entries_written i (e ∷ es) head used =
-      let parts = split_all IsUsed (used_stacks e) (flat_map used_stacks es) used in (
+      let parts = all_parts IsUsed (used_stacks e) (flat_map used_stacks es) used in (
         entry_lines W i e,
         entries_lines W (i + 1) es,
         entry_written i e head.0 parts.0,

@@ -21,7 +21,6 @@
 --   body v left            == the places with their rules
 --   IsFaultOf v text n f   == f tells the first bad line of the text of a body, whose first line has the number n, and
 --                             the lowest rule that it breaks
---   Runs F p ls q          == in the format F the lines ls are good from the place p on, and behind them stands q
 --   IsTextOf v text r      == the text is one of the refutation r in the version v: its lines are good, and behind the last
 --                             one stands r, at its end
 use Rattle.std.specs.Prelude.{ℕ, ◌+◌, ◌<◌, ◌≤◌, ◌≡◌, ⊤, nat_lt, List, [], ◌∷◌, ◌++◌, Option, None, Some, length, drop, map, All, codes, slice_index_or, if◌then◌else◌}
@@ -34,7 +33,8 @@ use Rattle.ml_lines.specs.Lines.{Word, Line}
 use Rattle.ml_lines.specs.Reading.{value, word, lines_of, left_of}
 use Rattle.ml_lists.specs.Ascending.{IsAscending}
 use Rattle.ml_lists.specs.Last.{last_of}
-use Rattle.ml_lists.specs.Documents.{Format, Rule, rule, IsGood}
+use Rattle.ml_lists.specs.Documents.{Format, Rule, rule}
+use Rattle.ml_lists.specs.Readings.{Runs}
 use Rattle.ml_trace.specs.declared.letters.AutomatonState.{AutomatonState}
 use Rattle.ml_trace.specs.declared.marks.Mark.{Mark}
 use Rattle.ml_trace.specs.declared.marks.Mark.TheVariants.{Red, Green, Neutral}
@@ -286,11 +286,6 @@ abbrev pub IsFaultOf : Version → List ℕ → ℕ → DocFault → Type 0
 IsFaultOf v text first fault = IsFault (body v) first AtNames text fault
 
 -- ---- texts
-
--- the lines are good from this place on, and behind them stands that one
-abbrev pub Runs : {L P : Type 0} → Format L P → P → List L → P → Type 0
-Runs F place [] behind = place ≡ behind
-Runs F place (line ∷ lines) behind = IsGood F place line × Runs F (F.after place line) lines behind
 
 pub record IsTextOf (v : Version) (text : List ℕ) (r : Refutation) : Type 0 where
   pub runs : Runs (body v []) AtNames (lines_of text) (AtNothing r)

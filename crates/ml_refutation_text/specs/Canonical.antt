@@ -17,7 +17,8 @@ use Rattle.ml_base.specs.declared.version.Version.TheVariants.{One, Two}
 use Rattle.ml_lines.specs.Lines.{Line}
 use Rattle.ml_lines.specs.Reading.{lines_of, left_of}
 use Rattle.ml_refutation.specs.Refutation.{Refutation, Entry}
-use Rattle.ml_refutation_text.specs.BodyRules.{Form, InFull, ByTables, AtNames, AtEntries, AtNothing, body, Runs}
+use Rattle.ml_refutation_text.specs.BodyRules.{Form, InFull, ByTables, AtNames, AtEntries, AtNothing, body}
+use Rattle.ml_lists.specs.Readings.{Runs}
 
 abbrev pub with_new : List (List ℕ) → List ℕ → List (List ℕ)
 with_new known x = if list_any (bytes_eq x) known then known else known ++ x ∷ []

@@ -11,7 +11,7 @@ use Rattle.std.proofs.lemmas.Bool.{cases_Bool, cond-true, cond-false}
 use Rattle.std.proofs.lemmas.List.{length-map}
 use Rattle.ml_lists.specs.Member.{IsMember}
 use Rattle.ml_graph.specs.Graph.{Graph, size}
-use Rattle.ml_history.proofs.plain_step.PlainStep.{ascending_length}
+use Rattle.ml_history.proofs.definition.SmallHistories.{ascending_length}
 use Rattle.ml_parity.specs.Solution.{GameSolution}
 use Rattle.ml_product.specs.Arena.{Arena}
 use Rattle.ml_product.specs.Position.{Position, with_chosen}

@@ -1,6 +1,5 @@
 -- Items and local traces that are found by their node, in lists that rise by it.
 --
---   members_at       == behind all entries with lower keys, and before all with higher ones, stand those with the key
 --   rise_by_node     == the items of an entry rise by their nodes
 --   among_at         == an item comes along a trace from some of the items at its source exactly where from some of all
 --   traced_at        == an item is traced back along the traces to its node exactly where it is along all
@@ -9,18 +8,16 @@
 --   reached_node, unreached_node == some trace leads to a node exactly where those to it aren't none
 --   item_nodes_stand, item_nodes_inside == the nodes at which items stand, as a set
 --   told_sorted      == what is told of traces is told of them in another order
-use Rattle.std.proofs.Common.{◌≡◌, ◌↔◌, ◌⊎◌, ℕ, zero, suc, ◌+◌, ◌<◌, ◌≤◌, Bool, true, false, ◌&&◌, ◌||◌, ◌==◌, nat_lt, nat_eq, ltb, leb, List, [], ◌∷◌}
-use Rattle.std.proofs.Common.{Option, None, Some, All, length, get_or, take, drop, map, IsTrue, inl, inr, refl, sym, ◌∙◌, subst, arith}
-use Rattle.std.specs.List.{AllWithin, list_any}
-use Rattle.std.specs.List.Sorted.{IsPartitionPoint}
-use Rattle.std.proofs.lemmas.Bool.{ltb-true, ltb-false, leb-true, leb-false, eqb-true, eq-eqb, true≢false}
+use Rattle.std.proofs.Common.{◌≡◌, ◌↔◌, ℕ, zero, suc, ◌+◌, ◌<◌, ◌≤◌, Bool, true, false, ◌&&◌, ◌||◌, ◌==◌, nat_lt, nat_eq, List, [], ◌∷◌}
+use Rattle.std.proofs.Common.{Option, None, Some, All, length, get_or, map, IsTrue, inl, refl, sym, subst, arith}
+use Rattle.std.specs.List.{list_any}
+use Rattle.std.proofs.lemmas.Bool.{eqb-true, eq-eqb, true≢false}
 use Rattle.std.proofs.lemmas.Bool.Decides.{nat_tests}
-use Rattle.std.proofs.lemmas.List.{take-append-drop, get_or-take, get_or-drop, length-take-le, length-drop}
 use Rattle.std.proofs.lemmas.List.Sorted.{IsNonDecreasingBy-from_all_adjacent}
 use Rattle.ml_lists.specs.Member.{IsMember}
 use Rattle.ml_lists.specs.Ascending.{ascending}
 use Rattle.ml_lists.proofs.Ascending.{ascending-member, member-ascending}
-use Rattle.ml_lists.proofs.Member.{All-member, member-All, member-map, member-map_from, member-place, member-append, member-append_left, member-append_right, member-filter, member-filter_from, list_any-member, member-list_any}
+use Rattle.ml_lists.proofs.Member.{All-member, member-All, member-map, member-map_from, member-filter, member-filter_from, list_any-member, member-list_any}
 use Rattle.ml_trace.specs.declared.letters.AutomatonState.{AutomatonState}
 use Rattle.ml_trace.specs.declared.letters.Triple.{Triple}
 use Rattle.ml_trace.specs.Stack as traced
@@ -28,73 +25,6 @@ use Rattle.ml_refutation.specs.declared.refutation.Item.{Item}
 use Rattle.ml_refutation.specs.Refutation.{AreAbove, guess_before}
 use Rattle.ml_refutation.specs.Views.{item_of}
 use Rattle.ml_refute_check.specs.private.Sources.{stack_of, SourceAmong, HasSource, IsNameTraced, IsItemTraced, LeadInto, StandAmong, RiseByNode, IsReached, led}
-
--- ---- entries with one key
-
-module _ {X : Type 0} where
-  -- what holds within the front of a list holds of its members, and so for the back
-  front_all : (P : X → Type 0) (xs : List X) (i : ℕ)
-      → i ≤ length xs
-      → AllWithin P xs 0 i
-      → (x : X)
-      → IsMember x (take i xs)
-      → P x
-  front_all P xs i le all x m =
-      let p = member-place x (take i xs) m in
-      let low : p.place < i = let b = p.below in let l = length-take-le i xs le in omega arith in
-      subst P (sym (get_or-take i xs p.place x low) ∙ p.holds x) (all p.place x (omega arith) low)
-
-  back_all : (P : X → Type 0) (xs : List X) (i : ℕ)
-      → i ≤ length xs
-      → AllWithin P xs i (length xs)
-      → (x : X)
-      → IsMember x (drop i xs)
-      → P x
-  back_all P xs i le all x m =
-      let p = member-place x (drop i xs) m in
-      let low : i + p.place < length xs = let b = p.below in let l = length-drop i xs in omega arith in
-      subst P (sym (get_or-drop i xs p.place x) ∙ p.holds x) (all (i + p.place) x (omega arith) low)
-
-  front_member : (x : X) (xs : List X) (i : ℕ) → IsMember x (take i xs) → IsMember x xs
-  front_member x xs i m = subst (IsMember x) (take-append-drop i xs) (member-append_left x (take i xs) (drop i xs) m)
-
-  back_member : (x : X) (xs : List X) (i : ℕ) → IsMember x (drop i xs) → IsMember x xs
-  back_member x xs i m = subst (IsMember x) (take-append-drop i xs) (member-append_right x (take i xs) (drop i xs) m)
-
-  cut_member : (x : X) (xs : List X) (i : ℕ) → IsMember x xs → IsMember x (take i xs) ⊎ IsMember x (drop i xs)
-  cut_member x xs i m = member-append x (take i xs) (drop i xs) (subst (IsMember x) (sym (take-append-drop i xs)) m)
-
-  pub members_at : (n : X → ℕ) (xs rest : List X) (q i j : ℕ)
-      → rest ≡ drop i xs
-      → i ≤ length xs
-      → IsPartitionPoint (λ x. ltb (n x) q ≡ true) (λ x. ltb (n x) q ≡ false) xs i
-      → j ≤ length rest
-      → IsPartitionPoint (λ x. leb (n x) q ≡ true) (λ x. leb (n x) q ≡ false) rest j
-      → (x : X)
-      → IsMember x (take j rest) ↔ (IsMember x xs × (n x ≡ q))
-  members_at n xs rest q i j is le one le' two x = (
-    λ m. (back_member x xs i (subst (IsMember x) is (front_member x rest j m)), here m),
-    λ h. behind_lower h.1 (cut_member x xs i h.0),
-  )
-    where
-      here : IsMember x (take j rest) → n x ≡ q
-      here m =
-          let most = leb-true (n x) q (front_all (λ y. leb (n y) q ≡ true) rest j le' two.0 x m) in
-          let least = ltb-false (n x) q (back_all (λ y. ltb (n y) q ≡ false) xs i le one.1 x
-          (subst (IsMember x) is (front_member x rest j m))) in
-          omega arith
-
-      before_higher : n x ≡ q → IsMember x (take j rest) ⊎ IsMember x (drop j rest) → IsMember x (take j rest)
-      before_higher e (inl m) = m
-      before_higher e (inr m) =
-          let high = leb-false (n x) q (back_all (λ y. leb (n y) q ≡ false) rest j le' two.1 x m) in
-          absurd (omega arith)
-
-      behind_lower : n x ≡ q → IsMember x (take i xs) ⊎ IsMember x (drop i xs) → IsMember x (take j rest)
-      behind_lower e (inl m) =
-          let low = ltb-true (n x) q (front_all (λ y. ltb (n y) q ≡ true) xs i le one.0 x m) in
-          absurd (omega arith)
-      behind_lower e (inr m) = before_higher e (cut_member x rest j (subst (IsMember x) (sym is) m))
 
 -- ---- items by their nodes
 

@@ -320,7 +320,8 @@ impl<'a> Checker<'a> {
         Ok(found)
     }
 
-    /// Whether leaving the entry by this step, to an entry with targets of it alone, is bad, and the lowest rule that it breaks.
+    /// Whether leaving the entry by this step, to an entry with targets of it alone, is bad, and the lowest rule that it
+    /// breaks.
     fn check_step(
         &self,
         place: usize,

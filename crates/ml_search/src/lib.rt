@@ -7,10 +7,11 @@
 //   limit. `solved_game` gives the game itself with its solution, and `shown` what it shows.
 // - `seek` is the search alone, for tests and measurements.
 //
-// Three searches make candidates, of which nothing is proved: that for words (`ml_search_frames`), that for weak threads
-// (`ml_search_focus`), and that for any graph (`ml_search_rounds`). A check lets them out: a structure by claims that are
-// looked through, or else by the checking game (`checking_models`), a refutation by the rules of acceptance
-// (`checking_refutations`). So whatever the engines do, an answer is right (`specs/Found.antt`).
+// Four searches make candidates, of which nothing is proved: that for words (`ml_search_frames`), that for weak threads
+// (`ml_search_focus`), that for other threads, in copies of the graph (`ml_search_copies`), and that for any graph
+// (`ml_search_rounds`). A check lets them out: a structure by claims that are looked through, or else by the checking game
+// (`checking_models`), a refutation by the rules of acceptance (`checking_refutations`). So whatever the engines do, an answer
+// is right (`specs/Found.antt`).
 //
 // Below stand the engines, the decision game (`ml_product`) with what is made of it (`ml_extract`, `ml_refute`), graphs and the
 // checking game (`ml_graph`), its cheap check (`ml_witness`), and the checker of refutations (`ml_refute_check`).

@@ -18,6 +18,8 @@ use ml_candidates::Candidate;
 use ml_graph::ModalGraph;
 use ml_kripke::Model;
 use ml_refutation::{Entry, Lists};
+use ml_search_cores::steps_of;
+use ml_search_focus::{Sought, seek as seek_by_focus};
 use std::alloc::Global;
 
 /// A structure that passes its check; `None` where it doesn't.
@@ -80,13 +82,31 @@ fn sought_by_frames(
     }
 }
 
-/// What is found where threads are weak.
+/// What is found in copies, where the thread of this node splits, if there is such a one.
+fn sought_by_copies(
+    alloc: Global,
+    graph: &ModalGraph,
+    splits: Option<u32>,
+    limit: u32,
+) -> Result<Option<Found>, NoMemory>
+    ensures { IfOk result (λ found. IfSome found (IsFound graph.now)) }
+{
+    match ml_search_copies::candidate(alloc, graph, splits, limit)? {
+        Some(candidate) => checked(alloc, graph, candidate),
+        None => Ok(None),
+    }
+}
+
+/// What is found where threads are weak, and else in copies.
 fn sought_by_focus(alloc: Global, graph: &ModalGraph, limit: u32) -> Result<Option<Found>, NoMemory>
     ensures { IfOk result (λ found. IfSome found (IsFound graph.now)) }
 {
-    match ml_search_focus::candidate(alloc, graph, limit)? {
-        Some(candidate) => checked(alloc, graph, candidate),
-        None => Ok(None),
+    let trial = seek_by_focus(alloc, graph, steps_of(limit))?;
+    match trial.sought {
+        Sought::Found(candidate) => checked(alloc, graph, candidate),
+        Sought::NotWeak => sought_by_copies(alloc, graph, None, limit),
+        Sought::Splits(n) => sought_by_copies(alloc, graph, Some(n), limit),
+        Sought::GaveUp => Ok(None),
     }
 }
 

@@ -10,6 +10,9 @@ use ml_sequent::ClashCause;
 use ml_sequent_solver::{Clash, FOR_GOOD, Tree, Why};
 use ml_trace::Mark;
 
+/// So many nodes that are looked at one after the other count as one step.
+const LOOKED: usize = 16;
+
 /// Where a branch is closed.
 #[derive(Clone, Copy)]
 pub(crate) enum Rest {
@@ -384,6 +387,10 @@ impl<'a> Knowledge<'a> {
     /// Follows why a node that stands can't hold, to an or-node neither of whose sides can.
     fn close_dead(&mut self, node: u32, making: &mut Making) -> Result<bool, NoMemory> {
         let mut at = self.standing_dead(node);
+        if at != node {
+            let steps = self.terms.size as usize / LOOKED;
+            self.spend(steps);
+        }
         for _ in 0..self.terms.size {
             match (self.solver.branch.facts.why(at), self.terms.node(at)) {
                 (Why::Child(child), _) => at = child,

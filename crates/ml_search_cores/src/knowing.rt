@@ -8,6 +8,11 @@ use std::alloc::Global;
 /// How many steps of the solver are made for each position of the limit.
 const STEPS: u64 = 4096;
 
+/// How many steps of the solver go with a limit of positions.
+pub fn steps_of(limit: u32) -> u64 {
+    STEPS.saturating_mul(limit as u64)
+}
+
 /// What is known of a graph: its terms, a solver with cores, and whose cores they are.
 #[derive(Drop)]
 pub struct Knowledge<'a> {
@@ -65,10 +70,10 @@ pub(crate) fn write_copies(
 }
 
 impl<'a> Knowledge<'a> {
-    /// Nothing is known yet, also not of the graph.
+    /// Nothing is known yet, also not of the graph, and so many steps may be made.
     ///
     /// Cost: constant.
-    pub fn empty(alloc: Global, graph: &'a ModalGraph, limit: u32) -> Knowledge<'a> {
+    pub fn empty(alloc: Global, graph: &'a ModalGraph, steps: u64) -> Knowledge<'a> {
         Knowledge {
             terms: Terms::empty(alloc, graph),
             solver: Solver::empty(alloc),
@@ -80,7 +85,7 @@ impl<'a> Knowledge<'a> {
             copies: Vec::new(alloc),
             set: NumberSet::empty(alloc),
             part: NumberSet::empty(alloc),
-            fuel: STEPS.saturating_mul(limit as u64),
+            fuel: steps,
         }
     }
 
@@ -99,6 +104,11 @@ impl<'a> Knowledge<'a> {
     /// As much may be done as at first.
     pub fn refuel(&mut self) {
         self.solver.branch.fuel = self.fuel;
+    }
+
+    /// How many steps were made, since the beginning or since as much may be done as at first.
+    pub fn spent(&self) -> u64 {
+        self.fuel.saturating_sub(self.solver.branch.fuel)
     }
 
     /// Is nothing more to be done?

@@ -21,4 +21,4 @@ mod refutations;
 mod settling;
 
 pub use concluding::Concluded;
-pub use knowing::{Knowledge, lies_within};
+pub use knowing::{Knowledge, lies_within, steps_of};

@@ -3,9 +3,9 @@ use crate::blocking::Call;
 use crate::leaves::{Leaf, is_thread_step, write_leaf};
 use crate::pairs::Pairs;
 use crate::sequents::Sequents;
+use crate::trials::{Sought, Trial};
 use ml_arrays::{NONE, NumberSet, small};
 use ml_base::NoMemory;
-use ml_candidates::Candidate;
 use ml_graph::ModalGraph;
 use ml_search_cores::{Concluded, Knowledge};
 use ml_sequent_solver::{Outcome, Terms};
@@ -24,6 +24,8 @@ pub(crate) struct Engine<'a> {
     cleaned: usize,
     /// The sequents that are required, in the order in which they are met.
     required: NumberSet,
+    /// A thread that goes to two nodes along a diamond, or `NONE`.
+    splits: u32,
 }
 
 /// What came of a thread at a sequent.
@@ -53,30 +55,58 @@ enum Verdict {
 
 impl<'a> Engine<'a> {
     /// Nothing is known yet.
-    pub(crate) fn empty(alloc: Global, graph: &'a ModalGraph, limit: u32) -> Engine<'a> {
+    pub(crate) fn empty(alloc: Global, graph: &'a ModalGraph, steps: u64) -> Engine<'a> {
         Engine {
-            known: Knowledge::empty(alloc, graph, limit),
+            known: Knowledge::empty(alloc, graph, steps),
             sequents: Sequents::empty(alloc),
             pairs: Pairs::empty(alloc),
             calls: Vec::new(alloc),
             later: Vec::new(alloc),
             cleaned: 0,
             required: NumberSet::empty(alloc),
+            splits: NONE,
         }
     }
 
     /// The search, if the graph is one of those.
-    pub(crate) fn run(&mut self) -> Result<Option<Candidate>, NoMemory> {
+    pub(crate) fn run(&mut self) -> Result<Trial, NoMemory> {
         self.known.terms.fill()?;
         let traces = &self.known.terms.traces;
         if !traces.is_weak || traces.has_local_cycles {
-            return Ok(None);
+            return Ok(Trial {
+                sought: Sought::NotWeak,
+                spent: 0,
+            });
         }
         self.known.fill()?;
-        match self.search()? {
-            Verdict::Satisfiable => self.model(),
-            Verdict::Refuted => self.known.refutation(),
-            _ => Ok(None),
+        let verdict = self.search()?;
+        let searched = self.known.spent();
+        let sought = self.answer(verdict)?;
+        Ok(Trial {
+            sought,
+            spent: searched.saturating_add(self.made(verdict)),
+        })
+    }
+
+    /// How much was done to make what may be an answer.
+    fn made(&self, verdict: Verdict) -> u64 {
+        match verdict {
+            Verdict::Satisfiable | Verdict::Refuted => self.known.spent(),
+            _ => 0,
+        }
+    }
+
+    /// What the search came to.
+    fn answer(&mut self, verdict: Verdict) -> Result<Sought, NoMemory> {
+        let made = match verdict {
+            Verdict::Satisfiable => self.model()?,
+            Verdict::Refuted => self.known.refutation()?,
+            _ => None,
+        };
+        match made {
+            Some(candidate) => Ok(Sought::Found(candidate)),
+            None if self.splits != NONE => Ok(Sought::Splits(self.splits)),
+            None => Ok(Sought::GaveUp),
         }
     }
 
@@ -239,8 +269,12 @@ impl<'a> Engine<'a> {
             labels: Vec::new(alloc),
             gos: Vec::new(alloc),
         };
-        let fits = write_leaf(&self.known, &mut self.sequents, sequent, &mut leaf)?;
-        Ok(if fits { Some(leaf) } else { None })
+        self.splits = write_leaf(&self.known, &mut self.sequents, sequent, &mut leaf)?;
+        Ok(if self.splits == NONE {
+            Some(leaf)
+        } else {
+            None
+        })
     }
 
     /// Seeks to end a thread of a sequent, within more and more steps.

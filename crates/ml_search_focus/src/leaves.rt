@@ -135,24 +135,24 @@ fn write_gos(
     Ok(())
 }
 
-/// Writes where the threads of the sequent go; tells whether each goes to one node at most along each diamond.
+/// Writes where the threads of the sequent go; the first one that goes to two nodes along a diamond, or `NONE`.
 fn write_threads(
     t: &Terms,
     solver: &Solver,
     nodes: &[u32],
     gos: &mut [Go],
-) -> Result<bool, NoMemory> {
+) -> Result<u32, NoMemory> {
     let mut seen = Vec::new(t.alloc);
     let mut ends = Vec::new(t.alloc);
     for n in nodes {
         if t.component(*n) != 0 {
             write_walk(t, solver, *n, &mut seen, &mut ends)?;
             if !push_threads(t, *n, &ends, gos)? {
-                return Ok(false);
+                return Ok(*n);
             }
         }
     }
-    Ok(true)
+    Ok(NONE)
 }
 
 fn push_threads(t: &Terms, n: u32, ends: &[u32], gos: &mut [Go]) -> Result<bool, NoMemory> {
@@ -164,14 +164,14 @@ fn push_threads(t: &Terms, n: u32, ends: &[u32], gos: &mut [Go]) -> Result<bool,
     Ok(true)
 }
 
-/// Writes the leaf at which the branch stands, for a sequent; tells whether each of its threads goes to one node at most along
-/// each diamond.
+/// Writes the leaf at which the branch stands, for a sequent; the first of its threads that goes to two nodes along a diamond,
+/// or `NONE`.
 pub(crate) fn write_leaf(
     known: &Knowledge,
     sequents: &mut Sequents,
     sequent: u32,
     leaf: &mut Leaf,
-) -> Result<bool, NoMemory> {
+) -> Result<u32, NoMemory> {
     let (t, solver) = (&known.terms, &known.solver);
     solver.branch.write_labels(t, &mut leaf.labels)?;
     write_gos(t, solver, sequents, &mut leaf.gos)?;

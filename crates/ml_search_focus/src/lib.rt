@@ -1,7 +1,7 @@
 // A search for models and refutations of graphs whose threads are weak, with any number of diamonds, of which nothing is
 // claimed.
 //
-// `candidate` makes what may be an answer about a graph in which each bad trace stays at last in a part of the graph that no
+// `seek` makes what may be an answer about a graph in which each bad trace stays at last in a part of the graph that no
 // good one can stay in, as in those of most of CTL, PDL, the modal mu-calculus and CTL*; `ml_search` checks it before it lets
 // it out. So no clause says what this crate makes: it is proved that it is safe and that it ends.
 //
@@ -22,24 +22,21 @@ mod leaves;
 mod models;
 mod pairs;
 mod sequents;
+mod trials;
 
 use crate::engines::Engine;
 use ml_base::NoMemory;
-use ml_candidates::Candidate;
 use ml_graph::ModalGraph;
 use std::alloc::Global;
+pub use trials::{Sought, Trial};
 
-/// A candidate for an answer; `None` where the graph isn't one of those, or the search gives up.
+/// Seeks an answer within so many steps of the solver. `ml_search_cores::steps_of` says how many go with a limit.
 ///
 /// # Errors
 /// `NoMemory` alone.
 ///
-/// Cost: a fixed multiple of the limit in steps of the solver.
-pub fn candidate(
-    alloc: Global,
-    graph: &ModalGraph,
-    limit: u32,
-) -> Result<Option<Candidate>, NoMemory> {
-    let mut engine = Engine::empty(alloc, graph, limit);
+/// Cost: at most so many steps to search, and as many to make what may be an answer.
+pub fn seek(alloc: Global, graph: &ModalGraph, steps: u64) -> Result<Trial, NoMemory> {
+    let mut engine = Engine::empty(alloc, graph, steps);
     engine.run()
 }

@@ -4,7 +4,7 @@ use ml_arrays::{NONE, ascend, row};
 use ml_base::NoMemory;
 use ml_candidates::Candidate;
 use ml_graph::{ModalGraph, Node};
-use ml_search_cores::Knowledge;
+use ml_search_cores::{Knowledge, steps_of};
 use ml_sequent_solver::Outcome;
 use std::alloc::Global;
 
@@ -56,7 +56,7 @@ impl<'a> Engine<'a> {
     /// Nothing is known yet.
     pub(crate) fn empty(alloc: Global, graph: &'a ModalGraph, limit: u32) -> Engine<'a> {
         Engine {
-            known: Knowledge::empty(alloc, graph, limit),
+            known: Knowledge::empty(alloc, graph, steps_of(limit)),
             path: Path::empty(alloc),
             stack: Vec::new(alloc),
             later: Vec::new(alloc),

@@ -12,7 +12,8 @@
 --   targets_are, targets_told == the nodes to which those of the spread lead out are the targets
 --   traces_are_from, along_from == and the triples from some nodes of the sequent are the traces that begin there
 --   step_of         == the targets, with the traces from all nodes of the sequent, are a step
---   lone_traces     == where a node leads to the nodes of a list alone, and no priority is below its own, their exits are its traces
+--   lone_traces     == where a node leads to the nodes of a list alone, and no priority is below its own, their exits are its
+--                      traces
 --   lone_ok         == so they are where a sequent is one node
 use Rattle.std.proofs.Common.{ℕ, ◌≡◌, ◌+◌, ◌<◌, ◌≤◌, ◌⊎◌, inl, inr, ⊎_elim, ◌↔◌, ◌==◌, min, true, List, [], ◌∷◌, ◌++◌, map, length}
 use Rattle.std.proofs.Common.{get_or, take, Option, Some, None, refl, sym, ap, ◌∙◌, subst, arith, append_assoc, append-nil, All, Result, Ok, Err, IfOk}

@@ -5,7 +5,7 @@
 // tree of choices all of whose ends clash, with what it used of the sequent. Nothing is said of the answers: who uses them
 // checks what comes of them. It is proved that queries are safe and that they end.
 //
-// - `Terms` is what depends on the graph alone.
+// - `Terms` is what depends on the graph alone, and `Part` some of its nodes with their strong components.
 // - `Branch` is the spread of a sequent under choices, with what follows; it grows by unit propagation and is taken back.
 //   Cores (`Core`) are watched by two of their nodes.
 // - `Solver` asks queries: choices by activity, analysis of clashes, jumps back past choices that don't matter.
@@ -29,6 +29,7 @@ mod watching;
 pub use branches::{Branch, Clash, Facts, Targets, Why};
 pub use cores::{Core, Cores, FOR_GOOD, OFF};
 pub use marks::Marks;
+pub use parts::Part;
 pub use solver::{Outcome, Solver};
 pub use terms::Terms;
 pub use threads::Threads;

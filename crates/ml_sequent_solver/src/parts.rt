@@ -26,14 +26,16 @@ pub(crate) fn write_references(graph: &ModalGraph, written: &mut Digraph) -> Res
 
 /// The nodes that are kept, with the edges between them.
 #[derive(Drop)]
-pub(crate) struct Part {
+pub struct Part {
     edges: Digraph,
     components: Components,
 }
 
 impl Part {
     /// No node.
-    pub(crate) fn empty(alloc: Global) -> Part {
+    ///
+    /// Cost: constant.
+    pub fn empty(alloc: Global) -> Part {
         Part {
             edges: Digraph::empty(alloc),
             components: Components::empty(alloc),
@@ -41,12 +43,12 @@ impl Part {
     }
 
     /// Takes these nodes, with edges that are modal ones or not.
-    pub(crate) fn take(
-        &mut self,
-        graph: &ModalGraph,
-        keep: &[bool],
-        modal: bool,
-    ) -> Result<(), NoMemory> {
+    ///
+    /// # Errors
+    /// `NoMemory` alone.
+    ///
+    /// Cost: linear in the graph.
+    pub fn take(&mut self, graph: &ModalGraph, keep: &[bool], modal: bool) -> Result<(), NoMemory> {
         self.edges.clear();
         for (node, keeps) in graph.nodes().iter().zip(keep) {
             if *keeps {
@@ -67,17 +69,17 @@ impl Part {
     }
 
     /// The strong component of a node.
-    pub(crate) fn component(&self, n: u32) -> u32 {
+    pub fn component(&self, n: u32) -> u32 {
         number(&self.components.of, n)
     }
 
     /// How many components there are.
-    pub(crate) fn count(&self) -> usize {
+    pub fn count(&self) -> usize {
         self.components.ends.len()
     }
 
     /// Does the node lie on a closed walk?
-    pub(crate) fn is_on_cycle(&self, n: u32) -> bool {
+    pub fn is_on_cycle(&self, n: u32) -> bool {
         self.components.is_on_cycle(&self.edges, n)
     }
 }

@@ -20,7 +20,7 @@ pub struct Threads {
     head: Vec<u32>,
     /// Each closed walk in a component passes its priority, and no node is in two.
     pub is_weak: bool,
-    /// Some node of an odd priority lies on a closed walk without modal steps.
+    /// Some node of an odd priority lies on a closed walk without modal steps, through nodes of no lower priority.
     pub has_local_cycles: bool,
     keep: Vec<bool>,
     has: Vec<bool>,
@@ -67,7 +67,6 @@ impl Threads {
         for odd in &odds {
             self.search_one(graph, rank, part, *odd)?;
         }
-        self.look_for_cycles(graph, rank, part)?;
         self.find_heads(graph)
     }
 
@@ -95,7 +94,7 @@ impl Threads {
                 self.is_weak = false;
             }
         }
-        Ok(())
+        self.look_for_cycles(graph, rank, part, odd)
     }
 
     /// Keeps what is reached and has this priority or more.
@@ -148,17 +147,18 @@ impl Threads {
         Ok(())
     }
 
-    /// Looks for closed walks without modal steps.
+    /// Looks for closed walks without modal steps whose lowest priority is this one.
     fn look_for_cycles(
         &mut self,
         graph: &ModalGraph,
         rank: &[u32],
         part: &mut Part,
+        odd: u32,
     ) -> Result<(), NoMemory> {
-        self.keep_reached(graph, rank, 0);
+        self.keep_reached(graph, rank, odd);
         part.take(graph, &self.keep, false)?;
         for n in 0..graph.size() {
-            if priority(graph, n) % 2 == 1 && part.is_on_cycle(n) {
+            if priority(graph, n) == odd && part.is_on_cycle(n) {
                 self.has_local_cycles = true;
             }
         }

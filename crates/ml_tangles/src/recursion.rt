@@ -1,7 +1,7 @@
 // The counted recursion (Zielonka, Infinite games on finitely coloured graphs, 1998), with its frames on a list.
 //
-// Each vertex has the depth of the innermost frame to which it belongs: so the vertices of a frame are those of its list that are
-// at least as deep as it.
+// Each vertex has the depth of the innermost frame to which it belongs: so the vertices of a frame are those of its list that
+// are at least as deep as it.
 use crate::arena::{Arena, Guess};
 use ml_base::NoMemory;
 use ml_game_check::numbers::{NONE, number, put};

@@ -41,11 +41,11 @@ new_append seen (x ∷ xs) ys =
     and_assoc false b c = refl
 
 -- a name has a byte
-some_byte : (w : Word) → is_named w ≡ true → is_word w ≡ true
+pub some_byte : (w : Word) → is_named w ≡ true → is_word w ≡ true
 some_byte [] is = absurd (cc)
 some_byte (b ∷ bs) is = refl
 
-are_words : (ws : Line) → list_all is_named ws ≡ true → list_all is_word ws ≡ true
+pub are_words : (ws : Line) → list_all is_named ws ≡ true → list_all is_word ws ≡ true
 are_words [] all = refl
 are_words (w ∷ ws) all =
     let parts = and_parts (is_named w) (list_all is_named ws) all in

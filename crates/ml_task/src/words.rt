@@ -15,7 +15,6 @@ use indexmap::IndexSet;
 use ml_base::{LONGEST_NAME, Name, NoMemory};
 use ml_ctl::Term;
 use ml_lines::split_word;
-use ml_nodes::add_proposition;
 use ml_text::{constant_of, is_lower, is_word_byte};
 use std::alloc::Global;
 
@@ -87,7 +86,7 @@ pub(crate) fn add_names(seen: &mut IndexSet<Name>, names: &[Name]) -> Result<boo
         if seen.contains(name) {
             return Ok(false);
         }
-        add_proposition(seen, name)?;
+        seen.insert(name.copy()?)?;
     }
     Ok(true)
 }

@@ -1,6 +1,5 @@
 // Histories: steps that were worked out by hand.
 use ml_base::NoMemory;
-use ml_history::plain::PlainHistory;
 use ml_history::tree::TreeHistory;
 use ml_history::{History, Mark};
 use ml_trace::{Letter, Transition};
@@ -114,17 +113,7 @@ fn worked_steps(rt: HostRuntime) -> Result<(), Fail> {
     Ok(())
 }
 
-// Is the first step taken as it should be, where the history is a list of states with their stacks?
-fn is_plain_step(alloc: Global, letter: &Letter) -> Result<bool, NoMemory> {
-    let (next, mark) = PlainHistory::start(alloc, 5)?.step(letter)?;
-    let last = next
-        .items()
-        .last()
-        .map(|item| (item.state(), item.stack().len()));
-    Ok(mark == Mark::Neutral && next.live() == 2 && last == Some((6, 2)))
-}
-
-// The same where it is a tree.
+// Is the first step taken as it should be, where the history is a tree?
 fn is_tree_step(alloc: Global, letter: &Letter) -> Result<bool, NoMemory> {
     let (next, mark) = TreeHistory::start(alloc, 5)?.step(letter)?;
     let are_there = are_stacks(&next.stacks()?, &[(5, &[0]), (6, &[0, 1])]);
@@ -132,9 +121,8 @@ fn is_tree_step(alloc: Global, letter: &Letter) -> Result<bool, NoMemory> {
 }
 
 #[test]
-fn other_forms(rt: HostRuntime) -> Result<(), Fail> {
+fn on_a_tree(rt: HostRuntime) -> Result<(), Fail> {
     let letter = letter(rt.alloc(), FIRST)?;
-    assert!(rt; is_plain_step(rt.alloc(), &letter)?);
     assert!(rt; is_tree_step(rt.alloc(), &letter)?);
     Ok(())
 }

@@ -1,7 +1,6 @@
-// Small games worked out by hand: who wins by the two solvers.
+// Small games worked out by hand: who wins.
 use crate::game_of_rows;
 use ml_base::NoMemory;
-use ml_parity::plain::solve_plain;
 use ml_parity::{Game, Player, Solution, solve};
 use std::alloc::Global;
 use std::test::Fail;
@@ -13,7 +12,7 @@ const E: Player = Player::Even;
 
 const O: Player = Player::Odd;
 
-// A game, its winners, and the choices of both solvers.
+// A game, its winners, and the choices of the solver.
 type Worked = (&'static [Row], &'static [Player], &'static [u64]);
 
 const WORKED: [Worked; 13] = [
@@ -65,15 +64,14 @@ fn is(solution: &Solution, winner: &[Player], choice: &[u64]) -> bool {
     solution.winner.as_slice() == winner && solution.choice.as_slice() == choice
 }
 
-// Do both solvers find these winners and choices?
+// Does the solver find these winners and choices?
 fn is_solved(
     alloc: Global,
     game: &Game,
     winner: &[Player],
     choice: &[u64],
 ) -> Result<bool, NoMemory> {
-    let plainly = is(&solve_plain(alloc, game)?, winner, choice);
-    Ok(plainly && is(&solve(alloc, game)?, winner, choice))
+    Ok(is(&solve(alloc, game)?, winner, choice))
 }
 
 // The place of the first game that is solved otherwise.
@@ -88,7 +86,7 @@ fn first_wrong(alloc: Global, rows: &[Worked]) -> Result<Option<usize>, Fail> {
 }
 
 #[test]
-fn both_solvers_on_small_games(rt: HostRuntime) -> Result<(), Fail> {
+fn small_games(rt: HostRuntime) -> Result<(), Fail> {
     assert_eq!(rt; first_wrong(rt.alloc(), &WORKED)?, None);
     Ok(())
 }

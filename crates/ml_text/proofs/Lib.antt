@@ -68,3 +68,5 @@ pub mod ReservedWords
 pub mod FreeWords
 -- signs, those of all logics and those that a logic adds
 pub mod NamedSigns
+-- bytes that stand in no word
+pub mod WithoutByte

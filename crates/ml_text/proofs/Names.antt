@@ -1,6 +1,5 @@
 -- Names with their kinds.
 --
---   all_both, all_parts       == what holds of all names of two lists holds of all of both together, and the other way round
 --   spelled_both, spelled_parts, spelled_all == names that are spelled as they must be, in two lists and one by one
 --   of_kind_append            == the names of a kind of two lists
 --   kind_append               == to add those of two lists is to add those of the one and then those of the other
@@ -14,6 +13,7 @@ use Rattle.std.proofs.Common.{◌≡◌, ℕ, ◌+◌, ◌≤◌, Bool, true, fa
 use Rattle.std.specs.List.{AllByRecursion, list_any}
 use Rattle.std.proofs.lemmas.Bool.{and_from, and_parts}
 use Rattle.std.proofs.lemmas.List.Folds.{list_all-append}
+use Rattle.ml_lists.proofs.AllOf.{all_parts}
 use Rattle.ml_text.specs.NameLists.{with_names}
 use Rattle.ml_text.specs.Names.{Kind, Proposition, Variable, Action, KindedName, AreShort, IsShortName, are_spelled, is_kind, is_spelled_name, of_kind}
 use Rattle.ml_text.specs.Bytes.{is_upper}
@@ -27,15 +27,6 @@ use Rattle.ml_text.proofs.NamedSigns.{IsSpelledSign}
 use Rattle.ml_text.proofs.WordNames.{name_length}
 
 -- ---- what holds of all
-
-module _ {A : Type 0} (P : A → Type 0) where
-  pub all_both : (xs ys : List A) → AllByRecursion P xs → AllByRecursion P ys → AllByRecursion P (xs ++ ys)
-  all_both [] ys all also = also
-  all_both (x ∷ xs) ys all also = (all.0, all_both xs ys all.1 also)
-
-  pub all_parts : (xs ys : List A) → AllByRecursion P (xs ++ ys) → AllByRecursion P xs × AllByRecursion P ys
-  all_parts [] ys all = (tt, all)
-  all_parts (x ∷ xs) ys all = let rest = all_parts xs ys all.1 in ((all.0, rest.0), rest.1)
 
 pub short_parts : (xs ys : List KindedName) → AreShort (xs ++ ys) → AreShort xs × AreShort ys
 short_parts xs ys all = all_parts IsShortName xs ys all

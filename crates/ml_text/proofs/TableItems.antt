@@ -4,6 +4,8 @@
 --   one_by        == the first sign may need that it is chosen
 --   signs_all     == what holds of the sign of each token holds of all signs
 --   signs_spelt   == where a token's sign follows from its bytes, the signs follow from the tokens with their bytes
+--   count_from t c ss == the occurrences that the signs count, the first of them in the context c
+--   counted_items == the items of a text count what its signs do
 --   IsShort s     == the token s is no word that is longer than a name may be
 --   short_word    == no word that is short enough is one
 --   no_long       == where all tokens are short, no item is a name that is too long
@@ -13,6 +15,8 @@
 --   open_most     == no more are open anywhere
 --   opens_items   == the items have as many as their tokens
 use Rattle.std.proofs.Common.{◌≡◌, ℕ, zero, suc, ◌+◌, ◌-◌, ◌≤◌, Bool, true, false, ◌&&◌, nat_lt, List, [], ◌∷◌, length, map, take, cond, refl, sym, ◌∙◌, ap, arith, ltb-true}
+use Rattle.std.proofs.lemmas.Bool.{false_from_ne_true}
+use Rattle.std.proofs.lemmas.List.Sums.{sum_by-cons}
 use Rattle.std.specs.List.{AllByRecursion}
 use Rattle.ml_base.specs.Name.{longest_name}
 use Rattle.ml_text.specs.declared.limits.Bracket.{Bracket}
@@ -20,8 +24,8 @@ use Rattle.ml_text.specs.declared.limits.Bracket.TheVariants.{Opening, Closing, 
 use Rattle.ml_text.specs.declared.token.Placed.{Placed}
 use Rattle.ml_text.specs.declared.token.Token.TheVariants as token
 use Rattle.ml_text.specs.declared.token.WordStart.{WordStart}
-use Rattle.ml_text.specs.Items.{SignTable, is_word, is_long_word, bytes_of, items_from}
-use Rattle.ml_text.specs.Refusals.{Item, signs_of, is_long_at, open_from, open_behind_one}
+use Rattle.ml_text.specs.Items.{SignTable, is_word, is_long_word, bytes_of, item_at, items_from}
+use Rattle.ml_text.specs.Refusals.{Item, counted, signs_of, is_long_at, open_from, open_behind_one}
 use Rattle.ml_text.specs.Spelling.{AreTokens}
 use Rattle.ml_text.proofs.Scans.{Spelt, spelt_at}
 use Rattle.ml_text.proofs.WordNames.{token_size}
@@ -51,6 +55,21 @@ signs_spelt t spelt text same c [] = refl
 signs_spelt t spelt text same c (p ∷ ps) =
     let later = signs_spelt t spelt text same (t.behind (t.sign_at text p)) ps in
     (λ k. same p k ∷ later k)
+
+-- ---- occurrences
+
+abbrev pub count_from : {Sign Context : Type 0} → SignTable Sign Context → Context → List Sign → ℕ
+count_from t c [] = 0
+count_from t c (s ∷ ss) = t.weight c s + count_from t (t.behind s) ss
+
+pub counted_items : {Sign Context : Type 0} (t : SignTable Sign Context) (text : List ℕ) (c : Context) (ps : List Placed)
+    → counted (items_from t text c ps) ≡ count_from t c (signs_of (items_from t text c ps))
+counted_items t text c [] = refl
+counted_items {Sign} t text c (p ∷ ps) =
+    let here =
+    sum_by-cons (λ (i : Item Sign). i.weight) (item_at t text c p) (items_from t text (t.behind (t.sign_at text p)) ps) in
+    let later = counted_items t text (t.behind (t.sign_at text p)) ps in
+    omega (arith, here, later)
 
 -- ---- names that are too long
 
@@ -93,13 +112,9 @@ pub signs_short : {Sign Context : Type 0} (t : SignTable Sign Context) (P : Sign
     → AllByRecursion P (signs_of (items_from t text c ps))
 signs_short t P w text each i c [] are none = tt
 signs_short t P w text each i c (p ∷ ps) are none = (
-  each p (not_long (is_long_word p) (none 0)) (token_size text p (omega (arith, are.0.some)) are.0.fits),
+  each p (false_from_ne_true (is_long_word p) (none 0)) (token_size text p (omega (arith, are.0.some)) are.0.fits),
   signs_short t P w text each p.end (t.behind (t.sign_at text p)) ps are.1 (λ k long. none (suc k) long),
 )
-  where
-    not_long : (b : Bool) → (b ≡ true → ⊥) → b ≡ false
-    not_long true never = absurd (never refl)
-    not_long false never = refl
 
 -- ---- parentheses
 

@@ -8,8 +8,8 @@
 // Begin with `Notation`, what a logic tells the reader: its signs, the forms of its operands, its operators, and how a tree
 // is made. `read` then reads a text of it, in one pass, within the limits; which of `Refusals` a text meets is proved
 // once, in `proofs/Exact`. `next_token` is the first token at or behind an offset; `constant_of` knows the words that all
-// logics reserve, and `operator_level` how tight their connectives bind. The module `laws` has the theorems on tokens:
-// the longest one is taken, and the tokens of a text cover it.
+// logics reserve, `operator_level` how tight their connectives bind, and `infix` how these are written. The module `laws`
+// has the theorems on tokens: the longest one is taken, and the tokens of a text cover it.
 //
 // Below stands `ml_base` (names, refusals); above stand the parsers of the logics.
 #![tactic(auto)]
@@ -32,7 +32,7 @@ pub use forms::{Frame, Mode, Role, Turn};
 pub use limits::{Bracket, MOST_OCCURRENCES, MOST_OPEN};
 pub use named_signs::{OwnSign, Sign, bracket_of, kind_of, sign_of};
 pub use notation::Notation;
-pub use operators::operator_level;
+pub use operators::{infix, operator_level};
 pub use reading::{Reading, read};
 pub use token::{Operator, Placed, Token, WordStart, next_token};
 pub use words::constant_of;

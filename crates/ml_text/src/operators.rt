@@ -1,6 +1,6 @@
 // The connectives of formulas, which all logics share.
-ghost use Rattle.std.specs.Prelude.{◌≡◌};
-ghost use Rattle.ml_text.specs.Operators.{operator_level};
+ghost use Rattle.std.specs.Prelude.{◌≡◌, ◌++◌, codes};
+ghost use Rattle.ml_text.specs.Operators.{operator_level, spelling_of};
 
 use crate::token::Operator;
 
@@ -13,5 +13,17 @@ pub fn operator_level(operator: Operator) -> u8
         Operator::Implies => 1,
         Operator::Or => 2,
         Operator::And => 3,
+    }
+}
+
+/// A connective as it stands between its operands: its spelling, with a blank on each side.
+pub fn infix(operator: Operator) -> &'static [u8]
+    ensures { result.now ≡ codes " " ++ spelling_of operator ++ codes " " }
+{
+    match operator {
+        Operator::And => b" & ",
+        Operator::Or => b" | ",
+        Operator::Implies => b" -> ",
+        Operator::Iff => b" <-> ",
     }
 }

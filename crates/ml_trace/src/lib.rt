@@ -22,5 +22,5 @@ mod marks;
 mod numbering;
 
 pub use letters::{AutomatonState, Letter, LocalTraces, STATE_LIMIT, Transition, Triple};
-pub use marks::Mark;
+pub use marks::{Mark, priority_of};
 pub use numbering::{letter_of, number, state_of};

@@ -1,13 +1,10 @@
 -- The literals in the graph of a formula's block name propositions of the formula.
 --
 --   named_within == the names in what stands in a formula are names of the formula
---   Kind p       == p is a block, or the True that blocks share, or a constant or proposition beside one
---   kinds        == so is each node that is reached
 --   known_literals == the literals name propositions of the formula
-use Rattle.std.proofs.Common.{ℕ, ◌≡◌, ◌+◌, ◌<◌, inl, inr, arith, Bool, true, false, not, List, [], ◌∷◌, Option, Some, None, slice_get, refl, sym, ap, ◌∙◌, subst}
+use Rattle.std.proofs.Common.{ℕ, ◌≡◌, ◌+◌, ◌<◌, inl, inr, arith, Bool, true, false, not, List, [], ◌∷◌, Some, slice_get, refl, sym, ap, ◌∙◌, subst}
 use Rattle.std.specs.Bool.{beq}
 use Rattle.std.specs.List.{AllByRecursion}
-use Rattle.std.proofs.lemmas.Bool.{false≢true}
 use Rattle.std.proofs.lemmas.Option.{slice_get-get_or}
 use Rattle.ml_lists.specs.Member.{IsMember}
 use Rattle.ml_lists.proofs.Entries.{some_entry}
@@ -18,22 +15,18 @@ use Rattle.ml_text.proofs.NameLists.{added_names, is_among, place_found}
 use Rattle.ml_graph.specs.Graph.{Graph, node_at, prop_at, size}
 use Rattle.ml_graph.specs.declared.node.Node.{Node}
 use Rattle.ml_graph.specs.declared.node.Node.TheVariants as node
-use Rattle.ml_nodes.specs.ClosureGraph.{HasForm, IsNumberOf, IsNumberedBy, IsReached, at_root, behind, children, And, Or, Diamond}
+use Rattle.ml_nodes.specs.ClosureGraph.{HasForm, IsNumberOf, IsNumberedBy, behind}
 use Rattle.ml_nodes.specs.Nodes.{constant}
 use Rattle.ml_ctl.specs.Formula.{Formula}
 use Rattle.ml_ctl.specs.FormulaNames.{names}
 use Rattle.ml_ctl.specs.Sorts.{is_linear}
-use Rattle.ml_blocks.specs.Items.{Item, Row, OfState, Waits, Becomes, Either, now, row}
-use Rattle.ml_blocks.specs.ItemSets.{eventualities, next_items, put_all, without}
-use Rattle.ml_blocks.specs.Places.{Place, Form, Holding, first_open, focus_behind, form_of, form_of_item, forms, is_wait, path_of}
-use Rattle.ml_blocks.proofs.BlockSteps.{block, block_form, edge_form_of, path, path_is}
-use Rattle.ml_blocks.proofs.ItemSetMembers.{next_items-all_of}
-use Rattle.ml_blocks.proofs.ItemsFollow.{itself_within}
-use Rattle.ml_blocks.proofs.ItemsWithin.{IsOf, StandsAt, same_key, within_stands, here, under_not, under_tense, at_left, at_right}
+use Rattle.ml_blocks.specs.Items.{Item}
+use Rattle.ml_blocks.specs.Places.{Place, Form, Holding, form_of, forms}
+use Rattle.ml_blocks.proofs.ItemsWithin.{StandsAt, here, under_not, under_tense, at_left, at_right}
 use Rattle.ml_blocks.proofs.ItemsWithin as within
-use Rattle.ml_blocks.proofs.LocalRuns.{Of, Takes, after_of, next_of_of, none_open, open_now, some_open}
 use Rattle.ml_word_automaton.specs.WordAutomaton.{IsBlockGraph}
-use Rattle.ml_word_automaton.proofs.AtomItems.{IsAtom, atom_of}
+use Rattle.ml_word_automaton.proofs.AtomItems.{IsAtom}
+use Rattle.ml_word_automaton.proofs.BlockShapes.{Shape, Kind, beside, block_at, edge, either, first_item, kinds, of_atom, of_block, shape_of, twice}
 use Rattle.ml_word_automaton.proofs.MarkedStates.{inside}
 use Rattle.ml_translate.specs.Translation.{props_of}
 use Rattle.ml_translate.proofs.CubeWalks.{KnowsLiterals}
@@ -84,124 +77,19 @@ listed f p m =
 
 module _ (f : Formula) (sign : Bool) (linear : is_linear f ≡ true) where
   abbrev first : Item
-  first = now 0 f sign
+  first = first_item f sign
 
   abbrev at : List Item → ℕ → Place
-  at xs k = path first true xs k
-
-  data Shape (form : Form) : Type 0 where
-    edge : (zs : List Item) (k : ℕ) → Of first zs → form ≡ Diamond (at zs k) → Shape form
-    beside : (n : ℕ) (h : Formula) (b : Bool) (zs : List Item) (k : ℕ)
-        → IsAtom h
-        → AreWithin f h
-        → Of first zs
-        → form ≡ And (Holding n h b) (at zs k)
-        → Shape form
-    twice : (zs : List Item) (k : ℕ) → Of first zs → form ≡ And (at zs k) (at zs k) → Shape form
-    either : (ys zs : List Item) (k : ℕ) → Of first ys → Of first zs → form ≡ Or (at ys k) (at zs k) → Shape form
-
-  opened : (xs : List Item) (k : ℕ) (x : Item)
-      → Of first xs
-      → first_open xs ≡ Some x
-      → (r : Row)
-      → row x ≡ r
-      → Shape (form_of_item (block first true xs k) x r)
-  opened xs k x of is OfState e =
-      let of_x = of x (some_open xs x is).0 in
-      beside x.number x.formula (beq x.positive true) (without x xs) k
-      (atom_of 0 f sign linear x of_x e)
-      (named_within 0 f x.number x.formula (within_stands 0 f sign _ of_x).stands)
-      (after_of first xs x [] of is (subst (λ r. Takes r []) (sym e) refl))
-      (ap (And (Holding x.number x.formula (beq x.positive true))) (path_is first true xs k (without x xs) k))
-  opened xs k x of is Waits e =
-      absurd (false≢true (sym (open_now x (some_open xs x is).1).1 ∙ ap is_wait e))
-  opened xs k x of is (Becomes ys) e =
-      let zs = put_all ys (without x xs) in
-      twice zs k (after_of first xs x ys of is (subst (λ r. Takes r ys) (sym e) refl))
-      (ap (λ p. And p p) (path_is first true xs k zs k))
-  opened xs k x of is (Either ys ws) e =
-      let left = put_all ys (without x xs) in
-      let right = put_all ws (without x xs) in
-      either left right k
-      (after_of first xs x ys of is (subst (λ r. Takes r ys) (sym e) (inl refl)))
-      (after_of first xs x ws of is (subst (λ r. Takes r ws) (sym e) (inr refl)))
-      (ap (λ p. Or p (path_of (block first true xs k) right k)) (path_is first true xs k left k)
-      ∙ ap (Or (at left k)) (path_is first true xs k right k))
-
-  shape_of : (y : Item) (ys : List Item) (k : ℕ) → Of first (y ∷ ys) → Shape (form_of (at (y ∷ ys) k))
-  shape_of y ys k of = by_open (first_open (y ∷ ys)) refl
-    where
-      by_open : (o : Option Item) → first_open (y ∷ ys) ≡ o → Shape (form_of (at (y ∷ ys) k))
-      by_open None none =
-          edge (next_items (y ∷ ys)) (focus_behind (eventualities first) k (y ∷ ys))
-          (next_items-all_of (IsOf first) (same_key first) (y ∷ ys)
-          (λ z i. next_of_of first z (of z i) (none_open (y ∷ ys) none z i)))
-          (edge_form_of first true (y ∷ ys) k y (inl refl) none)
-      by_open (Some x) is =
-          subst Shape (sym (block_form first true (y ∷ ys) k x is)) (opened (y ∷ ys) k x of is (row x) refl)
-
-  data Kinds (p : Place) : Type 0 where
-    of_block : (xs : List Item) (k : ℕ) → Of first xs → p ≡ at xs k → Kinds p
-    of_atom : (n : ℕ) (h : Formula) (b : Bool) → IsAtom h → AreWithin f h → p ≡ Holding n h b → Kinds p
-
-  from_shape : (form : Form) (p : Place) → Shape form → IsMember p (children form) → Kinds p
-  from_shape form p (edge zs k of e) m = by_child (subst (λ x. IsMember p (children x)) e m)
-    where
-      by_child : IsMember p (at zs k ∷ []) → Kinds p
-      by_child (inl is) = of_block zs k of is
-      by_child (inr none) = absurd none
-  from_shape form p (beside n h b zs k atom named of e) m = by_child (subst (λ x. IsMember p (children x)) e m)
-    where
-      by_child : IsMember p (Holding n h b ∷ at zs k ∷ []) → Kinds p
-      by_child (inl is) = of_atom n h b atom named is
-      by_child (inr (inl is)) = of_block zs k of is
-      by_child (inr (inr none)) = absurd none
-  from_shape form p (twice zs k of e) m = by_child (subst (λ x. IsMember p (children x)) e m)
-    where
-      by_child : IsMember p (at zs k ∷ at zs k ∷ []) → Kinds p
-      by_child (inl is) = of_block zs k of is
-      by_child (inr (inl is)) = of_block zs k of is
-      by_child (inr (inr none)) = absurd none
-  from_shape form p (either ys zs k of_ys of_zs e) m = by_child (subst (λ x. IsMember p (children x)) e m)
-    where
-      by_child : IsMember p (at ys k ∷ at zs k ∷ []) → Kinds p
-      by_child (inl is) = of_block ys k of_ys is
-      by_child (inr (inl is)) = of_block zs k of_zs is
-      by_child (inr (inr none)) = absurd none
-
-  atom_alone : (n : ℕ) (h : Formula) (b : Bool) (p : Place)
-      → IsAtom h
-      → IsMember p (children (form_of (Holding n h b)))
-      → ⊥
-  atom_alone n h b p (inl (c, is)) m = subst (λ x. IsMember p (children (form_of (Holding n x b)))) is m
-  atom_alone n h b p (inr (name, is)) m = subst (λ x. IsMember p (children (form_of (Holding n x b)))) is m
-
-  from_kind : (q p : Place) → Kinds q → IsMember p (children (form_of q)) → Kinds p
-  from_kind q p (of_block [] k of e) m = absurd (subst (λ x. IsMember p (children (form_of x))) e m)
-  from_kind q p (of_block (y ∷ ys) k of e) m =
-      from_shape (form_of (at (y ∷ ys) k)) p (shape_of y ys k of) (subst (λ x. IsMember p (children (form_of x))) e m)
-  from_kind q p (of_atom n h b atom named e) m =
-      absurd (atom_alone n h b p atom (subst (λ x. IsMember p (children (form_of x))) e m))
-
-  abbrev start : Place
-  start = at (first ∷ []) 0
-
-  of_first : Of first (first ∷ [])
-  of_first v (inl is) = subst (IsOf first) (sym is) (itself_within 0 f sign)
-  of_first v (inr none) = absurd none
-
-  kinds : (p : Place) → IsReached forms start p → Kinds p
-  kinds _ at_root = of_block (first ∷ []) 0 of_first refl
-  kinds p (behind q _ reached m) = from_kind q p (kinds q reached) m
+  at xs k = block_at f sign xs k
 
   -- ---- by numbers
 
   module _ (g : Graph) (places : List Place) (N : IsNumberedBy forms g (at (first ∷ []) 0) places) where
     -- no block is a literal
-    no_literal : (v : Node) (form : Form) (k : ℕ) (b : Bool) → Shape form → HasForm g places v form → v ≡ node.Lit k b → ⊥
+    no_literal : (v : Node) (form : Form) (k : ℕ) (b : Bool) → Shape f sign form → HasForm g places v form → v ≡ node.Lit k b → ⊥
     no_literal v form k b (edge zs j of e) h t =
         let h2 = subst (HasForm g places v) e h in let wrong = sym t ∙ h2.3 in absurd (cc)
-    no_literal v form k b (beside i h' c zs j atom named of e) h t =
+    no_literal v form k b (beside i h' c zs j atom stands of e) h t =
         let h2 = subst (HasForm g places v) e h in let wrong = sym t ∙ h2.4 in absurd (cc)
     no_literal v form k b (twice zs j of e) h t =
         let h2 = subst (HasForm g places v) e h in let wrong = sym t ∙ h2.4 in absurd (cc)
@@ -230,7 +118,7 @@ module _ (f : Formula) (sign : Bool) (linear : is_linear f ≡ true) where
         (named (Proposition, name) (subst (λ x. IsMember (Proposition, name) (names x)) (sym is) (inl refl)))
 
     literal_named : (n k : ℕ) (b : Bool) → node_at g n ≡ node.Lit k b → IsMember (Proposition, prop_at g k) (names f)
-    literal_named n k b t = by_kind known.0 known.1 (kinds known.0 (((N.is_closure).are_reached known.0).0 (member_of_get places n known.0 known.1)))
+    literal_named n k b t = by_kind known.0 known.1 (kinds f sign linear known.0 (((N.is_closure).are_reached known.0).0 (member_of_get places n known.0 known.1)))
       where
         low : n < size g
         low = inside g n (λ is. let wrong = sym t ∙ is in absurd (cc))
@@ -238,15 +126,15 @@ module _ (f : Formula) (sign : Bool) (linear : is_linear f ≡ true) where
         known : (p : Place) × IsNumberOf places n p
         known = let many = N.one_each in let below = low in some_entry places n (omega arith)
 
-        by_kind : (p : Place) → IsNumberOf places n p → Kinds p → IsMember (Proposition, prop_at g k) (names f)
+        by_kind : (p : Place) → IsNumberOf places n p → Kind f sign p → IsMember (Proposition, prop_at g k) (names f)
         by_kind p e (of_block [] j of is) =
             absurd (no_constant (node_at g n) true k b
             (subst (λ x. HasForm g places (node_at g n) (form_of x)) is (N.has_forms n p e)) t)
         by_kind p e (of_block (y ∷ ys) j of is) =
-            absurd (no_literal (node_at g n) (form_of (at (y ∷ ys) j)) k b (shape_of y ys j of)
+            absurd (no_literal (node_at g n) (form_of (at (y ∷ ys) j)) k b (shape_of f sign linear y ys j of)
             (subst (λ x. HasForm g places (node_at g n) (form_of x)) is (N.has_forms n p e)) t)
-        by_kind p e (of_atom i h c atom named is) =
-            atom_named (node_at g n) i h c k b atom named
+        by_kind p e (of_atom i h c atom stands is) =
+            atom_named (node_at g n) i h c k b atom (named_within 0 f i h stands)
             (subst (λ x. HasForm g places (node_at g n) (form_of x)) is (N.has_forms n p e)) t
 
 pub known_literals : (f : Formula) (negated : Bool) (g : Graph)

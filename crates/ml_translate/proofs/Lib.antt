@@ -26,7 +26,5 @@ pub mod WrittenTexts
 pub mod SomePlaces
 -- places make edges
 pub mod SomeEdges
--- each formula has a word automaton
-pub mod SomeStates
 -- an automaton is written, or there is a reason why not
 pub mod SomeTranslations

@@ -4,13 +4,12 @@
 --   some_edges   == the places make edges
 --   some_made    == so there is an automaton with these edges
 use Rattle.std.proofs.Common.{ℕ, ◌≡◌, ◌<◌, ◌≤◌, ◌⊎◌, ◌↔◌, ◌==◌, inl, inr, arith, true, nat_eq, List, [], ◌∷◌, length, map, get_or, refl, sym, ◌∙◌, subst}
-use Rattle.std.specs.Bool.{Decides}
 use Rattle.std.specs.List.{flat_map, range_with_len}
-use Rattle.std.proofs.lemmas.Bool.{cases_eq, cases_lt, eqb-true}
-use Rattle.std.proofs.lemmas.Cmp.{nat_eq_equiv}
+use Rattle.std.proofs.lemmas.Bool.{cases_eq, cases_lt}
 use Rattle.std.proofs.lemmas.List.{get_or_past}
 use Rattle.std.proofs.lemmas.List.FromFn.{get_or-map-range_with_len, length-map-range_with_len}
 use Rattle.std.proofs.lemmas.Option.{get_or_from_slice_get}
+use Rattle.std.proofs.lemmas.Bool.Decides.{Decides-eqb}
 use Rattle.ml_lists.specs.Member.{IsMember}
 use Rattle.ml_lists.proofs.FirstEntries.{number, number_is, number_low}
 use Rattle.ml_lists.proofs.Member.{member-flat_map, member-flat_map_from, place-member}
@@ -26,9 +25,6 @@ use Rattle.ml_translate.specs.Places.{Place}
 use Rattle.ml_translate.specs.private.Finding.{AllFit, ArePlaces, AreStateNumbers, HaveEdges, IsMadeOf, Makes, MakesAt, row_at}
 use Rattle.ml_translate.proofs.FitPlaces.{all_fit}
 
-tells : (x y : ℕ) → Decides (nat_eq x y) (x ≡ y)
-tells x y = (eqb-true x y, λ same. subst (λ z. nat_eq x z ≡ true) same (nat_eq_equiv.refl x))
-
 -- ---- numbers of states
 
 some_numbers : (a : Automaton) → IsGraph a.graph → HasItsStates a → (numbers : List ℕ) × AreStateNumbers a numbers
@@ -39,10 +35,10 @@ some_numbers a ok has = (
     are = λ p low.
         let m = place-member a.states p 0 low in
         let within = state_low a.graph ok (node_of a p) (state_at a has p low) in
-        let at = number_is nat_eq tells a.states (node_of a p) m in
+        let at = number_is nat_eq Decides-eqb a.states (node_of a p) m in
         get_or-map-range_with_len (number nat_eq a.states) 0 (size a.graph) (node_of a p) (node_of a p) 0 within (omega arith)
         ∙ one_place a.states has.ascend (number nat_eq a.states (node_of a p)) p
-        (number_low nat_eq tells a.states (node_of a p) m) low
+        (number_low nat_eq Decides-eqb a.states (node_of a p) m) low
         (get_or_from_slice_get a.states (number nat_eq a.states (node_of a p)) (node_of a p) 0 at);
   },
 )

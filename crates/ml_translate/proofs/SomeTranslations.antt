@@ -34,7 +34,7 @@ use Rattle.ml_translate.proofs.PropositionNumbers.{props_few, props_once}
 use Rattle.ml_translate.proofs.SamePlaces.{same_places}
 use Rattle.ml_translate.proofs.SomeEdges.{some_made}
 use Rattle.ml_translate.proofs.SomePlaces.{Few, some_places}
-use Rattle.ml_translate.proofs.SomeStates.{few_states, some_automaton}
+use Rattle.ml_word_automaton.proofs.Listed.{few_states, some_automaton}
 use Rattle.ml_translate.proofs.Translated.{made_labelled, made_translated}
 
 named : (f : Formula) → IsWellFormed Ltl f → All IsName (props_of f)
@@ -88,7 +88,7 @@ pub some_translation : SomeTranslation
 some_translation f limit well = by (cases_lt most_nodes (size a.0.graph))
   where
     a : (b : word.Automaton) × IsAutomatonOf b f false
-    a = some_automaton f
+    a = some_automaton f false
 
     by : (most_nodes < size a.0.graph) ⊎ (size a.0.graph ≤ most_nodes)
         → ((text : List ℕ) × IsWrittenFor f limit text) ⊎ (IsLarge f ⊎ HasTooManyPlaces f limit)

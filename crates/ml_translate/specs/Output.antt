@@ -2,8 +2,8 @@
 --
 --   IsWrittenFor f limit text == the text is that of an automaton of f, whose places are no more than the limit
 --   IsSmall b                 == the automaton b has no more states, propositions and edges than one that is read may have
---   TextAccepts f text        == by the grammar the text stands for an automaton that accepts exactly the word lassos that satisfy
---                                f; and it is read as this automaton, if that is small
+--   TextAccepts f text        == by the grammar the text stands for an automaton that accepts exactly the word lassos that
+--                                satisfy f; and it is read as this automaton, if that is small
 use Rattle.std.specs.Prelude.{ℕ, ◌≡◌, ◌≤◌, ◌↔◌, List, length}
 use Rattle.ml_trace.specs.WordAutomata.{WordLasso, IsWordLasso, IsAcceptedFrom}
 use Rattle.ml_ctl.specs.Formula.{Formula}

@@ -8,7 +8,8 @@
 -- letters lead to it, and is a place itself, with the empty cube.
 --
 --   IsJoined c l d          == the cube d has the literals of the cube c, and l
---   Names g props k b l     == l says that the proposition k of the graph g is true, or false, as b says, by its number in props
+--   Names g props k b l     == l says that the proposition k of the graph g is true, or false, as b says, by its number in
+--                              props
 --   PassesNode, Passes      == past the state node a walk goes on, and its cube c becomes d
 --   GoesOnAt, GoesOn g props n c m d == from the node n with the cube c a walk goes on to m, with d
 --   Place                   == a state by its number, a node, and a cube

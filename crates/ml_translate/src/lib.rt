@@ -4,8 +4,8 @@
 // that satisfy it, as `specs/Translation.antt` says; `ml_labelled::write`, which is handed on here, gives its text in HOA.
 // `laws` says that the places which a limit counts (`specs/Places.antt`) are those of the formula.
 //
-// Below stand `ml_word_automaton`, whose walks are made without a letter here, and `ml_labelled`, with automata whose edges have
-// cubes.
+// Below stand `ml_word_automaton`, whose walks are made without a letter here, and `ml_labelled`, with automata whose edges
+// have cubes.
 #![tactic(auto)]
 
 mod cube;

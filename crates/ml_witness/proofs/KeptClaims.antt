@@ -1,7 +1,7 @@
 -- Claims that are kept hold.
 --
--- The set of the theorem on ranked vertices is that of the claimed pairs and the sink of 0. A vertex of the checking game is known
--- by its place in the list of vertices.
+-- The set of the theorem on ranked vertices is that of the claimed pairs and the sink of 0. A vertex of the checking game is
+-- known by its place in the list of vertices.
 --
 --   IsGood       == a pair that is claimed, or the sink of 0
 --   rank_at      == the rank of a pair; sinks have 0

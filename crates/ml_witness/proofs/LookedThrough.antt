@@ -4,9 +4,9 @@
 --   way_along    == an edge from s of the action leads to a target
 --   kept_node    == what stands beside, and along each edge if it is a square, is kept
 --   all_kept     == so each claim is kept
-use Rattle.std.proofs.Common.{ℕ, ◌≡◌, ◌<◌, ◌==◌, true, false, ◌&&◌, Bool, List, length, get_or, ltb, filter, All, Contains, refl, sym, subst, arith}
+use Rattle.std.proofs.Common.{ℕ, ◌≡◌, ◌<◌, ◌==◌, true, ◌&&◌, Bool, List, length, get_or, ltb, filter, All, Contains, sym, subst, arith}
 use Rattle.std.specs.Str.{bytes_eq}
-use Rattle.std.proofs.lemmas.Bool.{ltb-true}
+use Rattle.std.proofs.lemmas.Bool.{and_from, and_parts, ltb-true}
 use Rattle.std.proofs.lemmas.Bool.Decides.{nat_tests}
 use Rattle.ml_base.specs.declared.structure.Edge.{Edge}
 use Rattle.ml_base.specs.Structure.{Structure}
@@ -30,16 +30,6 @@ found_member es all k e same low is =
 abbrev leaves : ℕ → List ℕ → Edge → Bool
 leaves s a e = (e.source == s) && bytes_eq e.action a
 
-both_true : (b c : Bool) → b ≡ true → c ≡ true → (b && c) ≡ true
-both_true true true s t = refl
-both_true true false s t = cc
-both_true false c s t = cc
-
-both_from : (b c : Bool) → (b && c) ≡ true → (b ≡ true) × (c ≡ true)
-both_from true true e = (refl, refl)
-both_from true false e = cc
-both_from false c e = cc
-
 -- an edge from s of the action leads to a target
 pub way_along : (m : Structure) (s : ℕ) (a : List ℕ) (e : Edge) → IsMember e m.edges → e.source ≡ s
     → bytes_eq e.action a ≡ true → Contains (targets m s a) e.target
@@ -47,7 +37,7 @@ way_along m s a e inside source action =
     let here : (e.source == s) ≡ true = grind (arith, nat_tests) in
     contains_of_member e.target (targets m s a)
     (member-map (λ (x : Edge). x.target) e (filter (leaves s a) m.edges)
-    (member-filter (leaves s a) e m.edges inside (both_true (e.source == s) (bytes_eq e.action a) here action)))
+    (member-filter (leaves s a) e m.edges inside (and_from (e.source == s) (bytes_eq e.action a) here action)))
 
 -- the edge along which a target is reached
 record Way (m : Structure) (s : ℕ) (a : List ℕ) (t : ℕ) : Type 0 where
@@ -66,7 +56,7 @@ way_of m s a t reached =
     of_image : Image (λ (x : Edge). x.target) t (filter (leaves s a) m.edges) → Way m s a t
     of_image image =
         let from = member-filter_from (leaves s a) image.from m.edges image.member in
-        let tests = both_from (image.from.source == s) (bytes_eq image.from.action a) from.1 in
+        let tests = and_parts (image.from.source == s) (bytes_eq image.from.action a) from.1 in
         let source : image.from.source ≡ s = grind (arith, nat_tests, tests.0) in
         record {
           edge = image.from;

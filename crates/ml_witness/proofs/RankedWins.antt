@@ -1,9 +1,9 @@
 -- Vertices from which Even wins, told by ranks.
 --
--- A set of vertices is given, with a rank for each vertex. From a vertex of the set that Even owns some move leads into the set,
--- from one of Odd's each move does; and along these moves the rank doesn't rise, and falls where the vertex that is left has an
--- odd priority, unless that has the priority 0. Then Even wins each vertex of the set: were the lowest priority on the loop of
--- a play odd, the rank would never rise along the loop, and would fall where that priority is met.
+-- A set of vertices is given, with a rank for each vertex. From a vertex of the set that Even owns some move leads into the
+-- set, from one of Odd's each move does; and along these moves the rank doesn't rise, and falls where the vertex that is left
+-- has an odd priority, unless that has the priority 0. Then Even wins each vertex of the set: were the lowest priority on the
+-- loop of a play odd, the rank would never rise along the loop, and would fall where that priority is met.
 --
 --   Falls     == the step from a vertex to another one is as it should be
 --   even_wins == the theorem

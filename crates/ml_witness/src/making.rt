@@ -9,9 +9,9 @@ use std::alloc::Global;
 
 /// What is evaluated, and what came of it so far.
 ///
-/// The strong components of the graph are taken from below. Where one has an odd priority, a pair is claimed as soon as what it takes
-/// is, and its rank is how many were claimed before it. Otherwise all of its pairs are claimed at one rank, and taken back as
-/// what they take fails.
+/// The strong components of the graph are taken from below. Where one has an odd priority, a pair is claimed as soon as what it
+/// takes is, and its rank is how many were claimed before it. Otherwise all of its pairs are claimed at one rank, and taken
+/// back as what they take fails.
 #[derive(Drop)]
 pub(crate) struct Making<'a> {
     graph: &'a ModalGraph,

@@ -16,6 +16,8 @@ pub mod Acceptance
 pub mod SameLetters
 -- one automaton, and some automaton
 pub mod BlockGraphs
+-- graphs that are one but for their lists of names
+pub mod AlikeGraphs
 -- states of a graph, marked
 pub mod MarkedStates
 -- states of a graph, numbered
@@ -30,7 +32,15 @@ pub mod HeldTransitions
 pub mod CarriedRuns
 -- what rows of letters accept
 pub mod RowsAccept
+-- what is reached in the graph of a formula's block
+pub mod BlockShapes
 -- states that are True
 pub mod SharedTop
+-- the forms of nodes are decided
+pub mod NodeForms
+-- where letters lead is decided
+pub mod DecidedLetters
+-- states and transitions are listed
+pub mod Listed
 -- the automaton of F p, by hand
 pub mod WorkedAutomaton

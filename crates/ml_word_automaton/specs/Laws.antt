@@ -1,7 +1,7 @@
 -- What the word automaton of a problem accepts, and that its letters are sets.
 --
---   AcceptsWhatSatisfies == the automaton of each problem of LTL, plain or negated, accepts from node 0 exactly the word lassos that
---                           satisfy the problem's formula, or its negation
+--   AcceptsWhatSatisfies == the automaton of each problem of LTL, plain or negated, accepts from node 0 exactly the word lassos
+--                           that satisfy the problem's formula, or its negation
 --   OneGraph, SomeGraph  == a problem has an automaton, up to the lists of names
 --   OneSize              == the graph has more than n nodes exactly where more than n are reached
 --   HaveSame l k         == the letters l and k have the same propositions
@@ -11,6 +11,8 @@
 --   SomeLetter           == each list of numbers is that of the propositions in some letter
 --   RowsAccept           == by the transitions under the letters of a row, from state 0, exactly those words are accepted that
 --                           satisfy the problem's formula, or its negation
+--   SomeAutomaton        == each problem of LTL, plain or negated, has a word automaton with its states listed
+--   SomeTransitions      == under each letter its transitions are listed
 use Rattle.std.specs.Prelude.{ℕ, ◌≡◌, ◌<◌, ◌↔◌, Bool, true, List, length, All}
 use Rattle.std.specs.List.{IsDistinct}
 use Rattle.std.specs.Str.{bytes_eq}
@@ -25,7 +27,7 @@ use Rattle.ml_ctl.specs.Sorts.{is_linear}
 use Rattle.ml_ltl.specs.Problem.{in_sense}
 use Rattle.ml_blocks.specs.Closures.{HasMoreThan}
 use Rattle.ml_blocks.specs.Places.{Place, True, forms}
-use Rattle.ml_word_automaton.specs.Letters.{Automaton, AreThoseIn, HasItsStates, HasTransitionsOf, IsAutomatonOf, IsState, leads_by, node_of, word_of}
+use Rattle.ml_word_automaton.specs.Letters.{Automaton, AreThoseIn, HasItsStates, HasTransitions, HasTransitionsOf, IsAutomatonOf, IsState, leads_by, node_of, word_of}
 use Rattle.ml_word_automaton.specs.WordAutomaton.{IsBlockGraph, Leads, start_block}
 use Rattle.ml_word_automaton.specs.Words.{Letter, has, SatisfiedBy}
 
@@ -100,3 +102,12 @@ RowsAccept =
     → IsWordLasso w
     → All (λ i. i < length row) w.word
     → IsAcceptedFrom (leads_by row) 0 w ↔ SatisfiedBy (word_of letters w) (in_sense negated f)
+
+abbrev pub SomeAutomaton : Type 0
+SomeAutomaton = (f : Formula) (negated : Bool) → (a : Automaton) × IsAutomatonOf a f negated
+
+abbrev pub SomeTransitions : Type 0
+SomeTransitions =
+    (f : Formula) (negated : Bool) (a : Automaton) (l : Letter)
+    → IsAutomatonOf a f negated
+    → (ts : List Transition) × HasTransitions a l ts

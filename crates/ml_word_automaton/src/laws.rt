@@ -1,16 +1,17 @@
 // Laws over the definitions alone: no caller runs these functions, their contracts are the theorems.
-ghost use Rattle.ml_word_automaton.specs.Laws.{AcceptsWhatSatisfies, LettersAreSets, LettersLeadToStates, OneGraph, OneSize, RowsAccept, SomeGraph, SomeLetter, TrueStatesAreShared};
+ghost use Rattle.ml_word_automaton.specs.Laws.{AcceptsWhatSatisfies, LettersAreSets, LettersLeadToStates, OneGraph, OneSize, RowsAccept, SomeAutomaton, SomeGraph, SomeLetter, SomeTransitions, TrueStatesAreShared};
 
 /// The automaton of a problem of LTL accepts exactly the word lassos that satisfy the problem's formula, or its negation where
 /// the problem is negated.
 ///
-/// Does nothing when called. Source: Vardi and Wolper (1986) for automata of formulas of LTL; the proof goes by the checking game
-/// on the block's graph (`PROOF.md`).
+/// Does nothing when called. Source: Vardi and Wolper (1986) for automata of formulas of LTL; the proof goes by the checking
+/// game on the block's graph (`PROOF.md`).
 pub fn accepts_what_satisfies()
     ensures { AcceptsWhatSatisfies }
 {}
 
-/// Letters are sets: two letters that have the same propositions lead alike, in whatever order they list them, and however often.
+/// Letters are sets: two letters that have the same propositions lead alike, in whatever order they list them, and however
+/// often.
 ///
 /// Does nothing when called.
 pub fn letters_are_sets()
@@ -57,4 +58,19 @@ pub fn some_letter()
 /// Does nothing when called.
 pub fn rows_accept()
     ensures { RowsAccept }
+{}
+
+/// Each problem of LTL has a word automaton, whose states are listed in ascending order.
+///
+/// Does nothing when called.
+pub fn some_automaton()
+    ensures { SomeAutomaton }
+{}
+
+/// Of a word automaton, the transitions under each letter are listed, since it is decided of each of the finitely many
+/// whether the letter has it.
+///
+/// Does nothing when called.
+pub fn some_transitions()
+    ensures { SomeTransitions }
 {}

@@ -10,7 +10,7 @@
 use Rattle.std.proofs.Common.{ℕ, ◌≡◌, ◌==◌, ◌&&◌, ◌||◌, ◌<◌, ◌≤◌, ◌+◌, ◌⊎◌, inl, inr, Bool, true, false, not, nat_lt, if◌then◌else◌, List, [], ◌∷◌, ◌++◌, All}
 use Rattle.std.proofs.Common.{length, map, get_or, set, take, replicate, Option, Some, None, MatchOption, bytes_eq, codes, refl, sym, ap, ◌∙◌, subst, arith}
 use Rattle.std.specs.List.{position, position_or_len, slice_get}
-use Rattle.std.proofs.lemmas.Bool.{and_parts, cases_eq, cases_lt, cond-true, or_cases, or_left, or_right, false≢true, not-true, true≢false}
+use Rattle.std.proofs.lemmas.Bool.{and_parts, cases_eq, cases_lt, cond-true, or_cases, or_left, or_right, false≢true, not-true, true≢false, not-false}
 use Rattle.std.proofs.lemmas.Bool.Decides.{Decides-eqb, nat_tests}
 use Rattle.std.proofs.lemmas.List.{get_or-set_same, get_or-set_other, get_or-map, get_or-replicate, length-map, length-replicate, length-set, take_more}
 use Rattle.std.proofs.lemmas.List.Elements.{All-get_or}
@@ -209,10 +209,6 @@ module _ (m : Structure) (is : IsStructure m) (rows : List Steps) (all : AllTell
       → ((is_only (get_or rows s Nowhere) ≡ true) → HasOneStep m s) × ((is_only (get_or rows s Nowhere) ≡ false) → IsFork m s)
   at_state s low = one_or_fork s (get_or rows s Nowhere) (all.tell s low)
 
-  not_false : (b : Bool) → not b ≡ false → b ≡ true
-  not_false true e = refl
-  not_false false e = absurd (true≢false e)
-
   pub word_found : (found : Option ℕ)
       → found ≡ position (λ x. not (is_only x)) rows
       → MatchOption found (word.IsAdmitted m) (IsFirst (IsFork m) m.states)
@@ -220,7 +216,7 @@ module _ (m : Structure) (is : IsStructure m) (rows : List Steps) (all : AllTell
     is_structure = is;
     one_step = λ s low.
         (at_state s low).0
-        (not_false (is_only (get_or rows s Nowhere))
+        (not-false (is_only (get_or rows s Nowhere))
         (none_passes_at (λ x. not (is_only x)) rows Nowhere (sym none) s (omega (arith, low, all.each_state))));
   }
   word_found (Some s) some =
@@ -230,13 +226,13 @@ module _ (m : Structure) (is : IsStructure m) (rows : List Steps) (all : AllTell
         below = low;
         holds = (at_state s low).1 (not-true (is_only (get_or rows s Nowhere)) at.1);
         before = λ t less fork.
-            fork ((at_state t (omega (arith, less, low))).0 (not_false (is_only (get_or rows t Nowhere)) (at.2 t less)));
+            fork ((at_state t (omega (arith, less, low))).0 (not-false (is_only (get_or rows t Nowhere)) (at.2 t less)));
       }
 
   -- where no state is a fork
   module _ (none : position (λ x. not (is_only x)) rows ≡ None) where
     pub all_only : All (λ x. is_only x ≡ true) rows
-    all_only k d low = not_false (is_only (get_or rows k d)) (none_passes_at (λ x. not (is_only x)) rows d none k low)
+    all_only k d low = not-false (is_only (get_or rows k d)) (none_passes_at (λ x. not (is_only x)) rows d none k low)
 
     goes_there : (s : ℕ) (x : Steps) → Tells s m.edges x → is_only x ≡ true → has_step m s (target_of x) ≡ true
     goes_there s Nowhere no_edge e = absurd (false≢true e)

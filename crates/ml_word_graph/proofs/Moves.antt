@@ -15,7 +15,7 @@
 use Rattle.std.proofs.Common.{◌≡◌, ℕ, ◌<◌, ◌⊎◌, ◌==◌, ◌&&◌, ◌||◌, Bool, true, false, List, [], ◌∷◌, Option, None, Some}
 use Rattle.std.proofs.Common.{if◌then◌else◌, slice_get, codes, bytes_eq, inl, inr, refl, sym, ap, subst, ◌∙◌, eqb-true, arith}
 use Rattle.std.specs.Bool.{beq}
-use Rattle.std.proofs.lemmas.Bool.{and_parts, and_from, eq-eqb, false≢true}
+use Rattle.std.proofs.lemmas.Bool.{and_parts, and_from, eq-eqb, false≢true, or_parts}
 use Rattle.std.proofs.lemmas.Option.{slice_get_within}
 use Rattle.ml_lists.specs.Member.{IsMember}
 use Rattle.ml_lists.proofs.Member.{member-map, member-map_from, member-filter, member-filter_from, list_any-member, member-list_any, member_of_get}
@@ -256,10 +256,6 @@ module _ (g : Graph) (m : Structure) (ok : IsAdmitted m) (root : Place) (places 
           is_or_not false true = inl (λ h. false≢true h)
           is_or_not false false = inr refl
 
-    or_false : (x y : Bool) → (x || y) ≡ false → (x ≡ false) × (y ≡ false)
-    or_false true y e = absurd (false≢true (sym e))
-    or_false false y e = (refl, e)
-
     or_right : (x y : Bool) → (x || y) ≡ true → (x ≡ true → ⊥) → y ≡ true
     or_right true y e none = absurd (none refl)
     or_right false y e none = e
@@ -302,7 +298,7 @@ module _ (g : Graph) (m : Structure) (ok : IsAdmitted m) (root : Place) (places 
         picks (Or l r) l r c d true refl (inl refl) (inr (inl refl)) one other
         (or_right (node_value m ok l s) (node_value m ok r s) value) (subst (Owned true) is own refl)
     step_form x (Or l r) false (c, d, one, other, is) value h own =
-        let parts = or_false (node_value m ok l s) (node_value m ok r s) value in
+        let parts = or_parts (node_value m ok l s) (node_value m ok r s) value in
         both_good (Or l r) l r c d false refl (inl refl) (inr (inl refl)) one other parts.0 parts.1 (subst Reached is h)
     step_form x (Diamond p) b (a, c, one, is, act) value h own =
         along_edge (Diamond p) p a c 1 b refl (inl refl) one act value (targets m s (action_at g a)) refl (subst Reached is h)

@@ -9,6 +9,7 @@ use Rattle.std.specs.Bool.{beq}
 use Rattle.ml_base.specs.Structure.{Structure, lists}
 use Rattle.ml_text.specs.declared.token.Operator.TheVariants as operator
 use Rattle.std.proofs.lemmas.Bool.{false≢true}
+use Rattle.std.proofs.Math.Bool.{and-true}
 use Rattle.ml_lists.proofs.Says.{not-and, not-or}
 use Rattle.ml_ctl.specs.Formula.{Formula, Const, Prop, Not, Binary, Temporal, Paired, Quantified}
 use Rattle.ml_ctl.specs.Sorts.{is_linear}
@@ -141,12 +142,8 @@ module _ (m : Structure) (ok : IsAdmitted m) where
       let w : Formula = Paired pairing.Release f g in
       one_value sign (Now (i + 1) f sign) (Later i w sign) (v f s) (v w (behind s)) s refl refl
 
-  and_true : (b : Bool) → (b && true) ≡ b
-  and_true true = refl
-  and_true false = refl
-
   pub consistent : (p : Place) (s : ℕ) → s < m.states → IsLinear p → form_value (form_of p) s ≡ node_value p s
-  consistent (Root p) s low x = and_true (node_value p s)
+  consistent (Root p) s low x = and-true (node_value p s)
   consistent Total s low x = refl
   consistent HasEdge s low x = refl
   consistent LeadsOn s low x = refl

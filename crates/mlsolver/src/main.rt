@@ -1,17 +1,15 @@
 // The program: the words of the command line, standard input and standard output, and the exit status.
 //
-// Everything that it answers is the one call `ml_driver::run`, whose contract says what is due. Standard error tells people where
-// an input is at fault, of which problem a checked document speaks, and, where the words are no command, which commands there
-// are; no contract speaks of that.
+// Everything that it answers is the one call `ml_driver::call`, whose status is that of `ml_driver::run`: the contract says
+// what is due. Standard error tells people where an input is at fault, of which problem a checked document speaks, and, where
+// the words are no command, which commands there are; no contract speaks of that.
 #![tactic(auto)]
 
-mod keeping;
 mod usage;
 
-use crate::keeping::{KeepingSink, KeepingSource};
 use crate::usage::explain;
 use ml_base::{StdSink, StdSource};
-use ml_driver::{Status, run};
+use ml_driver::{Command, Ending, Said, Status, call};
 use ml_messages::explanation;
 use std::alloc::AllocError;
 use std::env::{self, Env};
@@ -22,29 +20,24 @@ fn main(rt: HostRuntime) -> ExitCode {
     let Ok(words) = words(&rt) else {
         return ExitCode::from(Status::NoMemory.code());
     };
-    let mut source = KeepingSource::new(rt.alloc(), StdSource::new(rt.stdin()));
-    let mut sink = KeepingSink::new(rt.alloc(), StdSink::new(rt.stdout()));
-    let status = run(rt.alloc(), &words, &mut source, &mut sink);
+    let mut source = StdSource::new(rt.stdin());
+    let mut sink = StdSink::new(rt.stdout());
+    let ending = call(rt.alloc(), &words, &mut source, &mut sink);
     // what can't be told there changes nothing
-    let _ = tell(&rt, &words, status, source.given(), sink.taken());
-    ExitCode::from(status.code())
+    let _ = tell(&rt, &words, &ending);
+    ExitCode::from(ending.status.code())
 }
 
 // What is told on standard error.
-fn tell(
-    rt: &(impl Eprint + AllocGlobal),
-    words: &[String],
-    status: Status,
-    input: Option<&[u8]>,
-    output: &[u8],
-) -> io::Result<()> {
-    match status {
+fn tell(rt: &(impl Eprint + AllocGlobal), words: &[String], ending: &Ending) -> io::Result<()> {
+    match ending.status {
         Status::Words => explain(rt, words),
-        Status::Yes | Status::No | Status::Text => match input {
-            Some(input) => tell_of_input(rt, words, input, output),
-            None => Ok(()),
-        },
-        Status::Undecided => Ok(()),
+        Status::Yes | Status::No | Status::Undecided | Status::Text => {
+            match (ending.command, ending.said) {
+                (Some(command), Some(said)) => tell_of_input(rt, command, said, &ending.input),
+                _ => Ok(()),
+            }
+        }
         Status::ReadFault => eprintln!(rt; "mlsolver: standard input can't be read"),
         Status::WriteFault => eprintln!(rt; "mlsolver: standard output can't be written"),
         Status::NoMemory => eprintln!(rt; "mlsolver: out of memory"),
@@ -53,11 +46,11 @@ fn tell(
 
 fn tell_of_input(
     rt: &(impl Eprint + AllocGlobal),
-    words: &[String],
+    command: Command,
+    said: Said,
     input: &[u8],
-    output: &[u8],
 ) -> io::Result<()> {
-    match explanation(rt.alloc(), words, input, output) {
+    match explanation(rt.alloc(), command, said, input) {
         Ok(Some(sentence)) => eprintln!(rt; "mlsolver: {sentence}"),
         Ok(None) | Err(AllocError) => Ok(()),
     }

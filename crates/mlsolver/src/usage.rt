@@ -1,30 +1,20 @@
 // How the program is called, for standard error.
 
+use ml_driver::{Further, TABLE};
 use ml_messages::words_fault;
 use std::io;
 
-// each command with its further words, and what it is for
-const CALLS: [&str; 19] = [
-    "find LOGIC [--limit N]    is the formula satisfiable?",
-    "prove LOGIC [--limit N]   is the formula valid?",
-    "decide LOGIC [--limit N]  as find, without a search",
-    "valid LOGIC [--limit N]   as prove, without a search",
-    "ask [files] [--limit N]   the questions of a file of requirements",
-    "check-model               does the document's problem hold at its start?",
-    "check-refutation          is the document's refutation right?",
-    "path                      a path of the document's structure that shows its formula",
-    "migrate                   the document's refutation in version 2",
-    "quotient                  the document's structure, as small as can be",
-    "solve-game ENGINE         who wins the parity game?",
-    "check-game                is the solution behind the parity game right?",
-    "determinise [--limit N]   the Büchi automaton, made deterministic",
-    "automaton [--limit N]     a Büchi automaton of the formula of LTL",
-    "make [--limit N]          a machine for the task, or an environment",
-    "realize [--limit N]       as make, without a search",
-    "check-machine             does the machine realize its task?",
-    "gen FAMILY N              the formula of a family",
-    "bench FAMILY N            its size, and whether it is satisfiable",
-];
+// what stands behind the first word of a command
+fn further_words(further: Further) -> &'static str {
+    match further {
+        Further::Nothing => "",
+        Further::Limit => "[--limit N]",
+        Further::Logic => "LOGIC [--limit N]",
+        Further::Files => "[files] [--limit N]",
+        Further::Engine => "ENGINE",
+        Further::Family => "FAMILY N",
+    }
+}
 
 /// Tells on standard error what is wrong with words that are no command, as far as that is known, and how the program is
 /// called.
@@ -32,8 +22,9 @@ pub(crate) fn explain(rt: &(impl Eprint + AllocGlobal), words: &[String]) -> io:
     if let Ok(Some(fault)) = words_fault(rt.alloc(), words) {
         eprintln!(rt; "mlsolver: {fault}")?;
     }
-    for call in CALLS {
-        eprintln!(rt; "  mlsolver {call}")?;
+    for (word, verb) in TABLE {
+        let call = format!(in rt.alloc(); "{word} {}", further_words(verb.further()))?;
+        eprintln!(rt; "  mlsolver {call:<25} {}", verb.purpose())?;
     }
     eprintln!(rt; "LOGIC is mu, pdl, ctl, ltl or word; ENGINE recursive, measures or tangles;")?;
     eprintln!(rt; "FAMILY and, or, step, fair or loop; N has one to six digits.")?;

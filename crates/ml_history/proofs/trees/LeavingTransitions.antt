@@ -2,14 +2,13 @@
 --
 --   leaving_targets  == the targets from a state are those of the transitions behind all with lower sources, and before
 --                       all with higher ones
-use Rattle.std.proofs.Common.{◌≡◌, ℕ, ◌+◌, ◌<◌, ◌≤◌, inl, inr, arith, Bool, true, false, ◌&&◌, cond, ltb, leb, List, [], ◌∷◌, ◌++◌, length, take, drop, map, filter, refl, sym, subst, ap, ◌∙◌}
-use Rattle.std.specs.List.{AllWithin}
+use Rattle.std.proofs.Common.{◌≡◌, ℕ, ◌≤◌, inl, inr, Bool, true, false, ◌&&◌, cond, ltb, leb, List, [], ◌∷◌, ◌++◌, length, take, drop, map, filter, refl, sym, ap, ◌∙◌}
 use Rattle.std.specs.List.Sorted.{IsPartitionPoint}
-use Rattle.std.proofs.lemmas.Bool.{eq-eqb, ltb-true, ltb-false, leb-true, leb-false, ne_eqb}
-use Rattle.std.proofs.lemmas.List.{take-append-drop, map-append, append-nil, get_or-take, get_or-drop, length-take-le, length-drop}
+use Rattle.std.proofs.lemmas.Bool.{eq-eqb, ne_eqb}
+use Rattle.std.proofs.lemmas.List.{take-append-drop, map-append, append-nil}
 use Rattle.std.proofs.lemmas.List.Elements.{filter-append}
 use Rattle.ml_lists.specs.Member.{IsMember}
-use Rattle.ml_lists.proofs.Member.{member-place, member-append_left}
+use Rattle.ml_lists.proofs.Keyed.{higher_apart, key_between, lower_apart}
 use Rattle.ml_trace.specs.declared.letters.Transition.{Transition}
 use Rattle.ml_history.specs.private.Moves.{is_of, ends}
 use Rattle.ml_history.specs.private.TreeStep.{targets, leads_from}
@@ -53,33 +52,6 @@ targets_all acc q ts same =
     (filter_same (leads_from acc q) (is_of acc) ts
     (λ t m. ap (λ b. b && is_of acc t) (eq-eqb t.from q (same t m)))))
 
--- what holds within the front of a list holds of its members, and so for the back
-front_all : (P : Transition → Type 0) (ts : List Transition) (i : ℕ)
-    → i ≤ length ts
-    → AllWithin P ts 0 i
-    → (t : Transition)
-    → IsMember t (take i ts)
-    → P t
-front_all P ts i le all t m =
-    let p = member-place t (take i ts) m in
-    let low : p.place < i = let b = p.below in let l = length-take-le i ts le in omega arith in
-    subst P (sym (get_or-take i ts p.place t low) ∙ p.holds t) (all p.place t (omega arith) low)
-
-back_all : (P : Transition → Type 0) (ts : List Transition) (i : ℕ)
-    → i ≤ length ts
-    → AllWithin P ts i (length ts)
-    → (t : Transition)
-    → IsMember t (drop i ts)
-    → P t
-back_all P ts i le all t m =
-    let p = member-place t (drop i ts) m in
-    let low : i + p.place < length ts = let b = p.below in let l = length-drop i ts in omega arith in
-    subst P (sym (get_or-drop i ts p.place t) ∙ p.holds t) (all (i + p.place) t (omega arith) low)
-
--- the members of a front are members
-front_member : (t : Transition) (ts : List Transition) (i : ℕ) → IsMember t (take i ts) → IsMember t ts
-front_member t ts i m = subst (IsMember t) (take-append-drop i ts) (member-append_left t (take i ts) (drop i ts) m)
-
 -- the targets from a state are those of the transitions behind all with lower sources, and before all with higher ones
 pub leaving_targets : (ts rest : List Transition) (q i j : ℕ)
     → rest ≡ drop i ts
@@ -90,26 +62,12 @@ pub leaving_targets : (ts rest : List Transition) (q i j : ℕ)
     → (acc : Bool)
     → ends acc (take j rest) ≡ targets ts acc q
 leaving_targets ts rest q i j is le one le' two acc =
-    targets_all acc q (take j rest) here
+    let from : Transition → ℕ = λ t. t.from in
+    targets_all acc q (take j rest) (key_between from ts rest q i j is le one le' two)
     ∙ sym (append-nil (targets (take j rest) acc q))
-    ∙ ap (λ l. targets (take j rest) acc q ++ l) (sym (targets_none acc q (drop j rest) higher))
+    ∙ ap (λ l. targets (take j rest) acc q ++ l) (sym (targets_none acc q (drop j rest) (higher_apart from ts rest q i j is le one le' two)))
     ∙ sym (targets-append acc q (take j rest) (drop j rest))
     ∙ ap (λ l. targets l acc q) (take-append-drop j rest ∙ is)
-    ∙ ap (λ l. l ++ targets (drop i ts) acc q) (sym (targets_none acc q (take i ts) lower))
+    ∙ ap (λ l. l ++ targets (drop i ts) acc q) (sym (targets_none acc q (take i ts) (lower_apart from ts rest q i j is le one le' two)))
     ∙ sym (targets-append acc q (take i ts) (drop i ts))
     ∙ ap (λ l. targets l acc q) (take-append-drop i ts)
-  where
-    lower : (t : Transition) → IsMember t (take i ts) → t.from ≡ q → ⊥
-    lower t m e = let low = ltb-true t.from q (front_all (λ (u : Transition). ltb u.from q ≡ true) ts i le one.0 t m) in
-        absurd (omega arith)
-
-    higher : (t : Transition) → IsMember t (drop j rest) → t.from ≡ q → ⊥
-    higher t m e = let high = leb-false t.from q
-        (back_all (λ (u : Transition). leb u.from q ≡ false) rest j le' two.1 t m) in absurd (omega arith)
-
-    here : (t : Transition) → IsMember t (take j rest) → t.from ≡ q
-    here t m =
-        let most = leb-true t.from q (front_all (λ (u : Transition). leb u.from q ≡ true) rest j le' two.0 t m) in
-        let least = ltb-false t.from q (back_all (λ (u : Transition). ltb u.from q ≡ false) ts i le one.1 t
-        (subst (IsMember t) is (front_member t rest j m))) in
-        omega arith

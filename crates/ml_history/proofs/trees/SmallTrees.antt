@@ -24,7 +24,7 @@ use Rattle.ml_history.specs.private.TreeWalks.{behind}
 use Rattle.ml_history.specs.private.Vertices.{IsKept}
 use Rattle.ml_history.proofs.trees.ItemsByState.{state_of, arranged-member, member-arranged, items_same}
 use Rattle.ml_history.proofs.trees.Forests.{places-states}
-use Rattle.ml_history.proofs.plain_step.PlainStep.{live-small}
+use Rattle.ml_history.proofs.definition.SmallHistories.{live-small}
 use Rattle.ml_history.proofs.trees.ProperTrees.{items-member, names-live, live-names, proper_is_history}
 use Rattle.ml_lists.proofs.Sorted.{ascending_by, apart-permuted}
 

@@ -22,7 +22,7 @@ use Rattle.ml_history.proofs.trees.ItemsByState.{state_of}
 use Rattle.ml_history.proofs.trees.Forests.{places-states}
 use Rattle.ml_history.proofs.trees.SmallTrees.{kept_is_plain}
 use Rattle.ml_history.proofs.definition.LetterSets.{letters_are_sets}
-use Rattle.ml_history.proofs.plain_step.PlainStep.{live-small, step_is_plain}
+use Rattle.ml_history.proofs.definition.SmallHistories.{live-small, step_is_small}
 use Rattle.ml_history.proofs.trees.ProperTrees.{member-items}
 use Rattle.ml_history.proofs.trees.VerticalMerge.{settled-names, fulls-names}
 use Rattle.ml_history.proofs.trees.TreeSteps.{after_step, tree_step_proper, tree_step_items, tree_step_mark}
@@ -92,7 +92,7 @@ module _ (f : Forest) (kept : IsKept f) (m : List Transition) where
         from_image : (q : ℕ) → Image state_of q (places (after_step f m)) → q < 2 ^ 30
         from_image q i =
             let there = subst (IsMember i.from) items_behind (member-items (after_step f m) i.from i.member) in
-            subst (λ v. v < 2 ^ 30) (sym i.holds) ((step_is_plain (items f) letter (kept_is_plain f kept) ends).small
+            subst (λ v. v < 2 ^ 30) (sym i.holds) ((step_is_small (items f) letter (kept_is_plain f kept) ends).small
             i.from there)
 
     -- the same of a row that the program made

@@ -5,7 +5,8 @@
 -- set where this one is full, so that a state has the edges of one to whose loop it leads, if it can.
 --
 --   order_of, depth_of g p, is_dead, is_full g p == what the guide g says of the state p
---   IsGuided g p e        == it is right about the edge e of the state p, as to dead states (KeepsDead) and full ones (KeepsFull)
+--   IsGuided g p e        == it is right about the edge e of the state p, as to dead states (KeepsDead) and full ones
+--                            (KeepsFull)
 --   Guides g rows         == it is right about all edges
 --   flag_of g p q b       == the flag of an edge from p to q whose flag was b
 --   flagged g p e         == the edge e of p with this flag

@@ -3,12 +3,9 @@
 --   board_of g               == the owners, priorities and moves of g
 --   flag_at flags v          == the flag of vertex v; past the end no flag is set
 --   SolvesLists g live over win choice == the lists of winners and choices solve the game with these live vertices and sinks
---   IsLeastLive g live t        == t is a live vertex, and no live vertex has a lower priority
---   IsWithoutWon live win p rest == rest has the flags of the live vertices that p did not win
---   IsMerged win p first second choice == choice is the first where p won, and the second elsewhere
 --   FilledBelow g win old choice n == below n the choices are the old ones where the owner wins, and first successors
 --                                     elsewhere; from n on they are the old ones
-use Rattle.std.specs.Prelude.{ℕ, ◌≡◌, ◌≢◌, ◌<◌, ◌≤◌, Bool, true, false, List, length, get_or}
+use Rattle.std.specs.Prelude.{ℕ, ◌≡◌, ◌≢◌, ◌<◌, ◌≤◌, Bool, false, List, length, get_or}
 use Rattle.ml_parity.specs.declared.players.Player.{Player}
 use Rattle.ml_parity.specs.Game.{ParityGame, HasMove, owner_of, priority_of, moves_of}
 use Rattle.ml_parity.specs.private.Sinks.{Board, Solves}
@@ -25,24 +22,6 @@ flag_at flags v = get_or flags v false
 -- the lists of winners and choices solve the game with these live vertices and sinks
 abbrev pub SolvesLists : ParityGame → List Bool → List Player → List Player → List ℕ → Type 0
 SolvesLists g live over win choice = Solves (board_of g) (flag_at live) (winner_at over) (winner_at win) (choice_at choice)
-
--- t is a live vertex, and no live vertex has a lower priority
-pub record IsLeastLive (g : ParityGame) (live : List Bool) (t : ℕ) : Type 0 where
-  pub below : t < length live
-  pub alive : flag_at live t ≡ true
-  pub least : (v : ℕ) → flag_at live v ≡ true → priority_of g t ≤ priority_of g v
-
--- the flags of the live vertices that the player did not win
-pub record IsWithoutWon (live : List Bool) (win : List Player) (p : Player) (rest : List Bool) : Type 0 where
-  pub size : length rest ≡ length live
-  pub won : (v : ℕ) → v < length live → winner_at win v ≡ p → flag_at rest v ≡ false
-  pub lost : (v : ℕ) → v < length live → (winner_at win v ≡ p → ⊥) → flag_at rest v ≡ flag_at live v
-
--- the first choices where the player won, and the second elsewhere
-pub record IsMerged (win : List Player) (p : Player) (first second choice : List ℕ) : Type 0 where
-  pub size : length choice ≡ length win
-  pub won : (v : ℕ) → v < length win → winner_at win v ≡ p → choice_at choice v ≡ choice_at first v
-  pub lost : (v : ℕ) → v < length win → (winner_at win v ≡ p → ⊥) → choice_at choice v ≡ choice_at second v
 
 -- below n the choices are the old ones where the owner wins, and first successors elsewhere; from n on the old ones
 pub record FilledBelow (g : ParityGame) (win : List Player) (old choice : List ℕ) (n : ℕ) : Type 0 where

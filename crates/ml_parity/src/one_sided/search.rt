@@ -168,7 +168,8 @@ fn empty_rows(alloc: Global, size: u64) -> Result<Vec<Vec<u64>>, NoMemory>
 /// `NoMemory` alone.
 ///
 /// Cost: for each even priority one walk depth first, and passes over the arcs until none raises a number. The order in
-/// which arcs are tried is made so that two passes do; no clause says that. No recursion. Source: the method of Bellman and Ford, for longest walks.
+/// which arcs are tried is made so that two passes do; no clause says that. No recursion. Source: the method of Bellman and
+/// Ford, for longest walks.
 pub fn heights(alloc: Global, graph: &OneSided) -> Result<Result<Heights, EvenCycle>, NoMemory>
     ensures answer { IfOk result (λ r. MatchResult r (AreLongest graph.now) (IsEvenCycle graph.now)) }
     ensures heights { IfOk result (λ r. IfOk r (AreHeights graph.now)) }

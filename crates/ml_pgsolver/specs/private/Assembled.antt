@@ -6,6 +6,8 @@
 --   ArePlaces ids places xs  == these are the places of the numbers xs among the ids
 --   AreGiven ids given rows  == each row's successors, as places
 --   highest_of n rows        == the highest priority of the rows, and n
+--   first_stranger_from refers ids end n ts == the byte of the first sign that is a number at such a place and none of the ids,
+--                               where n tokens stand behind the last `;`, or the end
 --   unknown_from ids end n ts == the byte of the first sign that is a successor and none of the ids, where n tokens stand
 --                               behind the last `;`, or the end
 use Rattle.std.specs.Prelude.{ℕ, ◌≡◌, ◌+◌, ◌<◌, ◌≤◌, Bool, false, not, ◌&&◌, nat_le, max, List, [], ◌∷◌, length, map, All, Option, Some, None, if◌then◌else◌}
@@ -56,7 +58,10 @@ abbrev pub sign_place : ℕ → Sign → ℕ
 sign_place n sign.Semicolon = 0
 sign_place n t = n + 1
 
-unfoldable pub unknown_from : List ℕ → ℕ → ℕ → List (Sign × ℕ) → ℕ
-unknown_from ids end n [] = end
-unknown_from ids end n (t ∷ ts) =
-    if is_stranger ids n t.0 then t.1 else unknown_from ids end (sign_place n t.0) ts
+unfoldable pub first_stranger_from : (ℕ → Bool) → List ℕ → ℕ → ℕ → List (Sign × ℕ) → ℕ
+first_stranger_from refers ids end n [] = end
+first_stranger_from refers ids end n (t ∷ ts) =
+    if refers n && is_unknown ids t.0 then t.1 else first_stranger_from refers ids end (sign_place n t.0) ts
+
+abbrev pub unknown_from : List ℕ → ℕ → ℕ → List (Sign × ℕ) → ℕ
+unknown_from ids end n ts = first_stranger_from (nat_le 3) ids end n ts

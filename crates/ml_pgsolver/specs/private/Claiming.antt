@@ -11,7 +11,7 @@
 --   stranger_from ids end n ts == the byte of the first sign that ought to be an id and is none, where n tokens stand behind
 --                               the last `;`, or the end
 --   IsInside ids v           == the vertex that the verdict v names is one of those with these ids
-use Rattle.std.specs.Prelude.{ℕ, ◌≡◌, ◌+◌, ◌<◌, Bool, true, false, ◌==◌, ◌&&◌, ◌||◌, List, [], ◌∷◌, length, get_or, drop, Option, Some, None, if◌then◌else◌}
+use Rattle.std.specs.Prelude.{ℕ, ◌≡◌, ◌+◌, ◌<◌, Bool, true, false, ◌==◌, ◌||◌, List, [], ◌∷◌, length, get_or, drop, Option, Some, None}
 use Rattle.ml_lists.specs.Member.{IsMember}
 use Rattle.ml_game_check.specs.RightClaims.{Claims, claim_at}
 use Rattle.ml_game_check.specs.declared.claims.Claim.{Claim}
@@ -20,7 +20,7 @@ use Rattle.ml_game_check.specs.declared.verdict.Verdict.TheVariants as verdict
 use Rattle.ml_pgsolver.specs.GameText.{id_at}
 use Rattle.ml_pgsolver.specs.declared.entries.EntryRow.{EntryRow}
 use Rattle.ml_pgsolver.specs.declared.scan.Sign.{Sign}
-use Rattle.ml_pgsolver.specs.private.Assembled.{is_unknown, sign_place}
+use Rattle.ml_pgsolver.specs.private.Assembled.{first_stranger_from}
 use Rattle.ml_pgsolver.specs.private.WordSearch.{inside_name}
 
 -- the place of the move, if there is one
@@ -70,10 +70,8 @@ is_reference n = (n == 0) || (n == 2)
 abbrev pub IsBehindName : List ℕ → ℕ → ℕ → Type 0
 IsBehindName text i j = j ≡ i + 1 + inside_name (get_or text i 0) (drop (i + 1) text)
 
-unfoldable pub stranger_from : List ℕ → ℕ → ℕ → List (Sign × ℕ) → ℕ
-stranger_from ids end n [] = end
-stranger_from ids end n (t ∷ ts) =
-    if is_reference n && is_unknown ids t.0 then t.1 else stranger_from ids end (sign_place n t.0) ts
+abbrev pub stranger_from : List ℕ → ℕ → ℕ → List (Sign × ℕ) → ℕ
+stranger_from ids end n ts = first_stranger_from is_reference ids end n ts
 
 -- the vertex that a verdict names is one of those with these ids
 abbrev pub IsInside : List ℕ → Verdict → Type 0

@@ -4,15 +4,15 @@
 --   HasRoom at              == the numbers of the lines that are left fit 64 bits
 --   Goes at ls rest         == from `at` the text goes on with the lines ls, and then with the rest
 --   Breaks p line r         == r is the first rule that a line at p breaks
---   TellsFault p at e       == the refusal e tells the first bad line of what is left, which stands at p, if it isn't for want of
---                              memory
+--   TellsFault p at e       == the refusal e tells the first bad line of what is left, which stands at p, if it isn't for want
+--                              of memory
 --   numbered_rules w rs     == the rules of a line of the word w and a number, and then the rules rs
 --   on_words names s w ws   == `on`, the words of the set s, the word w and the words ws
 --   IsPlayed line           == the line is `play` and some words
 --   StepFits o n x          == the step x gives a set of o outputs, and leads to one of n states
 --   RowFits i o n row       == the row has a step for each set of i inputs, each of which fits
---   PlayRow, PlayFits i o n row == what a state of an environment plays, with its next states: a set of i inputs, and one of n states
---                              for each set of o outputs
+--   PlayRow, PlayFits i o n row == what a state of an environment plays, with its next states: a set of i inputs, and one of n
+--                              states for each set of o outputs
 --   played_lines ins outs i row == the lines of the state i, of which this is the row
 --   IsBody at ls            == what is left is the lines ls and `end`, and nothing behind it
 --   IsEnded at              == what is left is `end` alone

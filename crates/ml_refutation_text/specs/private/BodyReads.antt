@@ -1,6 +1,7 @@
 -- What the reader knows of a whole body. Private contracts and proofs cite this.
 --
---   IsBodyRead v t n r ps  == t is the text of the refutation r, which is one, and the parts of its entries begin at the lines ps
+--   IsBodyRead v t n r ps  == t is the text of the refutation r, which is one, and the parts of its entries begin at the lines
+--                             ps
 use Rattle.std.specs.Prelude.{ℕ, List}
 use Rattle.ml_base.specs.declared.version.Version.{Version}
 use Rattle.ml_refutation.specs.Refutation.{Refutation, IsRefutation}

@@ -1,8 +1,8 @@
 -- Claims that nodes hold at states, with ranks, and when they are kept.
 --
 -- Each pair of a state and a node has a rank, from 1 on where it is claimed that the node holds there, and else 0. A claim is
--- kept where what it takes for the node to hold is claimed in turn, one step on, and the rank doesn't rise along such a step, and
--- falls where the node that is left has an odd priority. At a node of priority 0 ranks may rise: a cycle through it is good
+-- kept where what it takes for the node to hold is claimed in turn, one step on, and the rank doesn't rise along such a step,
+-- and falls where the node that is left has an odd priority. At a node of priority 0 ranks may rise: a cycle through it is good
 -- for Even.
 --
 --   rank_of g rs s n        == the rank of the state s and the node n

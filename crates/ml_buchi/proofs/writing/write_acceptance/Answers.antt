@@ -3,7 +3,7 @@ use Rattle.std.proofs.lemmas.Result.{on_ok_weaker}
 use Rattle.ml_lines.specs.Lines.{next, number}
 use Rattle.ml_buchi.specs.WrittenText.{condition_text, parity_condition}
 use Rattle.ml_buchi.proofs.WrittenLines.{acceptance_line}
-use Rattle.ml_buchi.proofs.WrittenParts.{both}
+use Rattle.ml_lists.proofs.WrittenParts.{both}
 use Rattle.ml_buchi.proofs.writing.write_acceptance.Goals as goal
 
 pub returns : goal.returns

@@ -4,7 +4,7 @@ use Rattle.std.proofs.lemmas.Result.{on_ok_weaker}
 use Rattle.ml_buchi.specs.WrittenText.{alone, operand_text}
 use Rattle.ml_buchi.specs.private.Openings.{closings, opening}
 use Rattle.ml_buchi.proofs.Conditions.{openings_and_closings}
-use Rattle.ml_buchi.proofs.WrittenParts.{both}
+use Rattle.ml_lists.proofs.WrittenParts.{both}
 use Rattle.ml_buchi.proofs.writing.write_condition.Goals as goal
 
 pub returns : goal.returns

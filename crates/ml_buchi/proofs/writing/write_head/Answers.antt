@@ -2,7 +2,7 @@ use Rattle.std.proofs.Common.{[], ◌∷◌, ◌++◌, codes, length, map}
 use Rattle.std.proofs.lemmas.Result.{on_ok_weaker}
 use Rattle.ml_lines.specs.Lines.{line_text, number}
 use Rattle.ml_buchi.specs.WrittenText.{condition_text, parity_condition, quoted}
-use Rattle.ml_buchi.proofs.WrittenParts.{both}
+use Rattle.ml_lists.proofs.WrittenParts.{both}
 use Rattle.ml_buchi.proofs.writing.write_head.Goals as goal
 
 pub returns : goal.returns

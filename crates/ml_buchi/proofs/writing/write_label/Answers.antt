@@ -1,6 +1,6 @@
 use Rattle.std.proofs.Common.{[], ◌∷◌, ◌++◌, ap, ◌∙◌, append_assoc}
 use Rattle.ml_buchi.specs.WrittenText.{label, literal, next_literal}
-use Rattle.ml_buchi.proofs.WrittenParts.{parts_more}
+use Rattle.ml_lists.proofs.WrittenParts.{parts_more}
 use Rattle.ml_buchi.proofs.writing.write_label.Goals as goal
 
 pub loop-prop-preserved : goal.loop-prop-preserved

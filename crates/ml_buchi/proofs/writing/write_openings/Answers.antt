@@ -1,7 +1,7 @@
 use Rattle.std.proofs.Common.{◌-◌, ◌++◌}
 use Rattle.std.specs.List.{flat_map, range_with_len}
 use Rattle.ml_buchi.specs.private.Openings.{opening}
-use Rattle.ml_buchi.proofs.WrittenParts.{parts_more}
+use Rattle.ml_lists.proofs.WrittenParts.{parts_more}
 use Rattle.ml_buchi.proofs.writing.write_openings.Goals as goal
 
 pub loop-set-preserved : goal.loop-set-preserved

@@ -2,7 +2,7 @@ use Rattle.std.proofs.Common.{[], ◌∷◌, ◌++◌, codes, ◌∙◌, append_
 use Rattle.std.specs.List.{flat_map, enumerate_from}
 use Rattle.ml_lines.specs.Lines.{line_text, number}
 use Rattle.ml_buchi.specs.WrittenText.{move_text}
-use Rattle.ml_buchi.proofs.WrittenParts.{rows_done, rows_more}
+use Rattle.ml_lists.proofs.WrittenParts.{rows_done, rows_more}
 use Rattle.ml_buchi.proofs.writing.write_state.Goals as goal
 
 pub loop-valuation-preserved : goal.loop-valuation-preserved

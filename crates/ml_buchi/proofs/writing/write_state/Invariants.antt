@@ -1,7 +1,7 @@
 use Rattle.std.proofs.Common.{◌≡◌, [], ◌∷◌, ◌++◌, codes}
 use Rattle.ml_lines.specs.Lines.{line_text, number}
 use Rattle.ml_buchi.specs.WrittenText.{move_text}
-use Rattle.ml_buchi.proofs.WrittenParts.{rows_to}
+use Rattle.ml_lists.proofs.WrittenParts.{rows_to}
 use Rattle.ml_buchi.proofs.writing.write_state.Given as goal
 
 abbrev pub invariant-loop-valuation : goal.invariant-loop-valuation

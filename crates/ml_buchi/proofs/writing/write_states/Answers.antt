@@ -4,7 +4,7 @@ use Rattle.std.specs.Global.{Vec}
 use Rattle.ml_determinise.specs.Numbering.{rows_of}
 use Rattle.ml_determinise.specs.declared.moves.DetMove.{DetMove}
 use Rattle.ml_buchi.specs.WrittenText.{state_text}
-use Rattle.ml_buchi.proofs.WrittenParts.{rows_done, rows_more}
+use Rattle.ml_lists.proofs.WrittenParts.{rows_done, rows_more}
 use Rattle.ml_buchi.proofs.writing.write_states.Goals as goal
 
 pub loop-state-preserved : goal.loop-state-preserved

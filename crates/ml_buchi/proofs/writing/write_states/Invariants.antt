@@ -1,7 +1,7 @@
 use Rattle.std.proofs.Common.{◌≡◌, ◌++◌}
 use Rattle.ml_determinise.specs.Numbering.{rows_of}
 use Rattle.ml_buchi.specs.WrittenText.{state_text}
-use Rattle.ml_buchi.proofs.WrittenParts.{rows_to}
+use Rattle.ml_lists.proofs.WrittenParts.{rows_to}
 use Rattle.ml_buchi.proofs.writing.write_states.Given as goal
 
 abbrev pub invariant-loop-state : goal.invariant-loop-state

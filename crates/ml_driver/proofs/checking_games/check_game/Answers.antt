@@ -1,12 +1,15 @@
 -- What is found is said, or why the text is refused.
-use Rattle.std.proofs.Common.{refl}
+use Rattle.std.proofs.Common.{◌∙◌, Some, ap, option_map, refl, sym}
 use Rattle.std.proofs.lemmas.Result.{IfOk-weaker}
 use Rattle.ml_driver.specs.CheckedGames.{if_found, if_unread}
+use Rattle.ml_driver.specs.Said.{said_text}
 use Rattle.ml_driver.proofs.checking_games.check_game.Goals as goal
 
-pub returns-in-Ok : goal.returns-in-Ok
-returns-in-Ok c =
-    IfOk-weaker c.finding_said.result _ _ (λ output said. if_found c.in-Ok.finding c.in-Ok.ensures said) c.finding_said.ensures
+pub returns-in-Ok-clause-answer : goal.returns-in-Ok-clause-answer
+returns-in-Ok-clause-answer c =
+    IfOk-weaker c.finding_said.result _ _ (λ output said. if_found c.in-Ok.finding c.in-Ok.ensures said) c.finding_said.ensures.said
 
-pub returns-in_ok-refusal_line-in-Err : goal.returns-in_ok-refusal_line-in-Err
-returns-in_ok-refusal_line-in-Err c = if_unread c.in-Err.refusal c.in-Err.ensures refl c.in_ok-refusal_line-in-Err.ensures
+pub returns-in_ok-line-in-Some-clause-answer : goal.returns-in_ok-line-in-Some-clause-answer
+returns-in_ok-line-in-Some-clause-answer c =
+    if_unread c.in-Err.refusal c.in-Err.ensures refl
+    (ap Some c.in_ok-line-in-Some.ensures ∙ ap (option_map said_text) (sym c.in-Some.is ∙ c.game_refused.ensures.said))

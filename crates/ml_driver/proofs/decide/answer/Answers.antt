@@ -9,8 +9,8 @@ pub decide-requires-clause-well_formed : goal.decide-requires-clause-well_formed
 decide-requires-clause-well_formed c =
     parsed_well c.args._text.now c.args.problem.now.formula c.requires.problem.is_parsed
 
-pub returns : goal.returns
-returns c =
-    subst (λ s. IsAnswered c.args.question c.args._text.now s c.in_ok-document.field-0.items) (sym c.status_in.ensures)
-    (answered c.args.question c.args._text.now c.args.problem.now c.requires.problem c.in_ok-document.field-0.items
-    c.in_ok-decision.decision c.in_ok-decision.ensures c.in_ok-document.ensures)
+pub returns-clause-answer : goal.returns-clause-answer
+returns-clause-answer c =
+    subst (λ s. IsAnswered c.args.question c.args._text.now s c.in_ok-write_decision.field-0.items) (sym c.status_in.ensures.status)
+    (answered c.args.question c.args._text.now c.args.problem.now c.requires.problem c.in_ok-write_decision.field-0.items
+    c.in_ok-decision.decision c.in_ok-decision.ensures c.in_ok-write_decision.ensures.text c.in_ok-write_decision.ensures.shown)

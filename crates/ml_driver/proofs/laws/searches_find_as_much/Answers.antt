@@ -1,4 +1,4 @@
-use Rattle.ml_driver.proofs.MadeAnswers.{makes_as_realized}
+use Rattle.ml_driver.proofs.TaskAnswers.{makes_as_realized}
 use Rattle.ml_driver.proofs.Searched.{finds_as_decided, proves_as_decided}
 use Rattle.ml_driver.proofs.laws.searches_find_as_much.Goals as goal
 

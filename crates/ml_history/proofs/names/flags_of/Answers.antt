@@ -1,9 +1,9 @@
 use Rattle.std.proofs.Common.{ℕ, true, get_or, ap, ◌∙◌, arith}
 use Rattle.std.proofs.Math.ListN.{length-set}
+use Rattle.std.proofs.lemmas.List.{take_all}
 use Rattle.ml_trace.specs.Stack.{has}
 use Rattle.ml_lists.proofs.Member.{place-member}
 use Rattle.ml_history.proofs.trees.FlagsOfNames.{flags_next}
-use Rattle.ml_history.proofs.plain_step.PlainItems.{take_all}
 use Rattle.ml_history.proofs.names.flags_of.Goals as goal
 
 pub index_mut-requires : goal.index_mut-requires
@@ -25,5 +25,5 @@ loop-name-preserved c =
 pub returns-clause-flags : goal.returns-clause-flags
 returns-clause-flags c =
     c.loop-name.invariant.1 ∙ ap (λ xs. λ (y : ℕ). has y xs)
-    (take_all c.args.names.now c.loop-name.name-index
+    (take_all c.loop-name.name-index c.args.names.now
     (omega (arith, c.loop-name-test.false, c.loop-name.auto.name-index-end)))

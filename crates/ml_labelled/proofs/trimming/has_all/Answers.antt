@@ -1,8 +1,7 @@
 use Rattle.ml_lists.specs.Member.{IsMember}
 use Rattle.ml_lists.proofs.Member.{All-member}
-use Rattle.ml_lists.proofs.Members.{All-read}
+use Rattle.ml_lists.proofs.Members.{All-read, next_holds}
 use Rattle.ml_labelled.specs.declared.labelled.Literal.{Literal}
-use Rattle.ml_labelled.proofs.KeptEdges.{next_holds}
 use Rattle.ml_labelled.proofs.trimming.has_all.Goals as goal
 
 pub loop-literal-preserved : goal.loop-literal-preserved

@@ -2,7 +2,7 @@ use Rattle.std.proofs.Common.{◌≡◌, [], ◌++◌, get_or, map, sym, ap, ◌
 use Rattle.std.proofs.lemmas.List.{get_or-map, length-map}
 use Rattle.ml_labelled.specs.LabelledText.{state_text}
 use Rattle.ml_labelled.specs.private.Views.{edge_of, edges_in, rows_of}
-use Rattle.ml_labelled.proofs.WrittenParts.{rows_done, rows_more}
+use Rattle.ml_lists.proofs.WrittenParts.{rows_done, rows_more}
 use Rattle.ml_labelled.proofs.writing.write_states.Goals as goal
 
 pub loop-state-preserved : goal.loop-state-preserved

@@ -1,7 +1,7 @@
 use Rattle.std.proofs.Common.{◌≡◌, ◌++◌}
 use Rattle.ml_labelled.specs.LabelledText.{state_text}
 use Rattle.ml_labelled.specs.private.Views.{rows_of}
-use Rattle.ml_labelled.proofs.WrittenParts.{rows_to}
+use Rattle.ml_lists.proofs.WrittenParts.{rows_to}
 use Rattle.ml_labelled.proofs.writing.write_states.Given as goal
 
 abbrev pub invariant-loop-state : goal.invariant-loop-state

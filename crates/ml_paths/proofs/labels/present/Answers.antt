@@ -4,7 +4,7 @@ use Rattle.ml_graph.specs.Graph.{prop_at}
 use Rattle.ml_lists.specs.Member.{IsMember}
 use Rattle.ml_word_automaton.specs.Words.{has}
 use Rattle.ml_paths.specs.Paths.{labels_at}
-use Rattle.ml_paths.proofs.Grown.{one_more}
+use Rattle.ml_lists.proofs.PassingBelow.{one_more}
 use Rattle.ml_paths.proofs.labels.present.Goals as goal
 
 pub loop-prop-preserved : goal.loop-prop-preserved
@@ -16,7 +16,7 @@ loop-prop-preserved c =
     c.name-item.is
     ∙ get_or_default names.result.now n c.name-item.result [] c.loop-prop-test.true
     ∙ ap (λ props. get_or props n []) names.ensures.value in
-    one_more c.args.graph.now letter n c.loop-prop.set c.add_if.new.set c.has_label.result
+    one_more (λ p. has letter (prop_at c.args.graph.now p)) n c.loop-prop.set c.add_if.new.set c.has_label.result
     c.loop-prop.invariant (c.has_label.ensures ∙ ap (has letter) here)
     (λ p.
     subst (λ k. IsMember p c.add_if.new.set ↔ (IsMember p c.loop-prop.set ⊎ ((p ≡ k) × IsTrue c.has_label.result)))

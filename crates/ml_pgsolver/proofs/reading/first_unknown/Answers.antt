@@ -1,7 +1,8 @@
-use Rattle.std.proofs.Common.{length, sym, ap, ◌∙◌, arith}
+use Rattle.std.proofs.Common.{length, sym, ap, ◌∙◌, arith, nat_le}
 use Rattle.ml_pgsolver.specs.private.Assembled.{unknown_from}
 use Rattle.ml_pgsolver.specs.private.Signs.{signs_from}
-use Rattle.ml_pgsolver.proofs.UnknownSteps.{stranger_here, stranger_later, no_stranger, place_grows}
+use Rattle.ml_pgsolver.proofs.FirstStranger.{stranger_here, stranger_later, no_stranger}
+use Rattle.ml_pgsolver.proofs.UnknownSteps.{place_grows}
 use Rattle.ml_pgsolver.proofs.reading.first_unknown.Goals as goal
 
 pub returns-then-is_stranger : goal.returns-then-is_stranger
@@ -11,7 +12,7 @@ returns-then-is_stranger c =
     let n = c.loop-placed.place in
     let placed = c.in-Some.placed in
     sym (c.loop-placed.invariant.comes ∙ ap (unknown_from ids (length text) n) c.in-Some.ensures.signs
-    ∙ stranger_here ids (length text) n placed.sign placed.start (signs_from text placed.end) (sym c.if-is_stranger.ensures))
+    ∙ stranger_here (nat_le 3) ids (length text) n placed.sign placed.start (signs_from text placed.end) (sym c.if-is_stranger.ensures))
 
 pub loop-placed-preserved : goal.loop-placed-preserved
 loop-placed-preserved c =
@@ -24,7 +25,7 @@ loop-placed-preserved c =
       within = c.in-Some.ensures.place.2;
       small = omega (arith, c.sign_place-place.ensures, place_grows n placed.sign, c.in-Some.ensures.place.1, c.loop-placed.invariant.small, c.in-Some.ensures.place.0);
       comes = c.loop-placed.invariant.comes ∙ ap (unknown_from ids (length text) n) c.in-Some.ensures.signs
-          ∙ stranger_later ids (length text) n placed.sign placed.start rest (sym c.if-is_stranger.ensures)
+          ∙ stranger_later (nat_le 3) ids (length text) n placed.sign placed.start rest (sym c.if-is_stranger.ensures)
           ∙ ap (λ m. unknown_from ids (length text) m rest) (sym c.sign_place-place.ensures);
     }
 
@@ -33,4 +34,4 @@ returns c =
     let text = c.args.text.now in
     let ids = c.args.ids.now.keys in
     sym (c.loop-placed.invariant.comes ∙ ap (unknown_from ids (length text) c.loop-placed.place) c.in_default.ensures.signs
-    ∙ no_stranger ids (length text) c.loop-placed.place)
+    ∙ no_stranger (nat_le 3) ids (length text) c.loop-placed.place)

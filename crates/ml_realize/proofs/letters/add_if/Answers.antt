@@ -1,6 +1,6 @@
 use Rattle.std.proofs.Common.{◌≡◌, ◌↔◌, ◌⊎◌, true, sym, subst}
 use Rattle.ml_lists.specs.Member.{IsMember}
-use Rattle.ml_realize.proofs.PresentNames.{with_number}
+use Rattle.ml_lists.proofs.PassingBelow.{with_number}
 use Rattle.ml_realize.proofs.letters.add_if.Goals as goal
 
 pub returns-in_ok-insert : goal.returns-in_ok-insert

@@ -3,7 +3,7 @@ use Rattle.std.proofs.lemmas.List.{take_all, length-drop}
 use Rattle.std.proofs.lemmas.List.Sorted.{IsPartitionPoint-from_clause, IsPartitionedBy-ltb, IsPartitionedBy-leb, IsNonDecreasingBy-drop}
 use Rattle.ml_refutation.specs.declared.refutation.Item.{Item}
 use Rattle.ml_refute_check.specs.private.Sources.{RiseByNode}
-use Rattle.ml_refute_check.proofs.FoundByNode.{members_at}
+use Rattle.ml_lists.proofs.Keyed.{members_at}
 use Rattle.ml_refute_check.proofs.by_node.items_at.Goals as goal
 
 pub returns : goal.returns

@@ -3,7 +3,7 @@ use Rattle.std.proofs.lemmas.List.{take_all, length-drop}
 use Rattle.std.proofs.lemmas.List.Sorted.{IsPartitionPoint-from_clause, IsPartitionedBy-ltb, IsPartitionedBy-leb, IsNonDecreasingBy-drop}
 use Rattle.ml_trace.specs.declared.letters.Triple.{Triple}
 use Rattle.ml_refute_check.specs.private.Sources.{RiseByTarget}
-use Rattle.ml_refute_check.proofs.FoundByNode.{members_at}
+use Rattle.ml_lists.proofs.Keyed.{members_at}
 use Rattle.ml_refute_check.proofs.by_node.traces_to.Goals as goal
 
 pub returns : goal.returns

@@ -4,7 +4,7 @@ use Rattle.std.proofs.lemmas.List.{take_all, length-drop}
 use Rattle.std.proofs.lemmas.List.Sorted.{IsPartitionPoint-from_clause, IsPartitionedBy-ltb, IsPartitionedBy-leb, IsNonDecreasingBy-drop}
 use Rattle.ml_trace.specs.declared.letters.Transition.{Transition}
 use Rattle.ml_emptiness.specs.private.Leaving.{IsLeaving, RiseBySource}
-use Rattle.ml_emptiness.proofs.Keyed.{members_at}
+use Rattle.ml_lists.proofs.Keyed.{members_at}
 use Rattle.ml_emptiness.proofs.leaving.BySource.leaving.Goals as goal
 
 pub returns : goal.returns

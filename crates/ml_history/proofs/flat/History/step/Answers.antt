@@ -13,7 +13,7 @@ use Rattle.ml_history.specs.private.Ways.{AreWays}
 use Rattle.ml_history.proofs.arrays.FlagsAlongStacks.{cut_ways}
 use Rattle.ml_history.proofs.arrays.NumberedParts.{stays_counted}
 use Rattle.ml_history.proofs.arrays.FlatStep.{taken_ways, cut_low, flat_stepped, flat_live, flat_mark}
-use Rattle.ml_history.proofs.plain_step.PlainStep.{live-small, step_is_plain}
+use Rattle.ml_history.proofs.definition.SmallHistories.{live-small, step_is_small}
 use Rattle.ml_history.proofs.flat.History.step.Goals as goal
 
 pub full_names-requires-clause-sources : goal.full_names-requires-clause-sources
@@ -137,7 +137,7 @@ invariant_of-result c =
     ∙ ap (λ fs. count (flagged fs) y) c.as_slice-7.ensures.value)
     in
     let behind : IsSmallHistory (stepped h letter) =
-    step_is_plain h letter kept (subst HasSmallEnds c.transitions.ensures.value c.transitions.ensures.small) in
+    step_is_small h letter kept (subst HasSmallEnds c.transitions.ensures.value c.transitions.ensures.small) in
     record {
       kept = subst IsSmallHistory (sym next) behind;
       live_is = c.how_many-live.ensures ∙ (λ i. count (flagged (c.as_slice-8.ensures.value i))

@@ -2,7 +2,7 @@ use Rattle.std.proofs.Common.{rules, ◌+◌, ◌<◌, ◌^◌, ◌∙◌, ap, a
 use Rattle.ml_history.specs.HistoryStep.{last_name, live}
 use Rattle.ml_history.specs.private.Keys.{stack_at}
 use Rattle.ml_history.proofs.arrays.CutOffers.{last_low, offered-last, offered-last_plain}
-use Rattle.ml_history.proofs.plain_step.PlainStep.{live-small}
+use Rattle.ml_history.proofs.definition.SmallHistories.{live-small}
 use Rattle.ml_history.proofs.flat.cutting.end_of.Goals as goal
 
 pub overflow_add-result : goal.overflow_add-result

@@ -3,7 +3,7 @@ use Rattle.std.proofs.lemmas.Result.{IfOk-weaker}
 use Rattle.ml_lists.proofs.Member.{place-member}
 use Rattle.ml_history.specs.private.TreeStep.{flagged}
 use Rattle.ml_history.specs.declared.flat.offers.Offer.{Offer}
-use Rattle.ml_history.proofs.plain_step.PlainStep.{live-small}
+use Rattle.ml_history.proofs.definition.SmallHistories.{live-small}
 use Rattle.ml_history.proofs.arrays.CutOffers.{marked_none, marked_more, source_down, full_told}
 use Rattle.ml_history.proofs.flat.cutting.full_names.Goals as goal
 

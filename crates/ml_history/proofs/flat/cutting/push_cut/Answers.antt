@@ -6,7 +6,7 @@ use Rattle.ml_history.specs.HistoryStep.{last_name, live, through}
 use Rattle.ml_history.specs.private.TreeStep.{flagged}
 use Rattle.ml_history.specs.private.Keys.{stack_at}
 use Rattle.ml_history.proofs.arrays.CutOffers.{source_low, source_ascends, last_low, offer-cut, offer-plain, offer-longer}
-use Rattle.ml_history.proofs.plain_step.PlainStep.{live-small}
+use Rattle.ml_history.proofs.definition.SmallHistories.{live-small}
 use Rattle.ml_history.proofs.flat.cutting.push_cut.Goals as goal
 
 pub push_whole_or_through-requires-clause-low : goal.push_whole_or_through-requires-clause-low

@@ -2,7 +2,7 @@ use Rattle.std.proofs.Common.{◌∙◌, length, ap, subst, sym, arith}
 use Rattle.std.proofs.lemmas.Result.{IfOk-weaker}
 use Rattle.ml_history.specs.private.Line.{IsTree, AreLinks, ArePlaces}
 use Rattle.ml_history.proofs.arrays.OrderOfNames.{paths, tell_offers}
-use Rattle.ml_history.proofs.plain_step.PlainStep.{live-small}
+use Rattle.ml_history.proofs.definition.SmallHistories.{live-small}
 use Rattle.ml_history.proofs.flat.places.places.Goals as goal
 
 pub links-requires-clause-few : goal.links-requires-clause-few

@@ -1,9 +1,9 @@
 use Rattle.std.proofs.Common.{ap, ◌∙◌, arith}
 use Rattle.std.proofs.lemmas.List.Sorted.{IsPermutation-sym}
+use Rattle.std.proofs.lemmas.List.{take_all}
 use Rattle.ml_lists.specs.Ascending.{ascending}
 use Rattle.ml_history.proofs.trees.FlagsOfNames.{set_next, set_sorted}
 use Rattle.ml_lists.proofs.Permuted.{permuted-member}
-use Rattle.ml_history.proofs.plain_step.PlainItems.{take_all}
 use Rattle.ml_history.proofs.tree.renewal.set_of.Goals as goal
 
 pub loop-state-preserved : goal.loop-state-preserved
@@ -17,7 +17,7 @@ returns c =
     let after = c.sort.new.self.items in
     let moved = c.in_ok-sort.ensures.permutation in
     c.loop-state.invariant
-    ∙ ap ascending (take_all c.as_slice-state-items.result.now c.loop-state.state-index
+    ∙ ap ascending (take_all c.loop-state.state-index c.as_slice-state-items.result.now
     (omega (arith, c.loop-state-test.false, c.loop-state.auto.state-index-end)))
     ∙ ap ascending c.as_slice-state-items.ensures.value
     ∙ set_sorted after before (λ x m. permuted-member x after before (IsPermutation-sym before after moved) m)

@@ -1,2 +1,0 @@
--- laws over the definitions alone
-pub mod Laws
