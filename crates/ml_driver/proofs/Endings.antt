@@ -6,6 +6,7 @@
 --   too_long_due   == an input past the limit of its command is refused by its length
 --   given_past     == and was read, as far as it was given
 --   unread         == how a call ends that lacks memory before anything is read
+--   lacked         == want of memory ends a call as it should
 --   line_confirmed == what a text is refused with shows no document
 use Rattle.std.proofs.Common.{◌≡◌, ℕ, ◌+◌, ◌<◌, ◌≤◌, Bool, true, false, length, List, [], Option, Some, None, IfSome, if◌then◌else◌, refl, sym, ap, subst, inl, inr, ⊎_elim, arith}
 use Rattle.std.specs.Io.KnownBytes.{append_known, prepend_known}
@@ -208,6 +209,10 @@ lacking c w text given fits nothing calm = record {
   nothing_taken = nothing;
   is_calm = calm;
 }
+
+-- a call that lacks memory ends so
+pub lacked : (c : Option Command) (w : World) (status : Status) → status ≡ NoMemory → LackedMemory c w → Ended c w status
+lacked c w status is lacks = subst (Ended c w) (sym is) lacks
 
 -- ---- where nothing is read
 

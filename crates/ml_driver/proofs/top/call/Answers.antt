@@ -4,7 +4,7 @@ use Rattle.ml_driver.specs.Said.{said_text}
 use Rattle.ml_driver.specs.Run.{IsAnswer, IsWhole, WasGiven, Wrote}
 use Rattle.ml_driver.specs.Statuses.{longest_input}
 use Rattle.ml_driver.specs.private.Written.{IsSaidIf}
-use Rattle.ml_driver.proofs.Endings.{ended_written, ended_with, given_past, line_confirmed, too_long_due}
+use Rattle.ml_driver.proofs.Endings.{ended_written, ended_with, given_past, lacked, line_confirmed, too_long_due, unread}
 use Rattle.ml_driver.proofs.ToldCalls.{begins_of, read_of, told_with, told_written}
 use Rattle.ml_driver.specs.declared.said.Said.TheVariants.{NoCommand, TooLong}
 use Rattle.ml_driver.specs.declared.status.Status.TheVariants as status
@@ -64,3 +64,7 @@ returns-in-Ok-answer-clause-told g c =
     (λ o. IsSaidIf (g.K.Sink.taken c.args.sink.now) (g.K.Sink.taken written.new.sink) o due.said due.status written.result.said
     written.result.status)
     c.deref-in-Ok-answer.ensures.value written.ensures.said))
+
+pub returns-in-Err-clause-ended : goal.returns-in-Err-clause-ended
+returns-in-Err-clause-ended g c =
+    lacked _ _ _ c.failed.ensures.status (unread _ _ refl refl (record { source_is_calm = refl; sink_is_calm = refl }))
