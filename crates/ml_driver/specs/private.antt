@@ -8,7 +8,7 @@ pub mod Rows
 pub mod Findings
 -- inputs of commands
 pub mod Inputs
--- what is said once an output is written
+-- what a call delivers, and what is said of it
 pub mod Written
 -- the statuses of outcomes
 pub mod Outcomes

@@ -11,7 +11,7 @@ ghost use Rattle.ml_driver.specs.Run as answers;
 ghost use Rattle.ml_driver.specs.Run.{Ended, IsAnswer, IsWhole, Wrote};
 ghost use Rattle.ml_driver.specs.Said.{IsTold, is_text};
 ghost use Rattle.ml_driver.specs.UsualNumbers.{HasUsualNumbers};
-ghost use Rattle.ml_driver.specs.private.Written.{IsSaidIf};
+ghost use Rattle.ml_driver.specs.private.Written.{IsDelivered, IsSaidIf};
 
 use crate::asking::ask;
 use crate::bench::{generate, measure};
@@ -123,8 +123,8 @@ pub fn run<S: Source, K: Sink>(
 /// Answers a command as `run` does, and gives back with the status what people may be told of the answer: what the output says,
 /// of which command, on which input.
 ///
-/// Nothing is said exactly where the output is a text, and where the status is `ReadFault`, `WriteFault` or `NoMemory`. The
-/// input is given back where something is said, unless it is too long.
+/// Nothing is said only where that status of the command comes with a text, or where the status is `ReadFault`, `WriteFault` or
+/// `NoMemory`. The input is given back where something is said, unless it is too long.
 ///
 /// Cost: as that of `run`.
 pub fn call<S: Source, K: Sink>(
@@ -155,38 +155,71 @@ pub fn call<S: Source, K: Sink>(
     }) result.status result.command
         result.input.items result.said }
 {
-    let command = match command_of(alloc, words) {
-        Ok(Some(command)) => command,
-        Ok(None) => {
-            let said = Some(Said::NoCommand);
-            return written(
-                sink,
-                None,
-                Vec::new(alloc),
-                Status::Words,
-                b"refused words\n",
-                said,
-            );
-        }
-        Err(NoMemory) => return failed(alloc, Status::NoMemory),
-    };
-    let text = match input_of(alloc, command, source) {
-        Ok(text) => text,
-        Err(ReadRefusal::ReadFault) => return failed(alloc, Status::ReadFault),
-        Err(ReadRefusal::TooLong) => {
-            let said = Some(Said::TooLong);
-            let none = Vec::new(alloc);
-            return written(
-                sink,
-                Some(command),
-                none,
-                Status::Text,
-                b"refused length\n",
-                said,
-            );
-        }
-        Err(ReadRefusal::NoMemory) => return failed(alloc, Status::NoMemory),
-    };
+    match command_of(alloc, words) {
+        Ok(Some(command)) => answered(alloc, command, source, sink),
+        Ok(None) => written(
+            sink,
+            None,
+            Vec::new(alloc),
+            Status::Words,
+            b"refused words\n",
+            Some(Said::NoCommand),
+        ),
+        Err(NoMemory) => failed(alloc, Status::NoMemory),
+    }
+}
+
+// the call of a command
+fn answered<S: Source, K: Sink>(
+    alloc: Global,
+    command: Command,
+    source: &mut S,
+    sink: &mut K,
+) -> Ending
+    requires { HasUsualNumbers command }
+    ensures ended { Ended (Some command) (record {
+      left_before = S.remaining source.old;
+      left_after = S.remaining source.new;
+      source_faults_before = S.faults source.old;
+      source_faults_after = S.faults source.new;
+      taken_before = K.taken sink.old;
+      taken_after = K.taken sink.new;
+      sink_faults_before = K.faults sink.old;
+      sink_faults_after = K.faults sink.new;
+    }) result.status }
+    ensures told { IsToldIn (Some command) (record {
+      left_before = S.remaining source.old;
+      left_after = S.remaining source.new;
+      source_faults_before = S.faults source.old;
+      source_faults_after = S.faults source.new;
+      taken_before = K.taken sink.old;
+      taken_after = K.taken sink.new;
+      sink_faults_before = K.faults sink.old;
+      sink_faults_after = K.faults sink.new;
+    }) result.status result.command
+        result.input.items result.said }
+{
+    match input_of(alloc, command, source) {
+        Ok(text) => delivered(alloc, command, text, sink),
+        Err(ReadRefusal::TooLong) => written(
+            sink,
+            Some(command),
+            Vec::new(alloc),
+            Status::Text,
+            b"refused length\n",
+            Some(Said::TooLong),
+        ),
+        Err(ReadRefusal::ReadFault) => failed(alloc, Status::ReadFault),
+        Err(ReadRefusal::NoMemory) => failed(alloc, Status::NoMemory),
+    }
+}
+
+// the answer to a command on a text, written
+fn delivered<K: Sink>(alloc: Global, command: Command, text: Vec<u8>, sink: &mut K) -> Ending
+    requires { HasUsualNumbers command }
+    ensures delivered { IsDelivered command text.items (K.taken sink.old) (K.taken sink.new) (K.faults sink.old)
+        (K.faults sink.new) result.status result.command result.input.items result.said }
+{
     match answer(alloc, command, &text) {
         Ok(output) => written(
             sink,
