@@ -12,8 +12,8 @@
 --   [L] D                where the letter has the literals of L, to the state D; with {0} behind it where it accepts
 --   --END--
 --
--- States ascend. A label has the literals of the cube, joined by `&`, as `0&!1`, and is `t` where there are none. What all texts
--- of automata have alike is in `ml_hoa`.
+-- States ascend. A label has the literals of the cube, joined by `&`, as `0&!1`, and is `t` where there are none. What all
+-- texts of automata have alike is in `ml_hoa`.
 --
 -- What such a text stands for is an automaton as `ml_hoa` has it: with guards, of one list of edges.
 --
