@@ -10,8 +10,8 @@
 --   [L] D {P}            where the valuation is that of the label L, a move to the state D, in the set P
 --   --END--
 --
--- States and valuations ascend. Each line ends with one LF; numbers are written without leading zeros. The set of a move is
--- its priority, and a run is accepted if the lowest set that it meets again and again is odd.
+-- States and valuations ascend. The set of a move is its priority, and a run is accepted if the lowest set that it meets again
+-- and again is odd. What all texts of automata have alike is in `ml_hoa`.
 --
 --   Condition              == which runs are accepted: those that meet a set finitely often (Fin) or again and again (Inf),
 --                             those that meet both of two conditions, or one of them
@@ -22,22 +22,24 @@
 --   parity_condition top   == so of all sets below `top`
 --   operand_text c         == c as a part of a condition: between parentheses, unless it is about one set
 --   condition_text c       == c as a whole
---   quoted name            == a name between quotes; so words that are bracketed and braced
+--   braced word            == a word between braces
 --   literal v n            == the proposition n, or its negation, whichever the valuation v makes true
 --   next_literal v n       == an `&` and this literal
 --   label k v              == the literals of k propositions; `t` where there is none
 --   move_line k m          == the line of the move m.1 under the valuation m.0; move_text has its bytes
 --   state_text k s         == the lines of the state s.0 with the moves s.1
+--   acceptance_line top    == the line of the condition
 --   head_lines n ps top    == the lines before n states, where the propositions have the names ps
 --   automaton_text d       == all lines
 --   IsRow k top n moves    == there is one move for each valuation of k propositions, with a set below `top` and to a state
 --                             below n
 --   IsWritable d           == `top` is odd, there are few propositions, some state, and each state has such moves
 --   ConditionIsParity      == the condition is met exactly where the lowest set that is met again and again is odd
-use Rattle.std.specs.Prelude.{ℕ, ◌≡◌, ◌+◌, ◌-◌, ◌^◌, ◌%◌, ◌<◌, ◌≤◌, ◌==◌, ◌&&◌, ◌||◌, ◌↔◌, not, Bool, true, false, zero, suc, List, [], ◌∷◌, ◌++◌, length, map, codes, All, if◌then◌else◌}
+use Rattle.std.specs.Prelude.{ℕ, ◌≡◌, ◌+◌, ◌-◌, ◌^◌, ◌%◌, ◌<◌, ◌≤◌, ◌==◌, ◌&&◌, ◌||◌, ◌↔◌, not, Bool, true, false, zero, suc, List, [], ◌∷◌, ◌++◌, length, codes, All, if◌then◌else◌}
 use Rattle.std.specs.List.{flat_map, enumerate_from, range_with_len}
 use Rattle.ml_lines.specs.Lines.{Line, line_text, number, text_of}
 use Rattle.ml_hoa.specs.Automaton.{most_props}
+use Rattle.ml_hoa.specs.WrittenLines.{body_line, bracketed, last_line, opening_lines, signed, state_line}
 use Rattle.ml_determinise.specs.declared.moves.DetMove.{DetMove}
 use Rattle.ml_buchi.specs.Deterministic.{Deterministic}
 use Rattle.ml_buchi.specs.Valuations.{is_true}
@@ -87,10 +89,10 @@ condition_text (Or c d) = operand_text c ++ (124 ∷ operand_text d)
 
 -- ---- labels
 
--- 33 is `!`
 abbrev pub literal : ℕ → ℕ → List ℕ
-literal v n = if is_true v n then number n else 33 ∷ number n
+literal v n = signed (is_true v n) n
 
+-- 38 is `&`
 abbrev pub next_literal : ℕ → ℕ → List ℕ
 next_literal v n = 38 ∷ literal v n
 
@@ -99,14 +101,6 @@ label zero v = codes "t"
 label (suc k) v = literal v 0 ++ flat_map (next_literal v) (range_with_len 1 k)
 
 -- ---- lines
-
--- 34 is the quote
-abbrev pub quoted : List ℕ → List ℕ
-quoted name = 34 ∷ (name ++ 34 ∷ [])
-
--- 91 and 93 are the brackets
-abbrev pub bracketed : List ℕ → List ℕ
-bracketed word = 91 ∷ (word ++ 93 ∷ [])
 
 -- 123 and 125 are the braces
 abbrev pub braced : List ℕ → List ℕ
@@ -120,22 +114,19 @@ move_text k m = line_text (move_line k m)
 
 abbrev pub state_text : ℕ → ℕ × List DetMove → List ℕ
 state_text k s =
-    line_text (codes "State:" ∷ number s.0 ∷ []) ++ flat_map (move_text k) (enumerate_from 0 s.1)
+    line_text (state_line s.0) ++ flat_map (move_text k) (enumerate_from 0 s.1)
+
+abbrev pub acceptance_line : ℕ → Line
+acceptance_line top = codes "Acceptance:" ∷ number top ∷ condition_text (parity_condition top) ∷ []
 
 abbrev pub head_lines : ℕ → List (List ℕ) → ℕ → List Line
 head_lines states props top =
-    (codes "HOA:" ∷ codes "v1" ∷ [])
-    ∷ (codes "States:" ∷ number states ∷ [])
-    ∷ (codes "Start:" ∷ number 0 ∷ [])
-    ∷ (codes "AP:" ∷ number (length props) ∷ map quoted props)
-    ∷ (codes "Acceptance:" ∷ number top ∷ condition_text (parity_condition top) ∷ [])
-    ∷ (codes "--BODY--" ∷ [])
-    ∷ []
+    opening_lines states props ++ (acceptance_line top ∷ body_line ∷ [])
 
 abbrev pub automaton_text : Deterministic → List ℕ
 automaton_text d =
     text_of (head_lines (length d.moves) d.props d.top)
-    ++ (flat_map (state_text (length d.props)) (enumerate_from 0 d.moves) ++ line_text (codes "--END--" ∷ []))
+    ++ (flat_map (state_text (length d.props)) (enumerate_from 0 d.moves) ++ line_text last_line)
 
 -- ---- what can be written
 

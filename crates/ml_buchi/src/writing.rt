@@ -1,16 +1,17 @@
 // The text of a deterministic automaton.
-ghost use Rattle.std.specs.Prelude.{◌≡◌, ◌+◌, ◌-◌, ◌<◌, ◌≤◌, [], ◌∷◌, ◌++◌, codes, map, length, IfOk, OnOk};
+ghost use Rattle.std.specs.Prelude.{◌≡◌, ◌+◌, ◌-◌, ◌<◌, ◌≤◌, ◌++◌, IfOk, OnOk};
 ghost use Rattle.std.specs.List.{flat_map, enumerate_from, range_with_len};
 ghost use Rattle.ml_lines.specs.Lines.{line_text, next, number, text_of};
 ghost use Rattle.ml_hoa.specs.Automaton.{most_props};
+ghost use Rattle.ml_hoa.specs.WrittenLines.{bracketed};
 ghost use Rattle.ml_determinise.specs.Numbering.{rows_of};
-ghost use Rattle.ml_buchi.specs.WrittenText.{alone, automaton_text, braced, bracketed, condition_text, head_lines, IsWritable, label, literal, move_text, operand_text, parity_condition, quoted, state_text};
+ghost use Rattle.ml_buchi.specs.WrittenText.{acceptance_line, alone, automaton_text, braced, condition_text, head_lines, label, literal, move_text, operand_text, parity_condition, state_text};
 ghost use Rattle.ml_buchi.specs.private.Openings.{closings, opening};
 
 use crate::deterministic::Deterministic;
 use ml_base::NoMemory;
 use ml_determinise::DetMove;
-use ml_hoa::Quoted;
+use ml_hoa::{Quoted, write_body_line, write_last_line, write_opening, write_signed, write_state_line};
 use ml_lines::{end_line, write_next_number, write_number, write_word};
 use std::alloc::Global;
 
@@ -32,23 +33,8 @@ pub fn write(alloc: Global, automaton: &Deterministic) -> Result<Vec<u8>, NoMemo
     let moves = automaton.moves();
     write_head(&mut out, moves.len(), props, automaton.top())?;
     write_states(&mut out, props.len(), moves)?;
-    write_line(&mut out, b"--END--")?;
+    write_last_line(&mut out)?;
     Ok(out)
-}
-
-fn write_line(out: &mut Vec<u8>, word: &[u8]) -> Result<(), NoMemory>
-    ensures { OnOk result (out.new.items ≡ out.old.items ++ line_text (word.now ∷ [])) }
-{
-    write_word(out, word)?;
-    end_line(out)
-}
-
-fn write_numbered(out: &mut Vec<u8>, word: &[u8], n: u64) -> Result<(), NoMemory>
-    ensures { OnOk result (out.new.items ≡ out.old.items ++ line_text (word.now ∷ number n ∷ [])) }
-{
-    write_word(out, word)?;
-    write_next_number(out, n)?;
-    end_line(out)
 }
 
 // ---- the lines before the states
@@ -57,40 +43,9 @@ fn write_head(out: &mut Vec<u8>, states: usize, props: &[Quoted], top: u32) -> R
     requires { 0 < top }
     ensures { OnOk result (out.new.items ≡ out.old.items ++ text_of (head_lines states props.now top)) }
 {
-    write_line(out, b"HOA: v1")?;
-    write_numbered(out, b"States:", states as u64)?;
-    write_numbered(out, b"Start:", 0)?;
-    write_props(out, props)?;
+    write_opening(out, states, props)?;
     write_acceptance(out, top)?;
-    write_line(out, b"--BODY--")
-}
-
-fn write_quoted(out: &mut Vec<u8>, name: &[u8]) -> Result<(), NoMemory>
-    ensures { OnOk result (out.new.items ≡ out.old.items ++ next (quoted name.now)) }
-{
-    write_word(out, b" \"")?;
-    write_word(out, name)?;
-    out.push(b'"')?;
-    Ok(())
-}
-
-fn write_names(out: &mut Vec<u8>, props: &[Quoted]) -> Result<(), NoMemory>
-    ensures { OnOk result (out.new.items ≡ out.old.items ++ flat_map next (map quoted props.now)) }
-{
-    for name in props {
-        write_quoted(out, name.bytes())?;
-    }
-    Ok(())
-}
-
-fn write_props(out: &mut Vec<u8>, props: &[Quoted]) -> Result<(), NoMemory>
-    ensures { OnOk result (out.new.items ≡ out.old.items
-        ++ line_text (codes "AP:" ∷ number (length props.now) ∷ map quoted props.now)) }
-{
-    write_word(out, b"AP:")?;
-    write_next_number(out, props.len() as u64)?;
-    write_names(out, props)?;
-    end_line(out)
+    write_body_line(out)
 }
 
 // what is said of one set
@@ -150,8 +105,7 @@ fn write_condition(out: &mut Vec<u8>, top: u32) -> Result<(), NoMemory>
 
 fn write_acceptance(out: &mut Vec<u8>, top: u32) -> Result<(), NoMemory>
     requires { 0 < top }
-    ensures { OnOk result (out.new.items ≡ out.old.items
-        ++ line_text (codes "Acceptance:" ∷ number top ∷ condition_text (parity_condition top) ∷ [])) }
+    ensures { OnOk result (out.new.items ≡ out.old.items ++ line_text (acceptance_line top)) }
 {
     write_word(out, b"Acceptance:")?;
     write_next_number(out, u64::from(top))?;
@@ -165,10 +119,8 @@ fn write_literal(out: &mut Vec<u8>, valuation: usize, prop: usize) -> Result<(),
     requires { prop < most_props }
     ensures { OnOk result (out.new.items ≡ out.old.items ++ literal valuation prop) }
 {
-    if (valuation >> prop) & 1 == 0 {
-        out.push(b'!')?;
-    }
-    write_number(out, prop as u64)
+    let positive = (valuation >> prop) & 1 != 0;
+    write_signed(out, positive, prop as u64)
 }
 
 fn write_label(out: &mut Vec<u8>, props: usize, valuation: usize) -> Result<(), NoMemory>
@@ -229,7 +181,7 @@ fn write_state(
     requires { props ≤ most_props }
     ensures { OnOk result (out.new.items ≡ out.old.items ++ state_text props (state, moves.now)) }
 {
-    write_numbered(out, b"State:", state as u64)?;
+    write_state_line(out, state)?;
     for (valuation, det_move) in moves.iter().enumerate() {
         write_move(out, props, valuation, *det_move)?;
     }

@@ -1,10 +1,10 @@
 -- What a call gives back beside its status.
 --
---   IsTelling c w s d input x == the output that was taken begins with the line of x, whose status s is; d is the command c, and
---                          the input is what was read, unless it is too long
+--   IsTelling c w s d input x == the output that was taken begins with the line of x, whose status s is; d is the command c,
+--                          and the input is what was read, unless it is too long
 --   IsSilent c s        == nothing is said of this status: nothing was answered, or with a text
---   IsToldIn c w s d input x == with the status s a call that found and left the world w gives back the command d, the input and
---                          what is said, x
+--   IsToldIn c w s d input x == with the status s a call that found and left the world w gives back the command d, the input
+--                          and what is said, x
 use Rattle.std.specs.Prelude.{ℕ, ◌≡◌, ◌≢◌, ◌++◌, true, List, Option, Some, None}
 use Rattle.std.specs.Io.KnownBytes.{append_known}
 use Rattle.ml_driver.specs.Run.{WasGiven, World, input_limit}

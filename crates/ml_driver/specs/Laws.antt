@@ -11,8 +11,8 @@
 --                       them says that the problem stays open
 --   FindsAsDecided, ProvesAsDecided == what `decide` (`valid`) answers, `find` (`prove`) may answer; and what these answer is
 --                       yes, or no, or is due for `decide` (`valid`), with the same output
---   MakesAsRealized  == what `realize` answers, `make` may answer; and what this answers is yes, or no, or is due for `realize`, with
---                       the same output
+--   MakesAsRealized  == what `realize` answers, `make` may answer; and what this answers is yes, or no, or is due for
+--                       `realize`, with the same output
 --   OneMeasure       == one output is due at most for `gen` and `bench`
 --   SameWinners      == all engines of `solve-game` name the same winners
 --   OneSolutionDue   == one status and one output are due at most for `solve-game measures`
@@ -39,9 +39,9 @@
 --   IsLargeTask text == the text is one of a task, and the word automaton of its formula is too large to be checked with
 --   RealizeIsChecked, MakeIsChecked == so `check-machine` answers `holds` of the document of a machine, and of that of an
 --                       environment; but of this it says that it is too large, if that is so
---   PathsShowWhatHolds, PathsShowWhatFails == where neither `path` nor `check-model` leaves it open, `path` finds a path exactly
---                       where `check-model` answers `holds`, if the document has the sense of its path problem, and `fails`,
---                       if it has the other one
+--   PathsShowWhatHolds, PathsShowWhatFails == where neither `path` nor `check-model` leaves it open, `path` finds a path
+--                       exactly where `check-model` answers `holds`, if the document has the sense of its path problem, and
+--                       `fails`, if it has the other one
 use Rattle.std.specs.Prelude.{ℕ, ◌≡◌, ◌≢◌, ◌<◌, ◌^◌, ◌⊎◌, ◌↔◌, Bool, true, false, List, [], ◌∷◌, ◌++◌, Option, Some, if◌then◌else◌}
 use Rattle.ml_base.specs.Structure.{Structure}
 use Rattle.ml_blocks.specs.Closures.{HasMoreThan}

@@ -11,8 +11,8 @@
 --   is_text c s        == the command c answers the status s with a text: the commands that check do so never, `path`,
 --                         `determinise` and `automaton` with yes, and the others unless they refuse the input
 --   IsSaidBy x s out   == s and out say x, which is something
---   IsTold text s out x == the output out, which comes with the status s, begins with the line of x; there is no x only where text
---                         says that it is a text
+--   IsTold text s out x == the output out, which comes with the status s, begins with the line of x; there is no x only where
+--                         `text` says that it is a text
 use Rattle.std.specs.Prelude.{ℕ, ◌≡◌, ◌++◌, Bool, true, false, List, [], ◌∷◌, Option, Some, None, codes}
 use Rattle.ml_game_check.specs.Verdicts.{number_of}
 use Rattle.ml_lines.specs.Lines.{Line, Word, line_text, number}

@@ -55,10 +55,10 @@ pub struct Ending {
 ///
 /// | command | `Yes` | `No` |
 /// |---|---|---|
-/// | `decide`, `find` | a structure with a state at which the formula holds | it holds nowhere, with a refutation that is accepted |
+/// | `decide`, `find` | a structure with a state at which the formula holds | it holds nowhere: a refutation is accepted |
 /// | `valid`, `prove` | its negation holds nowhere, with a refutation | a structure with a state at which the negation holds |
 /// | `check-model` | the document's problem holds at the start of its structure | it doesn't |
-/// | `path` | a path from the start of the document's structure that shows its problem; for `A f` one that breaks f | there is none |
+/// | `path` | a path from the start of the document's structure that shows its problem (for `A f`, breaks f) | there is none |
 /// | `check-refutation` | the document's refutation is accepted | it isn't |
 /// | `check-game` | the solution behind the game is right | it isn't |
 /// | `realize`, `make` | a machine that realizes the task | an environment that defeats it |

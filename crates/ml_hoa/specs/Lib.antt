@@ -8,6 +8,8 @@ pub mod Grammar
 pub mod AutomatonText
 -- where texts are refused, and what is read
 pub mod Refusals
+-- what all texts that are written have alike
+pub mod WrittenLines
 -- what is true of texts and answers
 pub mod Laws
 -- what private contracts cite

@@ -5,6 +5,9 @@
 // of the format's first version: Büchi automata with guards on the edges, of at most 1,000 states and 8 propositions.
 // A `Buchi` keeps these limits. `laws` says that each text has one answer, and what the limits are.
 //
+// What writers of such texts have alike is here too (`specs/WrittenLines.antt`): the lines before the acceptance, those around
+// the states, and literals. `ml_buchi` and `ml_labelled` write texts.
+//
 // Below stand `ml_text`, for blanks and digits, and `ml_lines`, for numbers.
 #![tactic(auto)]
 
@@ -18,6 +21,7 @@ mod reader;
 mod reading;
 mod refusal;
 mod token;
+mod writing;
 
 pub use buchi::{Buchi, BuchiEdge, Quoted};
 pub use guard::Guard;
@@ -26,3 +30,6 @@ pub use limits::{
 };
 pub use reading::read;
 pub use refusal::HoaRefusal;
+pub use writing::{
+    PropName, write_body_line, write_last_line, write_opening, write_signed, write_state_line,
+};

@@ -19,7 +19,8 @@ use Rattle.ml_hoa.specs.declared.reader.Acceptance.TheVariants as acceptance
 use Rattle.ml_hoa.specs.declared.token.Mark.TheVariants as mark
 use Rattle.ml_labelled.specs.declared.labelled.Literal.{Literal}
 use Rattle.ml_labelled.specs.Labelled.{Edge}
-use Rattle.ml_labelled.specs.LabelledText.{bracketed, edge_text, guarded_edge, guarded_edges, label, set_words, state_text}
+use Rattle.ml_hoa.specs.WrittenLines.{bracketed}
+use Rattle.ml_labelled.specs.LabelledText.{edge_text, guarded_edge, guarded_edges, label, set_words, state_text}
 use Rattle.ml_labelled.proofs.ReadLabels.{in_range, label_read, numeral, numeral_is}
 use Rattle.ml_labelled.proofs.WrittenTokens.{number_read, onward, signs_at}
 

@@ -19,11 +19,12 @@ use Rattle.ml_hoa.specs.Automaton.{most_props}
 use Rattle.ml_hoa.specs.AutomatonText.{IsSmallLabel, automaton_of, body_faults, faults, most_inside, number_of, operators_in}
 use Rattle.ml_hoa.specs.Grammar.{Draft, EdgeText, Header, Heads, IsDraft, IsHeader, Marked, Other, Props, Start, StateText, States, body_tokens, draft_tokens, header_tokens, number_token, state_tokens}
 use Rattle.ml_hoa.specs.Tokens.{Number, Plain, Text, Token, signs_of, tokens, tokens_at}
+use Rattle.ml_hoa.specs.WrittenLines.{quoted}
 use Rattle.ml_hoa.specs.declared.reader.Acceptance.TheVariants as acceptance
 use Rattle.ml_hoa.specs.declared.token.Mark.TheVariants as mark
 use Rattle.ml_labelled.specs.declared.labelled.Literal.{Literal}
 use Rattle.ml_labelled.specs.Labelled.{Automaton, Edge, IsCube, IsLabelled, edges_of}
-use Rattle.ml_labelled.specs.LabelledText.{automaton_text, guarded, quoted, state_text}
+use Rattle.ml_labelled.specs.LabelledText.{automaton_text, guarded, state_text}
 use Rattle.ml_labelled.specs.Laws.{TextIsRead, TextStands}
 use Rattle.ml_labelled.proofs.ReadLabels.{in_range, numeral, numeral_is}
 use Rattle.ml_labelled.proofs.ReadStates.{AreWithin, states_read}

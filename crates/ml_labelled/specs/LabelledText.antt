@@ -12,12 +12,11 @@
 --   [L] D                where the letter has the literals of L, to the state D; with {0} behind it where it accepts
 --   --END--
 --
--- States ascend. Each line ends with one LF; numbers are written without leading zeros. A label has the literals of the cube,
--- joined by `&`, as `0&!1`, and is `t` where there are none.
+-- States ascend. A label has the literals of the cube, joined by `&`, as `0&!1`, and is `t` where there are none. What all
+-- texts of automata have alike is in `ml_hoa`.
 --
 -- What such a text stands for is an automaton as `ml_hoa` has it: with guards, of one list of edges.
 --
---   quoted name            == a name between quotes
 --   literal_text l         == a literal
 --   label c                == the literals of the cube c
 --   edge_line e            == the line of an edge; edge_text has its bytes
@@ -40,18 +39,14 @@ use Rattle.ml_hoa.specs.Automaton.{most_states, most_props, most_edges}
 use Rattle.ml_hoa.specs.AutomatonText.{automaton_of, faults}
 use Rattle.ml_hoa.specs.Grammar.{Draft, IsText}
 use Rattle.ml_hoa.specs.Tokens.{tokens, signs_of}
+use Rattle.ml_hoa.specs.WrittenLines.{body_line, bracketed, last_line, opening_lines, signed, state_line}
 use Rattle.ml_labelled.specs.declared.labelled.Literal.{Literal}
 use Rattle.ml_labelled.specs.Labelled.{Automaton, Edge, Letter, has}
 
 -- ---- the text
 
--- 34 is the quote
-abbrev pub quoted : List ℕ → List ℕ
-quoted name = 34 ∷ (name ++ 34 ∷ [])
-
--- 33 is `!`
 abbrev pub literal_text : Literal → List ℕ
-literal_text l = if l.positive then number l.prop else 33 ∷ number l.prop
+literal_text l = signed l.positive l.prop
 
 -- 38 is `&`
 abbrev pub next_literal : Literal → List ℕ
@@ -60,10 +55,6 @@ next_literal l = 38 ∷ literal_text l
 abbrev pub label : List Literal → List ℕ
 label [] = codes "t"
 label (l ∷ ls) = literal_text l ++ flat_map next_literal ls
-
--- 91 and 93 are the brackets
-abbrev pub bracketed : List ℕ → List ℕ
-bracketed word = 91 ∷ (word ++ 93 ∷ [])
 
 abbrev pub set_words : Bool → Line
 set_words accepting = if accepting then codes "{0}" ∷ [] else []
@@ -75,24 +66,21 @@ abbrev pub edge_text : Edge → List ℕ
 edge_text e = line_text (edge_line e)
 
 abbrev pub state_text : ℕ × List Edge → List ℕ
-state_text s = line_text (codes "State:" ∷ number s.0 ∷ []) ++ flat_map edge_text s.1
+state_text s = line_text (state_line s.0) ++ flat_map edge_text s.1
 
 abbrev pub head_lines : ℕ → List (List ℕ) → List Line
 head_lines states props =
-    (codes "HOA:" ∷ codes "v1" ∷ [])
-    ∷ (codes "States:" ∷ number states ∷ [])
-    ∷ (codes "Start:" ∷ number 0 ∷ [])
-    ∷ (codes "AP:" ∷ number (length props) ∷ map quoted props)
-    ∷ (codes "acc-name:" ∷ codes "Buchi" ∷ [])
+    opening_lines states props
+    ++ ((codes "acc-name:" ∷ codes "Buchi" ∷ [])
     ∷ (codes "Acceptance:" ∷ codes "1" ∷ codes "Inf(0)" ∷ [])
     ∷ (codes "properties:" ∷ codes "trans-labels" ∷ codes "explicit-labels" ∷ codes "trans-acc" ∷ [])
-    ∷ (codes "--BODY--" ∷ [])
-    ∷ []
+    ∷ body_line
+    ∷ [])
 
 abbrev pub automaton_text : Automaton → List ℕ
 automaton_text a =
     text_of (head_lines (length a.edges) a.props)
-    ++ (flat_map state_text (enumerate_from 0 a.edges) ++ line_text (codes "--END--" ∷ []))
+    ++ (flat_map state_text (enumerate_from 0 a.edges) ++ line_text last_line)
 
 -- ---- what it stands for
 

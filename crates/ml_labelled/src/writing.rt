@@ -1,13 +1,15 @@
 // The text of an automaton whose edges have cubes.
-ghost use Rattle.std.specs.Prelude.{◌≡◌, [], ◌∷◌, ◌++◌, codes, map, length, IfOk, OnOk};
+ghost use Rattle.std.specs.Prelude.{◌≡◌, ◌++◌, map, IfOk, OnOk};
 ghost use Rattle.std.specs.List.{flat_map, enumerate_from};
-ghost use Rattle.ml_lines.specs.Lines.{line_text, next, number, text_of};
-ghost use Rattle.ml_labelled.specs.LabelledText.{automaton_text, bracketed, edge_text, head_lines, label, literal_text, next_literal, quoted, set_words, state_text};
+ghost use Rattle.ml_lines.specs.Lines.{next, text_of};
+ghost use Rattle.ml_hoa.specs.WrittenLines.{bracketed};
+ghost use Rattle.ml_labelled.specs.LabelledText.{automaton_text, edge_text, head_lines, label, literal_text, next_literal, set_words, state_text};
 ghost use Rattle.ml_labelled.specs.private.Views.{edge_of, edges_in, rows_of};
 
 use crate::labelled::{CubeEdge, LabelledAutomaton, Literal};
 use ml_base::{Name, NoMemory};
-use ml_lines::{end_line, write_next_number, write_number, write_word};
+use ml_hoa::{write_last_line, write_opening, write_signed, write_state_line};
+use ml_lines::{end_line, write_next_number, write_word};
 use std::alloc::Global;
 
 /// The text of an automaton, in HOA's first version (`laws::text_stands`).
@@ -26,23 +28,8 @@ pub fn write(alloc: Global, automaton: &LabelledAutomaton) -> Result<Vec<u8>, No
     let edges = automaton.edges();
     write_head(&mut out, edges.len(), automaton.props())?;
     write_states(&mut out, edges)?;
-    write_line(&mut out, b"--END--")?;
+    write_last_line(&mut out)?;
     Ok(out)
-}
-
-fn write_line(out: &mut Vec<u8>, word: &[u8]) -> Result<(), NoMemory>
-    ensures { OnOk result (out.new.items ≡ out.old.items ++ line_text (word.now ∷ [])) }
-{
-    write_word(out, word)?;
-    end_line(out)
-}
-
-fn write_numbered(out: &mut Vec<u8>, word: &[u8], n: u64) -> Result<(), NoMemory>
-    ensures { OnOk result (out.new.items ≡ out.old.items ++ line_text (word.now ∷ number n ∷ [])) }
-{
-    write_word(out, word)?;
-    write_next_number(out, n)?;
-    end_line(out)
 }
 
 // ---- the lines before the states
@@ -50,42 +37,11 @@ fn write_numbered(out: &mut Vec<u8>, word: &[u8], n: u64) -> Result<(), NoMemory
 fn write_head(out: &mut Vec<u8>, states: usize, props: &[Name]) -> Result<(), NoMemory>
     ensures { OnOk result (out.new.items ≡ out.old.items ++ text_of (head_lines states props.now)) }
 {
-    write_line(out, b"HOA: v1")?;
-    write_numbered(out, b"States:", states as u64)?;
-    write_numbered(out, b"Start:", 0)?;
-    write_props(out, props)?;
+    write_opening(out, states, props)?;
     write_word(
         out,
         b"acc-name: Buchi\nAcceptance: 1 Inf(0)\nproperties: trans-labels explicit-labels trans-acc\n--BODY--\n",
     )
-}
-
-fn write_quoted(out: &mut Vec<u8>, name: &[u8]) -> Result<(), NoMemory>
-    ensures { OnOk result (out.new.items ≡ out.old.items ++ next (quoted name.now)) }
-{
-    write_word(out, b" \"")?;
-    write_word(out, name)?;
-    out.push(b'"')?;
-    Ok(())
-}
-
-fn write_names(out: &mut Vec<u8>, props: &[Name]) -> Result<(), NoMemory>
-    ensures { OnOk result (out.new.items ≡ out.old.items ++ flat_map next (map quoted props.now)) }
-{
-    for name in props {
-        write_quoted(out, name.bytes())?;
-    }
-    Ok(())
-}
-
-fn write_props(out: &mut Vec<u8>, props: &[Name]) -> Result<(), NoMemory>
-    ensures { OnOk result (out.new.items ≡ out.old.items
-        ++ line_text (codes "AP:" ∷ number (length props.now) ∷ map quoted props.now)) }
-{
-    write_word(out, b"AP:")?;
-    write_next_number(out, props.len() as u64)?;
-    write_names(out, props)?;
-    end_line(out)
 }
 
 // ---- the states
@@ -93,10 +49,7 @@ fn write_props(out: &mut Vec<u8>, props: &[Name]) -> Result<(), NoMemory>
 fn write_literal(out: &mut Vec<u8>, literal: Literal) -> Result<(), NoMemory>
     ensures { OnOk result (out.new.items ≡ out.old.items ++ literal_text literal) }
 {
-    if !literal.positive {
-        out.push(b'!')?;
-    }
-    write_number(out, u64::from(literal.prop))
+    write_signed(out, literal.positive, u64::from(literal.prop))
 }
 
 fn write_next_literal(out: &mut Vec<u8>, literal: Literal) -> Result<(), NoMemory>
@@ -167,7 +120,7 @@ fn write_edges(out: &mut Vec<u8>, edges: &[CubeEdge]) -> Result<(), NoMemory>
 fn write_state(out: &mut Vec<u8>, state: usize, edges: &[CubeEdge]) -> Result<(), NoMemory>
     ensures { OnOk result (out.new.items ≡ out.old.items ++ state_text (state, map edge_of edges.now)) }
 {
-    write_numbered(out, b"State:", state as u64)?;
+    write_state_line(out, state)?;
     write_edges(out, edges)
 }
 

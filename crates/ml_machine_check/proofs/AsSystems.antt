@@ -31,8 +31,8 @@ use Rattle.ml_task.specs.Task.{IsTask, Task, names_of}
 use Rattle.ml_trace.specs.WordAutomata.{WordLasso}
 use Rattle.ml_word_automaton.specs.Words.{SatisfiedBy}
 use Rattle.ml_machine_check.specs.Checked.{IsChecked}
-use Rattle.ml_machine_check.specs.declared.found.Checked.{Checked}
-use Rattle.ml_machine_check.specs.declared.found.Checked.TheVariants.{ClosureTooLarge, Fails, Holds}
+use Rattle.ml_machine_check.specs.declared.found.MachineVerdict.{MachineVerdict}
+use Rattle.ml_machine_check.specs.declared.found.MachineVerdict.TheVariants.{ClosureTooLarge, Fails, Holds}
 use Rattle.ml_machine_check.specs.private.AsSystems.{AreMoves, AreMovesOf, IsFoundIn, IsReply, IsStep, step_in}
 
 -- ---- moves from a state
@@ -265,7 +265,7 @@ long_word t w loops = subst (λ n. w.loop_start < n) (sym (length-map w.word (me
 module _ (t : Task) (ok : IsTask t) (s : SystemTable) where
   pub checked_machine : (m : MachineTable) → MachineFits (inputs_of t) (outputs_of t) m
       → AreMovesOf (MachineGoes (inputs_of t) m) (length m) s
-      → (c : Checked) → IsFoundIn t true s c → IsChecked t (outcome.Made m) c
+      → (c : MachineVerdict) → IsFoundIn t true s c → IsChecked t (outcome.Made m) c
   checked_machine m fits of Holds found = (
     found.0,
     record {
@@ -294,7 +294,7 @@ module _ (t : Task) (ok : IsTask t) (s : SystemTable) where
 
   pub checked_environment : (e : EnvironmentTable) → EnvironmentFits (inputs_of t) (outputs_of t) e
       → AreMovesOf (EnvironmentGoes (inputs_of t) (outputs_of t) e) (length e.plays) s
-      → (c : Checked) → IsFoundIn t false s c → IsChecked t (outcome.Defeated e) c
+      → (c : MachineVerdict) → IsFoundIn t false s c → IsChecked t (outcome.Defeated e) c
   checked_environment e fits of Holds found = (
     found.0,
     record {

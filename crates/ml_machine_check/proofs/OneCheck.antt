@@ -3,7 +3,7 @@
 --   not_right == what a word breaks isn't right
 --   one_check == so nothing is found to hold and to fail
 use Rattle.ml_machine_check.specs.Laws.{BrokenIsNotRight, OneCheck}
-use Rattle.ml_machine_check.specs.declared.found.Checked.TheVariants.{ClosureTooLarge, Fails, Holds}
+use Rattle.ml_machine_check.specs.declared.found.MachineVerdict.TheVariants.{ClosureTooLarge, Fails, Holds}
 use Rattle.ml_synthesis.specs.declared.outcome.Outcome.TheVariants as outcome
 
 pub not_right : BrokenIsNotRight

@@ -27,8 +27,8 @@ use Rattle.ml_word_automaton.specs.Letters.{Automaton, IsAutomatonOf}
 use Rattle.ml_word_automaton.proofs.BlockGraphs.{one_size}
 use Rattle.ml_machine_check.specs.Checked.{most_nodes}
 use Rattle.ml_machine_check.specs.Laws.{SomeCheck}
-use Rattle.ml_machine_check.specs.declared.found.Checked.{Checked}
-use Rattle.ml_machine_check.specs.declared.found.Checked.TheVariants.{ClosureTooLarge, Fails, Holds}
+use Rattle.ml_machine_check.specs.declared.found.MachineVerdict.{MachineVerdict}
+use Rattle.ml_machine_check.specs.declared.found.MachineVerdict.TheVariants.{ClosureTooLarge, Fails, Holds}
 use Rattle.ml_machine_check.specs.private.AsSystems.{AreMoves, AreMovesOf, IsFoundIn, IsReply, IsStep, step_in}
 use Rattle.ml_machine_check.proofs.AsSystems.{checked_environment, checked_machine, environment_is, machine_is, move, of_more, of_none, reply_goes, reply_more, reply_none, step_goes, step_more, step_none}
 use Rattle.ml_machine_check.proofs.WordsRead.{found_sought, none_sought, not_large}
@@ -94,7 +94,7 @@ module _ (t : Task) (ok : IsTask t) (negated : Bool) (s : SystemTable)
     in_row =
         subst (λ n. IsSystem n s) (sym (is_row.one_each ∙ ap (λ k. 2 ^ k) (length-append t.inputs t.outputs))) sys
 
-    found_with : size a.graph ≤ most_nodes → (c : Checked) × IsFoundIn t negated s c
+    found_with : size a.graph ≤ most_nodes → (c : MachineVerdict) × IsFoundIn t negated s c
     found_with few =
         ⊎_elim
         (λ (found : (lasso : Lasso) × ((w : WordLasso ℕ) × IsAccepted row s lasso w)). (
@@ -112,7 +112,7 @@ module _ (t : Task) (ok : IsTask t) (negated : Bool) (s : SystemTable)
         (Holds, (not_large t negated a is few, none_sought t ok negated a row is is_row s sys empty)))
         (some_lasso row s in_row)
 
-  some_found : (c : Checked) × IsFoundIn t negated s c
+  some_found : (c : MachineVerdict) × IsFoundIn t negated s c
   some_found =
       let a = some_automaton t.formula negated in
       let row = some_row (names_of t) t.formula negated a.0 a.1 in

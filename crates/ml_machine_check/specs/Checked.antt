@@ -22,8 +22,8 @@ use Rattle.ml_trace.specs.WordAutomata.{WordLasso}
 use Rattle.ml_word_automaton.specs.WordAutomaton.{start_block}
 use Rattle.ml_word_automaton.specs.Words.{SatisfiedBy}
 use Rattle.ml_machine_check.specs.declared.checking.TheConstants.{MOST_NODES}
-use Rattle.ml_machine_check.specs.declared.found.Checked.{Checked}
-use Rattle.ml_machine_check.specs.declared.found.Checked.TheVariants as found
+use Rattle.ml_machine_check.specs.declared.found.MachineVerdict.{MachineVerdict}
+use Rattle.ml_machine_check.specs.declared.found.MachineVerdict.TheVariants as found
 
 abbrev pub most_nodes : ℕ
 most_nodes = MOST_NODES
@@ -47,7 +47,7 @@ pub record Breaks (t : Task) (r : Outcome) (w : WordLasso ℕ) : Type 0 where
 abbrev pub IsLarge : Task → Outcome → Type 0
 IsLarge t r = HasMoreThan (start_block t.formula (sense_of r)) most_nodes
 
-abbrev pub IsChecked : Task → Outcome → Checked → Type 0
+abbrev pub IsChecked : Task → Outcome → MachineVerdict → Type 0
 IsChecked t r found.Holds = (¬ (IsLarge t r)) × IsRight t r
 IsChecked t r (found.Fails w) = (¬ (IsLarge t r)) × Breaks t r w
 IsChecked t r found.ClosureTooLarge = IsLarge t r

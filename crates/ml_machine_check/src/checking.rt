@@ -6,7 +6,7 @@ ghost use Rattle.ml_word_automaton.specs.Letters.{IsAutomatonOf};
 ghost use Rattle.ml_machine_check.specs.Checked.{Fits, IsChecked};
 ghost use Rattle.ml_machine_check.specs.private.AsSystems.{IsFoundIn, IsSoughtIn};
 
-use crate::found::{Checked, Run};
+use crate::found::{MachineVerdict, Run};
 use crate::systems::{environment_system, machine_system};
 use ml_base::NoMemory;
 use ml_emptiness::{Move, SystemLasso, accepted_lasso};
@@ -43,18 +43,18 @@ fn check_system(
     task: &Task,
     negated: bool,
     system: &[Vec<Move>],
-) -> Result<Checked, NoMemory>
+) -> Result<MachineVerdict, NoMemory>
     requires { IsSystem (2 ^ (length task.now.inputs.items + length task.now.outputs.items)) (table_of system.now) }
     ensures { IfOk result (IsFoundIn (task_of task.now.inputs.items task.now.outputs.items task.now.formula) negated (table_of system.now)) }
 {
     let automaton = match automaton_of(alloc, &task.formula, negated, MOST_NODES) {
         Ok(automaton) => automaton,
-        Err(ClosureRefusal::ClosureTooLarge) => return Ok(Checked::ClosureTooLarge),
+        Err(ClosureRefusal::ClosureTooLarge) => return Ok(MachineVerdict::ClosureTooLarge),
         Err(ClosureRefusal::NoMemory) => return Err(NoMemory),
     };
     match sought(alloc, task, negated, &automaton, system)? {
-        Some(lasso) => Ok(Checked::Fails(Run::new(lasso.letters, lasso.loop_start))),
-        None => Ok(Checked::Holds),
+        Some(lasso) => Ok(MachineVerdict::Fails(Run::new(lasso.letters, lasso.loop_start))),
+        None => Ok(MachineVerdict::Holds),
     }
 }
 
@@ -74,7 +74,7 @@ fn check_system(
 /// `ml_emptiness::accepted_lasso`.
 ///
 /// Source: Vardi and Wolper, An automata-theoretic approach to automatic program verification (1986).
-pub fn check(alloc: Global, task: &Task, outcome: &Outcome) -> Result<Checked, NoMemory>
+pub fn check(alloc: Global, task: &Task, outcome: &Outcome) -> Result<MachineVerdict, NoMemory>
     requires { Fits (task_of task.now.inputs.items task.now.outputs.items task.now.formula) outcome.now }
     ensures { IfOk result (IsChecked (task_of task.now.inputs.items task.now.outputs.items task.now.formula) outcome.now) }
 {

@@ -52,7 +52,7 @@ impl Run {
 
 /// What is found of a machine or an environment.
 #[derive(Drop)]
-pub enum Checked {
+pub enum MachineVerdict {
     /// It is right.
     Holds,
     /// It isn't, as this word shows.

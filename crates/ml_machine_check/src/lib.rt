@@ -14,4 +14,4 @@ pub mod laws;
 mod systems;
 
 pub use checking::{MOST_NODES, check};
-pub use found::{Checked, Run};
+pub use found::{MachineVerdict, Run};

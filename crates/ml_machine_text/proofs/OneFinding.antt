@@ -7,8 +7,8 @@ use Rattle.std.proofs.lemmas.List.{length-map}
 use Rattle.ml_base.specs.declared.doc_fault.DocFault.{DocFault}
 use Rattle.ml_machine_check.specs.Checked as check
 use Rattle.ml_machine_check.specs.Checked.{Breaks, IsChecked}
-use Rattle.ml_machine_check.specs.declared.found.Checked.{Checked}
-use Rattle.ml_machine_check.specs.declared.found.Checked.TheVariants as checked
+use Rattle.ml_machine_check.specs.declared.found.MachineVerdict.{MachineVerdict}
+use Rattle.ml_machine_check.specs.declared.found.MachineVerdict.TheVariants as checked
 use Rattle.ml_machine_check.proofs.OneCheck.{not_right}
 use Rattle.ml_machine_check.proofs.SomeCheck.{some_check}
 use Rattle.ml_model_check.specs.WrittenDocument.{satisfiable_document}
@@ -65,7 +65,7 @@ shows t r w breaks =
       document_is = refl;
     }
 
-some_found : (t : Task) (r : Outcome) (c : Checked) → IsChecked t r c → (x : MachineFinding) × Finds x t r
+some_found : (t : Task) (r : Outcome) (c : MachineVerdict) → IsChecked t r c → (x : MachineFinding) × Finds x t r
 some_found t r checked.Holds is = (Holds, is)
 some_found t r (checked.Fails w) is =
     (Fails (satisfiable_document (problem_of t r) (ordered_run (word_of (names_of t) w)) 0), (is.0, shows t r w is.1))
@@ -114,7 +114,7 @@ some_finding text = go (texts.some_reading text)
   where
     by_check : (t : Task) (r : Outcome)
         → IsRealizeText text t r
-        → (c : Checked) × IsChecked t r c
+        → (c : MachineVerdict) × IsChecked t r c
         → (x : MachineFinding) × IsFoundIn text x
     by_check t r is (c, checks) = let found = some_found t r c checks in (found.0, told text found.0 t r is found.1)
 

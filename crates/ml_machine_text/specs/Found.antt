@@ -1,10 +1,11 @@
 -- What is found in the document of a machine or an environment.
 --
--- The text is the document of a task with a machine or an environment, or it has a first bad line. Of a machine or an environment
--- one thing is found: its word automaton is too large; or it is right; or it isn't, and one of its words shows it. The word is
--- shown by a document of its own. This says that a problem of LTL on words holds: the task's formula, negated for a
--- machine and plain for an environment. Its structure is that of the word, in order: a state for each place, with all names of the
--- task that are true there, and one edge by `_`, to the next place, from the last one to the loop start; it starts in state 0.
+-- The text is the document of a task with a machine or an environment, or it has a first bad line. Of a machine or an
+-- environment one thing is found: its word automaton is too large; or it is right; or it isn't, and one of its words shows it.
+-- The word is shown by a document of its own. This says that a problem of LTL on words holds: the task's formula, negated for
+-- a machine and plain for an environment. Its structure is that of the word, in order: a state for each place, with all names
+-- of the task that are true there, and one edge by `_`, to the next place, from the last one to the loop start; it starts in
+-- state 0.
 --
 --   problem_of t r         == the problem of LTL on words of which a word that breaks r is asked
 --   ShowsWord t r d        == d is the document of a word that breaks the outcome r of the task t

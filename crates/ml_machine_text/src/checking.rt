@@ -7,7 +7,7 @@ ghost use Rattle.ml_machine_text.specs.Found.{IsConfirmed, IsFoundIn};
 use crate::finding::MachineFinding;
 use crate::showing::shown_word;
 use ml_base::{DocRefusal, NoMemory};
-use ml_machine_check::{Checked, check};
+use ml_machine_check::{MachineVerdict, check};
 use ml_realize_text::{Document, read};
 use std::alloc::Global;
 
@@ -19,11 +19,11 @@ fn check_read(alloc: Global, _text: &[u8], document: Document) -> Result<Machine
     ensures confirmed { IfOk result IsConfirmed }
 {
     match check(alloc, &document.task, &document.outcome)? {
-        Checked::Holds => Ok(MachineFinding::Holds),
-        Checked::Fails(word) => Ok(MachineFinding::Fails(shown_word(
+        MachineVerdict::Holds => Ok(MachineFinding::Holds),
+        MachineVerdict::Fails(word) => Ok(MachineFinding::Fails(shown_word(
             alloc, _text, document, &word,
         )?)),
-        Checked::ClosureTooLarge => Ok(MachineFinding::ClosureTooLarge),
+        MachineVerdict::ClosureTooLarge => Ok(MachineFinding::ClosureTooLarge),
     }
 }
 

@@ -10,7 +10,7 @@
 --   IsAnswer t n r   == r is confirmed, or found in the game of t, which has at most n positions then
 use Rattle.std.specs.Prelude.{ℕ, ◌<◌, ◌^◌, ◌⊎◌, map}
 use Rattle.ml_machine_check.specs.Checked.{IsChecked}
-use Rattle.ml_machine_check.specs.declared.found.Checked.TheVariants as checked
+use Rattle.ml_machine_check.specs.declared.found.MachineVerdict.TheVariants as checked
 use Rattle.ml_realize.specs.TaskGame.{IsFound}
 use Rattle.ml_realize_text.specs.ReadText.{states_of}
 use Rattle.ml_synthesis.specs.Synthesis.{AreInOrder, nexts}

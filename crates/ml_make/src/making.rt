@@ -9,7 +9,7 @@ ghost use Rattle.ml_task.specs.Task.{task_of};
 use crate::fitting::{fits, has_few_states};
 use crate::numbering::is_numbered;
 use ml_base::NoMemory;
-use ml_machine_check::{Checked, check};
+use ml_machine_check::{MachineVerdict, check};
 use ml_make_engine::candidate;
 use ml_realize::{RealizeRefusal, realize};
 use ml_synthesis::Outcome;
@@ -25,8 +25,8 @@ fn is_confirmed(alloc: Global, task: &Task, outcome: &Outcome) -> Result<bool, N
         return Ok(false);
     }
     match check(alloc, task, outcome)? {
-        Checked::Holds => Ok(true),
-        Checked::Fails(_) | Checked::ClosureTooLarge => Ok(false),
+        MachineVerdict::Holds => Ok(true),
+        MachineVerdict::Fails(_) | MachineVerdict::ClosureTooLarge => Ok(false),
     }
 }
 

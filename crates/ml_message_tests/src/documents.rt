@@ -70,9 +70,14 @@ const ROWS: [(Command, &[u8], Said, &str); 28] = [
     ),
     (
         Command::CheckModel,
-        b"mlsolver 2\nanswer satisfiable\nlogic mu\nsense plain\nformula p10 & p11 & p12 & p13 & p14 & p15 & p16 & p17 & p18 & p19 & p20 & p21 & p22 & p23 & p24 & p25 & p26 & p27 & p28 & p29 & p30 & p31 & p32 & p33 & p34 & p35 & p36 & p37 & p38 & p39 & p40 & p41 & p42 & p43 & p44 & p45 & p46 & p47 & p48 & p49 & p50 & p51 & p52 & p53 & p54 & p55 & p56 & p57 & p58 & p59\n",
+        b"mlsolver 2\nanswer satisfiable\nlogic mu\nsense plain\nformula p10 & p11 & p12 & p13 & p14 & p15 & p16 & \
+          p17 & p18 & p19 & p20 & p21 & p22 & p23 & p24 & p25 & p26 & p27 & p28 & p29 & p30 & p31 & p32 & p33 & p34 & \
+          p35 & p36 & p37 & p38 & p39 & p40 & p41 & p42 & p43 & p44 & p45 & p46 & p47 & p48 & p49 & p50 & p51 & p52 & \
+          p53 & p54 & p55 & p56 & p57 & p58 & p59\n",
         Said::Holds,
-        "holds: p10 & p11 & p12 & p13 & p14 & p15 & p16 & p17 & p18 & p19 & p20 & p21 & p22 & p23 & p24 & p25 & p26 & p27 & p28 & p29 & p30 & p31 & p32 & p33 & p34 & p35 & p36 & p37 & p38 & p39 & p40 & p41 & p42 & p4 .., logic mu",
+        "holds: p10 & p11 & p12 & p13 & p14 & p15 & p16 & p17 & p18 & p19 & p20 & p21 & p22 & p23 & p24 & p25 & p26 \
+          & p27 & p28 & p29 & p30 & p31 & p32 & p33 & p34 & p35 & p36 & p37 & p38 & p39 & p40 & p41 & p42 & p4 .., \
+          logic mu",
     ),
     (
         Command::CheckRefutation,

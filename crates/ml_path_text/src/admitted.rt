@@ -1,4 +1,4 @@
-// Whether the logic of a problem speaks of a structure.
+// Either the logic of a problem speaks of a structure, or a state of the structure tells why not.
 ghost use Rattle.std.specs.Prelude.{◌<◌, IfOk, MatchOption};
 ghost use Rattle.ml_front.specs.Logics.{logic_of};
 ghost use Rattle.ml_front.specs.Problems.{IsAdmitted};

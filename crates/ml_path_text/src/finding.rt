@@ -1,4 +1,4 @@
-// What is found of the paths of a document.
+// One of these is found of the paths of a document.
 use ml_base::DocFault;
 use ml_decision_text::WrittenText;
 

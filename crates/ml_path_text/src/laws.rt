@@ -1,4 +1,4 @@
-// Laws over the definitions alone: no caller runs these functions, their contracts are the theorems.
+// Laws over the definitions alone stand here: no caller runs these functions, and their contracts are the theorems.
 ghost use Rattle.ml_path_text.specs.Laws.{FoundWhereItFails, FoundWhereItHolds, OneFinding, PathsAreConfirmed, SomeFinding, TextsAreConfirmed};
 
 /// Of the paths of a document something is found for each text, and one thing at most, up to which path is shown. So `path_of`

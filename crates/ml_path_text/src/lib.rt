@@ -1,4 +1,4 @@
-// Paths of documents: is there a path of the structure that a document shows that shows its formula, and which?
+// A document shows a structure and a formula: is there a path of the structure that shows the formula, and which?
 //
 // `path_of` reads a document that answers `satisfiable`, and answers what a model checker is asked for: for a problem of LTL a
 // path that shows it, for `E f` of CTL* one that satisfies f, and for `A f` one that doesn't, so that it shows how `A f` fails.

@@ -1,4 +1,4 @@
-// The path problems of problems.
+// A problem that asks for a path has a path problem.
 ghost use Rattle.std.specs.Prelude.{◌≡◌, IfOk, MatchOption};
 ghost use Rattle.ml_front.specs.declared.problem.AnyFormula.TheVariants.{Ctl};
 ghost use Rattle.ml_path_text.specs.PathProblems.{AsksFor, AsksForAs, AsksForNone, on_words, quantifier_of};

@@ -1,4 +1,4 @@
-// The paths of a document.
+// A document is searched for a path that shows what it asks.
 ghost use Rattle.std.specs.Prelude.{◌<◌, IfOk};
 ghost use Rattle.ml_front.specs.HeadRules.{IsHead};
 ghost use Rattle.ml_front.specs.Logics.{logic_of};

@@ -1,4 +1,4 @@
-// Paths as they are written.
+// A path is written as two lines, and a document of its word behind them.
 ghost use Rattle.std.specs.Prelude.{◌≡◌, ◌++◌, [], ◌∷◌, IfOk, OnOk, codes, map};
 ghost use Rattle.ml_lines.specs.Lines.{line_text, number};
 ghost use Rattle.ml_model_check.specs.Checked.{IsCheckedAs};

@@ -23,7 +23,7 @@ use Rattle.ml_pgsolver.specs.private.Assembled.{first_stranger_from, is_unknown,
 use Rattle.ml_pgsolver.specs.private.Machine.{is_among}
 use Rattle.ml_pgsolver.specs.private.Signs.{fitting, sign_of, signs_in}
 use Rattle.ml_pgsolver.proofs.Images.{fitting-cases, among-cases}
-use Rattle.ml_pgsolver.proofs.Outcomes.{offset-behind, signs-length, signs-cut}
+use Rattle.ml_pgsolver.proofs.PlacedFaults.{place-is, signs-cut}
 use Rattle.ml_pgsolver.proofs.Readings.{place-more}
 use Rattle.ml_pgsolver.proofs.Splits.{Splits, before, same, behind, splits, last_split}
 
@@ -235,7 +235,7 @@ module _ (ids : List ℕ) (R : Referring) where
         length (signs_of front),
         first_here front t rest none strange,
         stranger_here R.refers ids end n (sign_of t.token) t.at (signs_in rest) is
-            ∙ sym (ap (offset_of end (front ++ t ∷ rest)) (signs-length front) ∙ offset-behind end front t rest),
+            ∙ place-is end front t rest,
       )
   scan_token end front t rest n place none small on false is =
       let known = fails_is (signs_of front) t.token small (ap (λ m. test m t.token) (sym place) ∙ is) in

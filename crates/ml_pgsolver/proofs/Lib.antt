@@ -18,6 +18,8 @@ mod Splits
 mod Readings
 -- the first fault of tokens
 mod FirstFaults
+-- the bytes at which tokens are at fault
+mod PlacedFaults
 -- what comes of a text
 mod Outcomes
 -- the highest priority

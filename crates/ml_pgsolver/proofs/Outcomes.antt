@@ -1,6 +1,6 @@
 -- What comes of a text is what its tokens tell.
 --
---   RefusedIn all end e  == tokens, and the end of the text, are refused with e for one of the first four causes
+--   RefusedIn all end e  == the tokens of a game, and the end of the text, are refused with e for one of the first four causes
 --   Comes all end out    == out is right of these tokens
 --   comes                == what comes of the tokens is
 use Rattle.std.proofs.Common.{◌≡◌, ℕ, suc, ◌≤◌, ◌⊎◌, List, [], ◌∷◌, ◌++◌, length, Option, Some, None, Ok, Err, refl, sym, ◌∙◌, ap, subst, arith, inl, inr}
@@ -15,48 +15,22 @@ use Rattle.ml_pgsolver.specs.declared.refusal.GameTextRefusal.{GameTextRefusal}
 use Rattle.ml_pgsolver.specs.declared.refusal.GameTextRefusal.TheVariants as refusal
 use Rattle.ml_pgsolver.specs.private.Machine.{Step, step, at_end, outcome_from}
 use Rattle.ml_pgsolver.specs.private.Signs.{sign_of, signs_in}
-use Rattle.ml_pgsolver.proofs.FirstFaults.{end_fault, token_fault}
 use Rattle.ml_pgsolver.proofs.Steps.{goes_on, stops, ends}
 use Rattle.ml_pgsolver.proofs.Trees.{Progress, Start, Body, Id, grow, grown_from, grown-append}
 use Rattle.ml_pgsolver.proofs.Viable.{begins-grown, grown-begins, game-ended}
 use Rattle.ml_pgsolver.proofs.Images.{image, stage_of, Passes, Came, goes, repeats, fills_ids, fills_successors, outgrows}
 use Rattle.ml_pgsolver.proofs.Comings.{came, stuck}
+use Rattle.ml_pgsolver.proofs.PlacedFaults as faults
+use Rattle.ml_pgsolver.proofs.PlacedFaults.{FaultAt, end_at, fault_here, signs-cut, syntax_here}
 use Rattle.ml_pgsolver.proofs.Roles.{ids_in}
 use Rattle.ml_pgsolver.proofs.Readings.{Read, read_none, read_more, not_syntax, not_repeated, not_many, is_id, is_successor}
 
-abbrev pub FaultAt : List Placed → ℕ → Cause → ℕ → Type 0
-FaultAt all end c at = (k : ℕ) × IsFirstFault c (signs_of all) k × (at ≡ offset_of end all k)
-
 abbrev pub RefusedIn : List Placed → ℕ → GameTextRefusal → Type 0
-RefusedIn all end (refusal.Syntax at) = FaultAt all end Syntax at
-RefusedIn all end (refusal.Repeated at) = FaultAt all end Repeated at
-RefusedIn all end (refusal.Unknown at) = ⊥
-RefusedIn all end (refusal.TooMany at) = FaultAt all end TooMany at
-RefusedIn all end (refusal.TooLarge at) = FaultAt all end TooLarge at
-RefusedIn all end refusal.NoMemory = ⊥
+RefusedIn all end e = faults.RefusedIn game_form all end e
 
 abbrev pub Comes : List Placed → ℕ → Step → Type 0
 Comes all end (Ok s) = (q : Progress) × Read (signs_of all) q × (s ≡ image q) × (stage_of q ≡ stage.NextVertex)
 Comes all end (Err e) = RefusedIn all end e
-
--- ---- places
-
-pub offset-behind : (end : ℕ) (front : List Placed) (p : Placed) (rest : List Placed)
-    → offset_of end (front ++ p ∷ rest) (length front) ≡ p.at
-offset-behind end [] p rest = refl
-offset-behind end (q ∷ front) p rest = offset-behind end front p rest
-
-pub offset-end : (end : ℕ) (all : List Placed) → offset_of end all (length all) ≡ end
-offset-end end [] = refl
-offset-end end (q ∷ all) = offset-end end all
-
-pub signs-length : (ps : List Placed) → length (signs_of ps) ≡ length ps
-signs-length [] = refl
-signs-length (p ∷ ps) = ap (λ n. suc n) (signs-length ps)
-
-pub signs-cut : (front : List Placed) (p : Placed) (rest : List Placed)
-    → signs_of (front ++ p ∷ rest) ≡ signs_of front ++ p.token ∷ signs_of rest
-signs-cut front p rest = map-append (λ (q : Placed). q.token) front (p ∷ rest)
 
 -- ---- the end of the text
 
@@ -69,12 +43,9 @@ not_ended ts p run open_stage (d, is) =
 at_the_end : (all : List Placed) (end : ℕ) (p : Progress) (q : Stage) → stage_of p ≡ q → Read (signs_of all) p
     → Comes all end (at_end q (image p) end)
 at_the_end all end p stage.NextVertex is read = (p, read, refl, is)
-at_the_end all end p q is read = (
-  length (signs_of all),
-  end_fault game_form (signs_of all) read.faultless (begins-grown (signs_of all) p read.run)
-      (not_ended (signs_of all) p read.run (λ ended. cc)),
-  sym (ap (offset_of end all) (signs-length all) ∙ offset-end end all),
-)
+at_the_end all end p q is read =
+    end_at game_form all end read.faultless (begins-grown (signs_of all) p read.run)
+    (not_ended (signs_of all) p read.run (λ ended. cc))
 
 -- ---- the next token
 
@@ -83,32 +54,15 @@ module _ (front : List Placed) (p : Progress) (t : Placed) (rest : List Placed) 
   abbrev all : List Placed
   all = front ++ t ∷ rest
 
-  place-is : t.at ≡ offset_of end all (length (signs_of front))
-  place-is = sym (ap (offset_of end all) (signs-length front) ∙ offset-behind end front t rest)
-
-  fault_here : (c : Cause) → IsFaulty c (signs_of front) t.token
-      → ((d : Cause) → IsFaulty d (signs_of front) t.token → rank c ≤ rank d)
-      → FaultAt all end c t.at
-  fault_here c faulty lowest = (
-    length (signs_of front),
-    token_fault game_form (signs_of all) (signs_of front) t.token (signs_of rest) c (signs-cut front t rest) read.faultless faulty lowest,
-    place-is,
-  )
-
-  no_way : grow p t.token ≡ None → FaultAt all end Syntax t.at
+  no_way : grow p t.token ≡ None → FaultAt game_form all end Syntax t.at
   no_way stops_here =
-      fault_here Syntax (begins-grown (signs_of front) p read.run, λ begins. none_begins (grown-begins _ begins)) (λ d faulty. first_of_all d)
+      syntax_here game_form front t rest end read.faultless (begins-grown (signs_of front) p read.run)
+      (λ begins. none_begins (grown-begins _ begins))
     where
       none_begins : (q : Progress) × (grown_from (Some Start) (signs_of front ++ t.token ∷ []) ≡ Some q) → ⊥
       none_begins (q, run) =
           let stuck_run = grown-append (Some Start) (signs_of front) (t.token ∷ [])
           ∙ ap (λ o. grown_from o (t.token ∷ [])) read.run ∙ ap (λ o. grown_from o []) stops_here in cc
-
-      first_of_all : (d : Cause) → 1 ≤ rank d
-      first_of_all Syntax = omega arith
-      first_of_all Repeated = omega arith
-      first_of_all TooMany = omega arith
-      first_of_all TooLarge = omega arith
 
   -- a token with which q is read is at fault, as the reader says
   at_fault : (q : Progress) → grow p t.token ≡ Some q → (out : Step)
@@ -120,7 +74,7 @@ module _ (front : List Placed) (p : Progress) (t : Placed) (rest : List Placed) 
       inr (
         refusal.Repeated t.at,
         is,
-        fault_here Repeated
+        fault_here game_form front t rest end read.faultless Repeated
             (n, is_id (signs_of front) p t.token q read more n here, subst (IsMember n) (sym read.ids) member) lowest,
       )
     where
@@ -133,7 +87,7 @@ module _ (front : List Placed) (p : Progress) (t : Placed) (rest : List Placed) 
       inr (
         refusal.TooMany t.at,
         is,
-        fault_here TooMany
+        fault_here game_form front t rest end read.faultless TooMany
             (inl (n, is_id (signs_of front) p t.token q read more n here, omega (arith, ap length read.ids, read.few_ids))) lowest,
       )
     where
@@ -147,7 +101,7 @@ module _ (front : List Placed) (p : Progress) (t : Placed) (rest : List Placed) 
       inr (
         refusal.TooMany t.at,
         is,
-        fault_here TooMany
+        fault_here game_form front t rest end read.faultless TooMany
             (inr (
               n,
               is_successor (signs_of front) p t.token q read more n here,
@@ -162,7 +116,11 @@ module _ (front : List Placed) (p : Progress) (t : Placed) (rest : List Placed) 
       lowest TooMany faulty = omega arith
       lowest TooLarge faulty = omega arith
   at_fault q more out (outgrows digits is_t large fresh id_room successor_room is) =
-      inr (refusal.TooLarge t.at, is, fault_here TooLarge (digits, is_t, large) lowest)
+      inr (
+        refusal.TooLarge t.at,
+        is,
+        fault_here game_form front t rest end read.faultless TooLarge (digits, is_t, large) lowest,
+      )
     where
       lowest : (d : Cause) → IsFaulty d (signs_of front) t.token → 5 ≤ rank d
       lowest Syntax faulty = absurd (not_syntax (signs_of front) p t.token q read more faulty)

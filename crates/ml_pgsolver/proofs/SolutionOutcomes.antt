@@ -22,8 +22,8 @@ use Rattle.ml_pgsolver.specs.declared.refusal.GameTextRefusal.TheVariants as ref
 use Rattle.ml_pgsolver.specs.declared.scan.Sign.{Sign}
 use Rattle.ml_pgsolver.specs.private.EntryMachine.{EntryState, EntryStep, IsEntryTold, entries_come, entries_end, entry_behind, entry_step}
 use Rattle.ml_pgsolver.specs.private.Signs.{sign_of, signs_in}
-use Rattle.ml_pgsolver.proofs.FirstFaults.{end_fault, token_fault}
-use Rattle.ml_pgsolver.proofs.Outcomes.{offset-behind, offset-end, signs-cut, signs-length}
+use Rattle.ml_pgsolver.proofs.PlacedFaults as faults
+use Rattle.ml_pgsolver.proofs.PlacedFaults.{FaultAt, end_at, fault_here, signs-cut, syntax_here}
 use Rattle.ml_pgsolver.proofs.Readings.{apart-last, place-more, roles-more}
 use Rattle.ml_pgsolver.proofs.SolutionComings.{AllSmall, Came, Passes, came, facts, fills, goes, image, outgrows, place_of, references_in, repeats, stage_of, stuck, vertex_here, vertices_in}
 use Rattle.ml_pgsolver.proofs.SolutionTrees.{Body, Close, HeaderEnd, Move, Reading, Vertex, Winner, Word, begins-grown, grow, grown-append, grown-begins, grown_from, solution-ended}
@@ -167,16 +167,8 @@ module _ (before : List Token) (p : Reading) (t : Token) (q : Reading) (read : R
 
 -- ---- what comes
 
-abbrev pub FaultAt : List Placed → ℕ → Cause → ℕ → Type 0
-FaultAt all end c at = (k : ℕ) × IsFirstFaultIn solution_form c (signs_of all) k × (at ≡ offset_of end all k)
-
 abbrev pub RefusedIn : List Placed → ℕ → GameTextRefusal → Type 0
-RefusedIn all end (refusal.Syntax at) = FaultAt all end Syntax at
-RefusedIn all end (refusal.Repeated at) = FaultAt all end Repeated at
-RefusedIn all end (refusal.Unknown at) = ⊥
-RefusedIn all end (refusal.TooMany at) = FaultAt all end TooMany at
-RefusedIn all end (refusal.TooLarge at) = FaultAt all end TooLarge at
-RefusedIn all end refusal.NoMemory = ⊥
+RefusedIn all end e = faults.RefusedIn solution_form all end e
 
 abbrev pub Comes : List Placed → ℕ → EntryStep → Type 0
 Comes all end (Ok s) = (q : Reading) × Read (signs_of all) q × (s ≡ image q) × (stage_of q ≡ stage.Vertex)
@@ -227,44 +219,23 @@ not_ended ts p run open_stage (d, is) =
 at_the_end : (all : List Placed) (end : ℕ) (p : Reading) (q : EntryStage) → stage_of p ≡ q → Read (signs_of all) p
     → Comes all end (entries_end q (image p) end)
 at_the_end all end p stage.Vertex is read = (p, read, refl, is)
-at_the_end all end p q is read = (
-  length (signs_of all),
-  end_fault solution_form (signs_of all) read.faultless (begins-grown (signs_of all) p read.run)
-      (not_ended (signs_of all) p read.run (λ ended. cc)),
-  sym (ap (offset_of end all) (signs-length all) ∙ offset-end end all),
-)
+at_the_end all end p q is read =
+    end_at solution_form all end read.faultless (begins-grown (signs_of all) p read.run)
+    (not_ended (signs_of all) p read.run (λ ended. cc))
 
 module _ (first : List Placed) (p : Reading) (t : Placed) (rest : List Placed) (end : ℕ) (read : Read (signs_of first) p) where
   abbrev all : List Placed
   all = first ++ t ∷ rest
 
-  place-is : t.at ≡ offset_of end all (length (signs_of first))
-  place-is = sym (ap (offset_of end all) (signs-length first) ∙ offset-behind end first t rest)
-
-  fault_here : (c : Cause) → IsFaultyIn solution_form c (signs_of first) t.token
-      → ((d : Cause) → IsFaultyIn solution_form d (signs_of first) t.token → rank c ≤ rank d)
-      → FaultAt all end c t.at
-  fault_here c faulty lowest = (
-    length (signs_of first),
-    token_fault solution_form (signs_of all) (signs_of first) t.token (signs_of rest) c (signs-cut first t rest) read.faultless faulty lowest,
-    place-is,
-  )
-
-  no_way : grow p t.token ≡ None → FaultAt all end Syntax t.at
+  no_way : grow p t.token ≡ None → FaultAt solution_form all end Syntax t.at
   no_way stops_here =
-      fault_here Syntax (begins-grown (signs_of first) p read.run, λ begins. none_begins (grown-begins _ begins))
-      (λ d faulty. first_of_all d)
+      syntax_here solution_form first t rest end read.faultless (begins-grown (signs_of first) p read.run)
+      (λ begins. none_begins (grown-begins _ begins))
     where
       none_begins : (q : Reading) × (grown_from (Some Word) (signs_of first ++ t.token ∷ []) ≡ Some q) → ⊥
       none_begins (q, run) =
           let stuck_run = grown-append (Some Word) (signs_of first) (t.token ∷ [])
           ∙ ap (λ o. grown_from o (t.token ∷ [])) read.run ∙ ap (λ o. grown_from o []) stops_here in cc
-
-      first_of_all : (d : Cause) → 1 ≤ rank d
-      first_of_all Syntax = omega arith
-      first_of_all Repeated = omega arith
-      first_of_all TooMany = omega arith
-      first_of_all TooLarge = omega arith
 
   at_fault : (q : Reading) → grow p t.token ≡ Some q → (out : EntryStep)
       → Came p t.token q t.at out
@@ -275,7 +246,7 @@ module _ (first : List Placed) (p : Reading) (t : Placed) (rest : List Placed) (
       inr (
         refusal.Repeated t.at,
         is,
-        fault_here Repeated
+        fault_here solution_form first t rest end read.faultless Repeated
             (n, role_is (signs_of first) p t.token q read more ∙ here, subst (IsMember n) (sym read.vertices) member) lowest,
       )
     where
@@ -288,7 +259,7 @@ module _ (first : List Placed) (p : Reading) (t : Placed) (rest : List Placed) (
       inr (
         refusal.TooMany t.at,
         is,
-        fault_here TooMany
+        fault_here solution_form first t rest end read.faultless TooMany
             (inl (n, role_is (signs_of first) p t.token q read more ∙ here, omega (arith, ap length read.vertices, read.few))) lowest,
       )
     where
@@ -299,7 +270,11 @@ module _ (first : List Placed) (p : Reading) (t : Placed) (rest : List Placed) (
       lowest TooMany faulty = omega arith
       lowest TooLarge faulty = omega arith
   at_fault q more out (outgrows digits is_t large fresh room is) =
-      inr (refusal.TooLarge t.at, is, fault_here TooLarge (digits, is_t, large) lowest)
+      inr (
+        refusal.TooLarge t.at,
+        is,
+        fault_here solution_form first t rest end read.faultless TooLarge (digits, is_t, large) lowest,
+      )
     where
       lowest : (d : Cause) → IsFaultyIn solution_form d (signs_of first) t.token → 5 ≤ rank d
       lowest Syntax faulty = absurd (not_syntax (signs_of first) p t.token q read more faulty)

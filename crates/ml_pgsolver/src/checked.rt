@@ -20,7 +20,7 @@ use std::alloc::Global;
 
 /// A game with claims about its vertices, one place for each, in the order of the game's vertices.
 #[derive(Drop)]
-pub struct Checked {
+pub struct ClaimedGame {
     /// The game, with the ids of its vertices.
     pub named: Named,
     /// What is claimed of each vertex, if something is.
@@ -75,7 +75,7 @@ fn behind_name(text: &[u8], at: usize) -> usize
 ///
 /// Cost: linear in the text, but for the ids, which are sorted, and among which each successor and each id of an entry is
 /// sought.
-pub fn read_checked(alloc: Global, text: &[u8]) -> Result<Checked, GameTextRefusal>
+pub fn read_checked(alloc: Global, text: &[u8]) -> Result<ClaimedGame, GameTextRefusal>
     ensures { MatchResult result (λ c. IsCheckedAs text.now c.named c.claims.items) (IsCheckRefusedBy text.now) }
 {
     match word_place(text) {
@@ -137,7 +137,7 @@ fn behind_word(text: &[u8], word: usize) -> usize
 }
 
 // the game and the claims of a text in which the word stands at this byte
-fn with_word(alloc: Global, text: &[u8], word: usize) -> Result<Checked, GameTextRefusal>
+fn with_word(alloc: Global, text: &[u8], word: usize) -> Result<ClaimedGame, GameTextRefusal>
     requires { word_in text.now ≡ Some word }
     ensures { MatchResult result (λ c. IsCheckedAs text.now c.named c.claims.items) (IsCheckRefusedBy text.now) }
 {
@@ -199,7 +199,7 @@ fn claimed(
     word: usize,
     from: usize,
     named: Named,
-) -> Result<Checked, GameTextRefusal>
+) -> Result<ClaimedGame, GameTextRefusal>
     requires word { word_in text.now ≡ Some word }
     requires from { from ≡ word + 9 }
     requires within { from ≤ length text.now }
@@ -208,7 +208,7 @@ fn claimed(
 {
     let rows = read_entries(alloc, text, from)?;
     match claims_of(alloc, named.ids(), &rows)? {
-        Some(claims) => Ok(Checked { named, claims }),
+        Some(claims) => Ok(ClaimedGame { named, claims }),
         None => Err(GameTextRefusal::Unknown {
             at: first_stranger(text, from, named.ids()),
         }),

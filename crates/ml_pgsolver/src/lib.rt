@@ -24,7 +24,7 @@ mod refusal;
 mod scan;
 mod writing;
 
-pub use checked::{Checked, read_checked};
+pub use checked::{ClaimedGame, read_checked};
 pub use finding::{SolutionFinding, check_solution};
 pub use limits::{
     GREATEST_NUMBER, LONGEST_CHECKED_TEXT, LONGEST_GAME_TEXT, MOST_SUCCESSORS, MOST_VERTICES,

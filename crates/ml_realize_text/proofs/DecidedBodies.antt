@@ -19,8 +19,8 @@ use Rattle.ml_task.specs.NameSets.{members}
 use Rattle.ml_realize_text.specs.RealizeRules.{AtAnswer, AtEnd, AtFormula, AtInputs, AtNothing, AtOutputs, AtPlay, AtReply, AtState, AtStates}
 use Rattle.ml_realize_text.specs.RealizeRules.{AtStep, AtTitle, IsReplyLine, IsSet, IsStepLine, realize, rules}
 use Rattle.ml_realize_text.specs.RealizeText.{end_line, or_dash, set_words, title_line, told_line}
-use Rattle.ml_realize_text.specs.declared.answer.Answer.{Answer}
-use Rattle.ml_realize_text.specs.declared.answer.Answer.TheVariants.{Realizable, Undecided, Unrealizable}
+use Rattle.ml_realize_text.specs.declared.realizability.Realizability.{Realizability}
+use Rattle.ml_realize_text.specs.declared.realizability.Realizability.TheVariants.{Realizable, Undecided, Unrealizable}
 use Rattle.ml_realize_text.proofs.BodyLines.{reply_numbers, step_numbers, step_sets}
 use Rattle.ml_realize_text.proofs.LineWords.{last_two, one_reply, one_step}
 use Rattle.ml_realize_text.proofs.SetReads.{below_even, below_odd, first_found, first_missing, later_found, later_missing, members_are}
@@ -207,14 +207,14 @@ module _ (names : List Word) (s : ℕ) (line : Line) where
 
 -- ---- places
 
-decided_told : (line : Line) → Decided ((a : Answer) × (line ≡ told_line a))
+decided_told : (line : Line) → Decided ((a : Realizability) × (line ≡ told_line a))
 decided_told line =
     go (decided_line line (told_line Realizable)) (decided_line line (told_line Unrealizable)) (decided_line line (told_line Undecided))
   where
     one : line ≢ told_line Realizable
         → line ≢ told_line Unrealizable
         → line ≢ told_line Undecided
-        → (a : Answer)
+        → (a : Realizability)
         → line ≢ told_line a
     one x y z Realizable = x
     one x y z Unrealizable = y
@@ -223,7 +223,7 @@ decided_told line =
     go : Decided (line ≡ told_line Realizable)
         → Decided (line ≡ told_line Unrealizable)
         → Decided (line ≡ told_line Undecided)
-        → Decided ((a : Answer) × (line ≡ told_line a))
+        → Decided ((a : Realizability) × (line ≡ told_line a))
     go (inl x) y z = inl (Realizable, x)
     go (inr x) (inl y) z = inl (Unrealizable, y)
     go (inr x) (inr y) (inl z) = inl (Undecided, z)

@@ -20,7 +20,7 @@ use Rattle.ml_task.proofs.ReadableTasks.{are_words, task_readable}
 use Rattle.ml_realize_text.specs.ReadText.{IsRealizeText}
 use Rattle.ml_realize_text.specs.RealizeRules.{AtInputs, AtStates, AtTitle, realize}
 use Rattle.ml_realize_text.specs.RealizeText.{end_line, lines_about, outcome_lines, title_line, told_line}
-use Rattle.ml_realize_text.specs.declared.answer.Answer.{Answer}
+use Rattle.ml_realize_text.specs.declared.realizability.Realizability.{Realizability}
 use Rattle.ml_realize_text.specs.declared.head.BodyOf.{BodyOf}
 use Rattle.ml_realize_text.specs.declared.rest.Rest.{Rest}
 use Rattle.ml_realize_text.specs.private.Reads.{Goes, IsBodyRead, IsTaskRead, TellsFault, answer_of, signals_of}
@@ -51,12 +51,12 @@ module _ (at : Rest) (t : Task) (rest : Rest) (read : IsTaskRead at t rest) wher
   good : IsReadable task tasks.AtInputs (lines_of_task t read.formula_text)
   good = subst (IsReadable task tasks.AtInputs) three_lines.1 (task_readable three_lines.0 t is_text)
 
-  pub task_runs : (a : Answer) (left : List ℕ)
+  pub task_runs : (a : Realizability) (left : List ℕ)
       → Runs (realize left) (AtInputs a) (lines_of_task t read.formula_text) (AtStates (signals_of a t))
   task_runs a left = (good.0, (good.1.0, (good.1.1.0, refl)))
 
 module _ (at lines : Rest) (body : BodyOf) (head : Goes at (title_line ∷ told_line (answer_of body) ∷ []) lines) where
-  pub behind_head : (e : DocRefusal) → ((a : Answer) → TellsFault (AtInputs a) lines e) → TellsFault AtTitle at e
+  pub behind_head : (e : DocRefusal) → ((a : Realizability) → TellsFault (AtInputs a) lines e) → TellsFault AtTitle at e
   behind_head e tells =
       told_behind AtTitle (AtInputs (answer_of body)) at lines (title_line ∷ told_line (answer_of body) ∷ []) e head (head_runs body)
       (tells (answer_of body))

@@ -17,14 +17,14 @@ use Rattle.ml_task.proofs.ReadableTasks.{readable_task, task_readable}
 use Rattle.ml_realize_text.specs.ReadText.{IsRealizeText}
 use Rattle.ml_realize_text.specs.RealizeRules.{AtInputs, AtStates, AtTitle, realize, told}
 use Rattle.ml_realize_text.specs.RealizeText.{outcome_answer, title_line, told_line}
-use Rattle.ml_realize_text.specs.declared.answer.Answer.{Answer}
-use Rattle.ml_realize_text.specs.declared.answer.Answer.TheVariants.{Realizable, Undecided, Unrealizable}
+use Rattle.ml_realize_text.specs.declared.realizability.Realizability.{Realizability}
+use Rattle.ml_realize_text.specs.declared.realizability.Realizability.TheVariants.{Realizable, Undecided, Unrealizable}
 use Rattle.ml_realize_text.specs.private.Reads.{environment_of, machine_of}
 use Rattle.ml_realize_text.proofs.Bodies.{EnvironmentBody, MachineBody, environment_body, machine_body, read_environment, read_machine}
 use Rattle.ml_realize_text.proofs.CutLines.{IsCut, cut_lines, text_of_three}
 use Rattle.ml_realize_text.proofs.FixedWords.{differ}
 
-pub apart : (a : Answer) → told_line a ≡ told_line Undecided → (a ≡ Undecided)
+pub apart : (a : Realizability) → told_line a ≡ told_line Undecided → (a ≡ Undecided)
 apart Realizable same = absurd (differ (codes "realizable") (codes "undecided") refl (ap (λ l. word l 1) same))
 apart Unrealizable same = absurd (differ (codes "unrealizable") (codes "undecided") refl (ap (λ l. word l 1) same))
 apart Undecided same = refl
@@ -187,7 +187,7 @@ module _ (text : List ℕ) (l1 l2 l3 l4 l5 : Line) (rest : List Line) (same : li
   outputs_are : (x : OfTask) → drop 1 l4 ≡ x.task_is.outputs
   outputs_are x = ap (λ ls. drop 1 (slice_index_or ls 1 [])) x.lines_are
 
-  pub five_lines : (a : Answer)
+  pub five_lines : (a : Realizability)
       → l2 ≡ told_line a
       → ¬ (l2 ≡ told_line Undecided)
       → IsReadable (realize (left_of text)) (AtInputs a) (l3 ∷ l4 ∷ l5 ∷ rest)
@@ -208,7 +208,7 @@ module _ (text : List ℕ) (l1 l2 l3 l4 l5 : Line) (rest : List Line) (same : li
       readable.1.1.1)))
   five_lines Undecided answer decided readable = absurd (decided answer)
 
-pub told_back : (a : Answer) → ¬ (told_line a ≡ told_line Undecided) → told (told_line a) ≡ a
+pub told_back : (a : Realizability) → ¬ (told_line a ≡ told_line Undecided) → told (told_line a) ≡ a
 told_back Realizable decided = refl
 told_back Unrealizable decided = refl
 told_back Undecided decided = absurd (decided refl)

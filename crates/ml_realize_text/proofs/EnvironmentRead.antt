@@ -6,7 +6,6 @@
 --   play_refused, row_refused == so where its `play` is refused, and what stands behind it
 --   PlaysTo, plays_begin, plays_more, plays_refused == so with the rows of an environment
 --   rows_last, rows_count, turned == one more row; how many there are; the lines of the rows are those of the environment
---   environment_read       == the whole environment
 use Rattle.std.proofs.Common.{◌≡◌, ℕ, ◌<◌, ◌≤◌, ◌+◌, ◌^◌, List, [], ◌∷◌, ◌++◌, length, map, get_or, refl, sym, ap, subst, ◌∙◌, length-append, arith}
 use Rattle.std.specs.List.{AllByRecursion, enumerate_from, flat_map}
 use Rattle.ml_base.specs.declared.doc_refusal.DocRefusal.{DocRefusal}
@@ -186,27 +185,6 @@ module _ (ins outs : List Word) (n : ℕ) where
         (plays_lead left ins outs n are_ins are_outs few) 0 rows (length rows) (omega arith) so_far.most so_far.fit))
         tells
 
-    -- ---- the whole environment
-
-    pub count_refused : (at mid : Rest) (e : DocRefusal)
-        → 0 < n
-        → Goes at (states_line n ∷ []) mid
-        → TellsFault (at_state (environment_of ins outs) n 0) mid e
-        → TellsFault (AtStates (environment_of ins outs)) at e
-    count_refused at mid e some goes tells =
-        let g = environment_of ins outs in
-        told_behind (AtStates g) (at_state g n 0) at mid (states_line n ∷ []) e goes
-        (λ left. (states_good g (states_line n) n few refl some left, ap (λ k. at_state g k 0) (value_back n few))) tells
-
-    pub end_refused : (at rest : Rest) (rows : List PlayRow) (e : DocRefusal)
-        → PlaysTo at rows rest
-        → length rows ≡ n
-        → TellsFault AtEnd rest e
-        → TellsFault (at_state (environment_of ins outs) n 0) at e
-    end_refused at rest rows e so_far long tells =
-        plays_refused at rest rows e so_far
-        (subst (λ p. TellsFault p rest e) (sym (states_done (environment_of ins outs) n (length rows) (omega (arith, long)))) tells)
-
   -- what was read of an environment, as rows and as its two lists
   pub environment_lines_read : (at rest : Rest) (ps : List ℕ) (ns : List (List ℕ))
       → length ns ≡ length ps
@@ -256,18 +234,3 @@ module _ (ins outs : List Word) (n : ℕ) where
         },
         count,
       )
-
-  pub environment_read : (at mid rest : Rest) (e : EnvironmentTable)
-      → Goes at (states_line n ∷ []) mid
-      → Goes mid (flat_map (environment_state_lines ins outs e.next) (enumerate_from 0 e.plays)) rest
-      → length e.plays ≡ n
-      → IsEnded rest
-      → IsBody at (environment_lines ins outs e)
-  environment_read at mid rest e goes read long ended =
-      let rows = flat_map (environment_state_lines ins outs e.next) (enumerate_from 0 e.plays) in
-      let counted : Goes at (environment_lines ins outs e) rest =
-      subst (λ k. Goes at (states_line k ∷ rows) rest) (sym long) (goes_on goes read) in
-      record {
-        lines_are = counted.lines_are ∙ ap (λ ls. environment_lines ins outs e ++ ls) ended.lines_are;
-        none_left = counted.left_is ∙ ended.none_left;
-      }

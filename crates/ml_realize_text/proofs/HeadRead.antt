@@ -25,8 +25,8 @@ use Rattle.ml_task.specs.TaskText as tasks
 use Rattle.ml_task.specs.TaskText.{IsTaskFault, last_line, task, task_lines}
 use Rattle.ml_realize_text.specs.RealizeRules.{AtAnswer, AtFormula, AtInputs, AtOutputs, AtTitle, Signals, realize}
 use Rattle.ml_realize_text.specs.RealizeText.{title_line, told_line}
-use Rattle.ml_realize_text.specs.declared.answer.Answer.{Answer}
-use Rattle.ml_realize_text.specs.declared.answer.Answer.TheVariants.{Realizable, Undecided, Unrealizable}
+use Rattle.ml_realize_text.specs.declared.realizability.Realizability.{Realizability}
+use Rattle.ml_realize_text.specs.declared.realizability.Realizability.TheVariants.{Realizable, Undecided, Unrealizable}
 use Rattle.ml_realize_text.specs.declared.head.BodyOf.{BodyOf}
 use Rattle.ml_realize_text.specs.declared.head.BodyOf.TheVariants.{AMachine, AnEnvironment}
 use Rattle.ml_realize_text.specs.declared.line_rule.LineRule.TheVariants.{OfHead}
@@ -50,7 +50,7 @@ pub no_answer : (line : List ℕ)
     → Breaks AtAnswer (words_of line) OfHead
 no_answer line x y z left = inl (refl, λ (a, is). one a is)
   where
-    one : (a : Answer) → words_of line ≡ told_line a → ⊥
+    one : (a : Realizability) → words_of line ≡ told_line a → ⊥
     one Realizable is = x (text_is line (codes "answer realizable") is)
     one Unrealizable is = y (text_is line (codes "answer unrealizable") is)
     one Undecided is = z (text_is line (codes "answer undecided") is)
@@ -172,7 +172,7 @@ module _ (left : List ℕ) (bad out r : ℕ) where
   formula_bad g j k (l ∷ m ∷ ls) more (inl long) moved found = absurd (omega (arith, long))
   formula_bad g j k (l ∷ m ∷ ls) more (inr (few, none)) moved found = absurd (omega (arith, few))
 
-  outputs_bad : (a : Answer) (inputs : List (List ℕ)) (j k : ℕ) (ls more : List Line)
+  outputs_bad : (a : Realizability) (inputs : List (List ℕ)) (j k : ℕ) (ls more : List Line)
       → AreFirst 2 ls more
       → bad + k ≡ out + j
       → IsFirstBad task j (tasks.AtOutputs inputs) ls bad r
@@ -187,7 +187,7 @@ module _ (left : List ℕ) (bad out r : ℕ) where
             (omega (arith, moved)) found,
       )
 
-  inputs_bad : (a : Answer) (j k : ℕ) (ls more : List Line)
+  inputs_bad : (a : Realizability) (j k : ℕ) (ls more : List Line)
       → AreFirst 3 ls more
       → bad + k ≡ out + j
       → IsFirstBad task j tasks.AtInputs ls bad r
@@ -216,7 +216,7 @@ module _ (at rest : Rest) (text : List ℕ) (fault : DocFault) (behind : IsBehin
       let within = bad_within task 1 tasks.AtInputs (task_lines text) fault.line fault.rule found in
       (within.0, omega (arith, within.1, ap length (are lines goes), goes.shorter))
 
-  pub task_refused : (a : Answer) → TellsFault (AtInputs a) at (refused.Fault (record { line = at.line + (fault.line - 1); rule = fault.rule }))
+  pub task_refused : (a : Realizability) → TellsFault (AtInputs a) at (refused.Fault (record { line = at.line + (fault.line - 1); rule = fault.rule }))
   task_refused a =
       let (lines, goes, first) = behind in
       let within = bad_within task 1 tasks.AtInputs (task_lines text) fault.line fault.rule found in

@@ -52,6 +52,8 @@ pub mod ListedLines
 pub mod MachineRead
 -- the states of an environment, as they are read
 pub mod EnvironmentRead
+-- the states of either, between their number and `end`
+pub mod OutcomeRead
 -- what stands before the body, as it is read
 pub mod HeadRead
 -- a whole document, as it is read

@@ -5,7 +5,6 @@
 --   steps_refused        == where the next one is refused, the state is
 --   row_read, row_refused == the line of the state, and its steps
 --   RowsTo, rows_begin, rows_more_read, rows_refused == so with the rows of a machine
---   machine_read         == the whole machine
 use Rattle.std.proofs.Common.{◌≡◌, ℕ, ◌<◌, ◌≤◌, ◌^◌, List, [], ◌∷◌, ◌++◌, length, map, refl, sym, ap, subst, ◌∙◌, length-append, arith}
 use Rattle.std.specs.List.{AllByRecursion, enumerate_from, flat_map}
 use Rattle.ml_base.specs.declared.doc_refusal.DocRefusal.{DocRefusal}
@@ -143,39 +142,3 @@ module _ (ins outs : List Word) (n : ℕ) where
     rows_refused at mid rows e so_far tells =
         told_behind (at_state (machine_of ins outs) n 0) (at_state (machine_of ins outs) n (length rows)) at mid
         (flat_map (machine_state_lines ins outs) (enumerate_from 0 rows)) e so_far.goes (rows_run at mid rows so_far) tells
-
-    -- ---- the whole machine
-
-    pub count_refused : (at mid : Rest) (e : DocRefusal)
-        → 0 < n
-        → Goes at (states_line n ∷ []) mid
-        → TellsFault (at_state (machine_of ins outs) n 0) mid e
-        → TellsFault (AtStates (machine_of ins outs)) at e
-    count_refused at mid e some goes tells =
-        let g = machine_of ins outs in
-        told_behind (AtStates g) (at_state g n 0) at mid (states_line n ∷ []) e goes
-        (λ left. (states_good g (states_line n) n few refl some left, ap (λ k. at_state g k 0) (value_back n few))) tells
-
-    pub end_refused : (at rest : Rest) (rows : MachineTable) (e : DocRefusal)
-        → RowsTo at rows rest
-        → length rows ≡ n
-        → TellsFault AtEnd rest e
-        → TellsFault (at_state (machine_of ins outs) n 0) at e
-    end_refused at rest rows e so_far long tells =
-        rows_refused at rest rows e so_far
-        (subst (λ p. TellsFault p rest e) (sym (states_done (machine_of ins outs) n (length rows) (omega (arith, long)))) tells)
-
-  pub machine_read : (at mid rest : Rest) (rows : MachineTable)
-      → Goes at (states_line n ∷ []) mid
-      → RowsTo mid rows rest
-      → length rows ≡ n
-      → IsEnded rest
-      → IsBody at (machine_lines ins outs rows)
-  machine_read at mid rest rows goes read long ended =
-      let all = goes_on goes read.goes in
-      let counted : Goes at (machine_lines ins outs rows) rest =
-      subst (λ k. Goes at (states_line k ∷ flat_map (machine_state_lines ins outs) (enumerate_from 0 rows)) rest) (sym long) all in
-      record {
-        lines_are = counted.lines_are ∙ ap (λ ls. machine_lines ins outs rows ++ ls) ended.lines_are;
-        none_left = counted.left_is ∙ ended.none_left;
-      }

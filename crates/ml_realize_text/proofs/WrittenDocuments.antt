@@ -33,8 +33,8 @@ use Rattle.ml_realize_text.specs.Laws.{WrittenReadsBack}
 use Rattle.ml_realize_text.specs.ReadText.{Fits, states_of}
 use Rattle.ml_realize_text.specs.RealizeText.{answer_line, end_line, environment_lines, head_lines, machine_state_lines, or_dash}
 use Rattle.ml_realize_text.specs.RealizeText.{outcome_answer, outcome_lines, play_line, set_words, state_line, step_line, title_line, told_line}
-use Rattle.ml_realize_text.specs.declared.answer.Answer.{Answer}
-use Rattle.ml_realize_text.specs.declared.answer.Answer.TheVariants.{Realizable, Undecided, Unrealizable}
+use Rattle.ml_realize_text.specs.declared.realizability.Realizability.{Realizability}
+use Rattle.ml_realize_text.specs.declared.realizability.Realizability.TheVariants.{Realizable, Undecided, Unrealizable}
 use Rattle.ml_realize_text.specs.private.Reads.{PlayFits, PlayRow, RowFits, StepFits}
 use Rattle.ml_realize_text.proofs.CutLines.{IsCut, bytes_of, cut_lines}
 use Rattle.ml_realize_text.proofs.LastWords.{words_around}
@@ -179,7 +179,7 @@ lines_of_all (l ∷ ls) rest all =
       ap left_of grouped ∙ front.1 ∙ others.1,
     )
 
-plain_told : (a : Answer) → IsPlain (told_line a)
+plain_told : (a : Realizability) → IsPlain (told_line a)
 plain_told Realizable = plain_line (codes "answer") (codes "realizable" ∷ []) ((refl, refl), ((refl, refl), tt))
 plain_told Unrealizable = plain_line (codes "answer") (codes "unrealizable" ∷ []) ((refl, refl), ((refl, refl), tt))
 plain_told Undecided = plain_line (codes "answer") (codes "undecided" ∷ []) ((refl, refl), ((refl, refl), tt))

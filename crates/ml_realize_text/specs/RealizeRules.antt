@@ -31,15 +31,15 @@ use Rattle.ml_lines.specs.Reading.{AreWords, IsNumber, IsTextBehind, IsWordBehin
 use Rattle.ml_lists.specs.Documents.{Format, Rule, rule}
 use Rattle.ml_task.specs.TaskText as task
 use Rattle.ml_realize_text.specs.RealizeText.{end_line, set_words, title_line, told_line}
-use Rattle.ml_realize_text.specs.declared.answer.Answer.{Answer}
-use Rattle.ml_realize_text.specs.declared.answer.Answer.TheVariants.{Realizable, Undecided, Unrealizable}
+use Rattle.ml_realize_text.specs.declared.realizability.Realizability.{Realizability}
+use Rattle.ml_realize_text.specs.declared.realizability.Realizability.TheVariants.{Realizable, Undecided, Unrealizable}
 use Rattle.ml_realize_text.specs.declared.line_rule.LineRule.{LineRule}
 use Rattle.ml_realize_text.specs.declared.line_rule.LineRule.TheVariants as breaks
 
 -- ---- places
 
 pub record Signals : Type 0 where
-  pub answer : Answer
+  pub answer : Realizability
   pub inputs : List Word
   pub outputs : List Word
 
@@ -47,8 +47,8 @@ pub data Place : Type 0 where
   AtTitle : Place
   AtAnswer : Place
   -- the lines of the task, with the answer and the names that stood before
-  AtInputs : Answer → Place
-  AtOutputs : Answer → List Word → Place
+  AtInputs : Realizability → Place
+  AtOutputs : Realizability → List Word → Place
   AtFormula : Signals → Place
   AtStates : Signals → Place
   -- the line of a state, with the number of states and that of this one; its `play`; one for a set
@@ -59,7 +59,7 @@ pub data Place : Type 0 where
   AtEnd : Place
   AtNothing : Place
 
-abbrev pub told : Line → Answer
+abbrev pub told : Line → Realizability
 told line = if bytes_eq (word line 1) (codes "realizable") then Realizable else Unrealizable
 
 abbrev pub at_state : Signals → ℕ → ℕ → Place
@@ -72,7 +72,7 @@ abbrev pub at_reply : Signals → ℕ → ℕ → ℕ → Place
 at_reply g n i s = if nat_lt s (2 ^ length g.outputs) then AtReply g n i s else at_state g n (i + 1)
 
 -- behind the line of a state
-abbrev pub in_state : Answer → Signals → ℕ → ℕ → Place
+abbrev pub in_state : Realizability → Signals → ℕ → ℕ → Place
 in_state Realizable g n i = at_step g n i 0
 in_state _ g n i = AtPlay g n i
 
@@ -131,7 +131,7 @@ HasNumber line = IsNumber (word line 1)
 abbrev pub rules : List ℕ → Place → List (Rule Line)
 rules left AtTitle = asks breaks.OfHead (λ line. line ≡ title_line) ∷ []
 rules left AtAnswer =
-    asks breaks.OfHead (λ line. (a : Answer) × (line ≡ told_line a))
+    asks breaks.OfHead (λ line. (a : Realizability) × (line ≡ told_line a))
     ∷ asks breaks.Decided (λ line. ¬ (line ≡ told_line Undecided))
     ∷ []
 rules left (AtInputs a) = task.rules task.AtInputs

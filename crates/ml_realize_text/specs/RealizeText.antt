@@ -14,7 +14,7 @@
 -- in the order of the task, or as `-`, if it is empty. States and sets ascend, sets by their numbers, of which bit k stands for
 -- the k-th name. The body of what is undecided is one line, `cause positions N` or `cause closure N`.
 --
---   Answer                  == realizable, unrealizable or undecided
+--   Realizability           == realizable, unrealizable or undecided
 --   title_line, told_line a == the first line, and the second one, which tells the answer a
 --   lines_about a t ws      == the first five lines about the task t, with the words ws for its formula
 --   head_lines a t          == so with the formula's canonical text
@@ -37,14 +37,14 @@ use Rattle.ml_synthesis.specs.declared.outcome.Outcome.{Outcome}
 use Rattle.ml_synthesis.specs.declared.outcome.Outcome.TheVariants as outcome
 use Rattle.ml_task.specs.NameSets.{members}
 use Rattle.ml_task.specs.Task.{Task}
-use Rattle.ml_realize_text.specs.declared.answer.Answer.{Answer}
-use Rattle.ml_realize_text.specs.declared.answer.Answer.TheVariants.{Realizable, Undecided, Unrealizable}
+use Rattle.ml_realize_text.specs.declared.realizability.Realizability.{Realizability}
+use Rattle.ml_realize_text.specs.declared.realizability.Realizability.TheVariants.{Realizable, Undecided, Unrealizable}
 use Rattle.ml_realize_text.specs.declared.cause.Cause.{Cause}
 use Rattle.ml_realize_text.specs.declared.cause.Cause.TheVariants.{Closure, Positions}
 
 -- ---- the head
 
-abbrev pub answer_word : Answer → Word
+abbrev pub answer_word : Realizability → Word
 answer_word Realizable = codes "realizable"
 answer_word Unrealizable = codes "unrealizable"
 answer_word Undecided = codes "undecided"
@@ -52,10 +52,10 @@ answer_word Undecided = codes "undecided"
 abbrev pub title_line : Line
 title_line = codes "mlsolver" ∷ codes "realize" ∷ codes "1" ∷ []
 
-abbrev pub told_line : Answer → Line
+abbrev pub told_line : Realizability → Line
 told_line a = codes "answer" ∷ answer_word a ∷ []
 
-abbrev pub lines_about : Answer → Task → Line → List Line
+abbrev pub lines_about : Realizability → Task → Line → List Line
 lines_about a t words =
     title_line
     ∷ told_line a
@@ -64,7 +64,7 @@ lines_about a t words =
     ∷ (codes "formula" ∷ words)
     ∷ []
 
-abbrev pub head_lines : Answer → Task → List Line
+abbrev pub head_lines : Realizability → Task → List Line
 head_lines a t = lines_about a t (canonical_text t.formula ∷ [])
 
 -- ---- sets
@@ -118,7 +118,7 @@ environment_lines ins outs e =
 abbrev pub end_line : Line
 end_line = codes "end" ∷ []
 
-abbrev pub outcome_answer : Outcome → Answer
+abbrev pub outcome_answer : Outcome → Realizability
 outcome_answer (outcome.Made m) = Realizable
 outcome_answer (outcome.Defeated e) = Unrealizable
 

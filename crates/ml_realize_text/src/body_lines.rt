@@ -1,4 +1,4 @@
-// What the lines of a machine and of an environment tell, each with the rules that it may break.
+// A line of a machine or of an environment tells something, or breaks the first of its rules.
 ghost use Rattle.std.specs.Prelude.{ℕ, ◌≡◌, ◌≢◌, ◌<◌, ◌≤◌, ◌^◌, ◌∷◌, ◌++◌, [], List, MatchOption, IfErr, IfOk, codes, length};
 ghost use Rattle.ml_lines.specs.Lines.{Line, Word, number};
 ghost use Rattle.ml_lines.specs.Reading.{words_of};

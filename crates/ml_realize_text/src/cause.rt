@@ -1,4 +1,4 @@
-// Why a task is undecided.
+// A task stays undecided for one of two causes.
 
 /// Why a task is undecided.
 #[derive(Clone, Copy, Debug, PartialEq, Eq)]

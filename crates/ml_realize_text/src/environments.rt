@@ -1,4 +1,4 @@
-// The lines of an environment.
+// An environment is written state after state, line by line.
 ghost use Rattle.std.specs.Prelude.{◌≡◌, ◌++◌, [], OnOk, get_or, map};
 ghost use Rattle.std.specs.List.{flat_map, enumerate_from};
 ghost use Rattle.ml_lines.specs.Lines.{line_text, text_of};

@@ -1,11 +1,11 @@
-// Reading what stands before the body of a document: the title, the answer, and the lines of the task.
+// The title, the answer and the lines of the task stand before the body of a document, and are read here.
 ghost use Rattle.std.specs.Prelude.{◌≡◌, ◌+◌, ◌<◌, ◌≤◌, ◌^◌, ◌∷◌, [], IfErr, IfOk, List, length};
 ghost use Rattle.ml_base.specs.declared.doc_refusal.DocRefusal.{DocRefusal};
 ghost use Rattle.ml_lines.specs.Lines.{Line};
 ghost use Rattle.ml_lines.specs.Reading.{words_of};
 ghost use Rattle.ml_realize_text.specs.RealizeRules.{AtAnswer, AtInputs, AtTitle};
 ghost use Rattle.ml_realize_text.specs.RealizeText.{title_line, told_line};
-ghost use Rattle.ml_realize_text.specs.declared.answer.Answer as spec;
+ghost use Rattle.ml_realize_text.specs.declared.realizability.Realizability as spec;
 ghost use Rattle.ml_realize_text.specs.private.Reads.{Breaks, Goes, HasRoom, IsBehindLine, IsBehindTask, IsTaskRead, TellsFault, answer_of};
 ghost use Rattle.ml_task.specs.Task.{task_of};
 ghost use Rattle.ml_task.specs.TaskText.{task_lines};
@@ -122,7 +122,7 @@ fn text_before<'a>(at: Rest<'a>, rest: Rest) -> &'a [u8]
 pub(crate) fn read_task<'a>(alloc: Global, at: Rest<'a>) -> Result<(Task, Rest<'a>), DocRefusal>
     requires { HasRoom at }
     ensures read { IfOk result (λ r. IsTaskRead at.entry (task_of r.0.inputs.items r.0.outputs.items r.0.formula) r.1) }
-    ensures refused { IfErr result (λ e. (a : spec.Answer) → TellsFault (AtInputs a) at.entry e) }
+    ensures refused { IfErr result (λ e. (a : spec.Realizability) → TellsFault (AtInputs a) at.entry e) }
 {
     let rest = behind_task(at);
     match ml_task::read(alloc, text_before(at, rest)) {

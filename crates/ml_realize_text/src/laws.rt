@@ -1,4 +1,4 @@
-// Laws over documents: no caller runs these functions, their contracts are the theorems.
+// Laws over documents stand here: no caller runs these functions, and their contracts are the theorems.
 ghost use Rattle.ml_realize_text.specs.Laws.{OneFault, OneReading, RulesRise, SomeReading, TextOrFault, WrittenReadsBack};
 
 /// A text is a document of exactly one task and one outcome, or it has exactly one first bad line with one lowest rule.

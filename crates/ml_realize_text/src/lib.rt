@@ -10,7 +10,6 @@
 // program.
 #![tactic(auto)]
 
-mod answer;
 mod body_lines;
 mod cause;
 mod environments;
@@ -23,12 +22,13 @@ mod read_environment;
 mod read_lines;
 mod read_machine;
 mod reading;
+mod realizability;
 mod rest;
 mod sets;
 mod writing;
 
-pub use answer::Answer;
 pub use cause::Cause;
 pub use line_rule::LineRule;
 pub use reading::{Document, read};
+pub use realizability::Realizability;
 pub use writing::{write, write_undecided};

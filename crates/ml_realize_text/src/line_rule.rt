@@ -1,4 +1,4 @@
-// The rules of a document's lines.
+// A line of a document may break one of these rules.
 ghost use Rattle.std.specs.Prelude.{◌≡◌};
 ghost use Rattle.ml_realize_text.specs.RealizeRules.{rule_number};
 

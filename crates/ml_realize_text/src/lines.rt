@@ -1,4 +1,4 @@
-// Lines that machines and environments have in common.
+// Machines and environments have these parts of lines in common.
 ghost use Rattle.std.specs.Prelude.{◌≡◌, ◌++◌, ◌∷◌, [], codes, OnOk};
 ghost use Rattle.std.specs.List.{flat_map};
 ghost use Rattle.ml_lines.specs.Lines.{line_text, next, number};

@@ -1,4 +1,4 @@
-// The lines of a machine.
+// A machine is written state after state, line by line.
 ghost use Rattle.std.specs.Prelude.{◌≡◌, ◌++◌, ◌<◌, ◌^◌, OnOk};
 ghost use Rattle.std.specs.List.{flat_map, enumerate_from};
 ghost use Rattle.std.specs.Prelude.{map};

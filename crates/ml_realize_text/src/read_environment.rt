@@ -1,14 +1,14 @@
-// Reading an environment.
+// An environment is read from the lines of its states.
 ghost use Rattle.std.specs.Prelude.{ℕ, ◌≡◌, ◌<◌, ◌≤◌, ◌^◌, IfErr, IfOk, List, length, map};
 ghost use Rattle.std.specs.List.{AllByRecursion, enumerate_from, flat_map};
 ghost use Rattle.ml_lines.specs.Lines.{Word};
 ghost use Rattle.ml_lines.specs.Reading.{AreWords};
-ghost use Rattle.ml_realize_text.specs.RealizeRules.{AtStates, at_reply, at_state};
-ghost use Rattle.ml_realize_text.specs.RealizeText.{answer_line, environment_lines, environment_state_lines};
-ghost use Rattle.ml_realize_text.specs.private.Reads.{Goes, HasRoom, IsBody, PlayFits, TellsFault, environment_of, played_lines};
+ghost use Rattle.ml_realize_text.specs.RealizeRules.{at_reply, at_state};
+ghost use Rattle.ml_realize_text.specs.RealizeText.{answer_line, environment_state_lines};
+ghost use Rattle.ml_realize_text.specs.private.Reads.{Goes, HasRoom, PlayFits, TellsFault, environment_of, played_lines};
 ghost use Rattle.ml_synthesis.specs.Machines.{EnvironmentFits};
 
-use crate::read_lines::{read_end, read_play, read_reply, read_state, read_states};
+use crate::read_lines::{read_play, read_reply, read_state};
 use crate::read_machine::sets;
 use crate::rest::Rest;
 use ml_base::{DocRefusal, Name};
@@ -76,8 +76,8 @@ fn read_row<'a>(
     }
 }
 
-// the environment of the rows of all states
-fn read_rows<'a>(
+// the environment of so many states, with whose lines the text goes on
+pub(crate) fn read_environment<'a>(
     alloc: Global,
     at: Rest<'a>,
     inputs: &[Name],
@@ -109,35 +109,4 @@ fn read_rows<'a>(
         rest = behind;
     }
     Ok((Environment { plays, next }, rest))
-}
-
-// the environment of the lines of a body, behind which nothing stands
-pub(crate) fn read_environment(
-    alloc: Global,
-    at: Rest,
-    inputs: &[Name],
-    outputs: &[Name],
-) -> Result<Environment, DocRefusal>
-    requires room { HasRoom at }
-    requires few_inputs { length inputs.now ≤ 8 }
-    requires few_outputs { length outputs.now ≤ 8 }
-    requires inputs { AreWords inputs.now }
-    requires outputs { AreWords outputs.now }
-    ensures read { IfOk result (λ e. IsBody at.entry (environment_lines inputs.now outputs.now e)) }
-    ensures fits { IfOk result (λ e. EnvironmentFits (length inputs.now) (length outputs.now) e) }
-    ensures few { IfOk result (λ e. length e.plays < 2 ^ 32) }
-    ensures refused { IfErr result (TellsFault (AtStates (environment_of inputs.now outputs.now)) at.entry) }
-{
-    let (states, behind) = match read_states(at) {
-        Ok(read) => read,
-        Err(refusal) => return Err(refusal),
-    };
-    let (environment, end) = match read_rows(alloc, behind, inputs, outputs, states) {
-        Ok(read) => read,
-        Err(refusal) => return Err(refusal),
-    };
-    match read_end(end) {
-        Ok(()) => Ok(environment),
-        Err(refusal) => Err(refusal),
-    }
 }

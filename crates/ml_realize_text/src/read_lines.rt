@@ -1,4 +1,4 @@
-// Lines of a body that are read one after the other.
+// The lines of a body are read one after the other, and the first bad one is told.
 ghost use Rattle.std.specs.Prelude.{ℕ, ◌≡◌, ◌<◌, ◌≤◌, ◌^◌, ◌∷◌, [], IfErr, IfOk, List, length};
 ghost use Rattle.ml_lines.specs.Lines.{Word};
 ghost use Rattle.ml_realize_text.specs.RealizeRules.{AtEnd, AtPlay, AtReply, AtState, AtStates, AtStep, Signals};

@@ -1,14 +1,13 @@
-// Reading a machine.
-ghost use Rattle.std.specs.Prelude.{ℕ, ◌≡◌, ◌<◌, ◌≤◌, ◌^◌, ◌∷◌, ◌++◌, [], IfErr, IfOk, length, map};
-ghost use Rattle.std.specs.List.{AllByRecursion, enumerate_from, flat_map};
+// A machine is read from the lines of its states.
+ghost use Rattle.std.specs.Prelude.{ℕ, ◌≡◌, ◌<◌, ◌≤◌, ◌^◌, ◌∷◌, ◌++◌, IfErr, IfOk, length, map};
+ghost use Rattle.std.specs.List.{enumerate_from, flat_map};
 ghost use Rattle.ml_lines.specs.Reading.{AreWords};
-ghost use Rattle.ml_realize_text.specs.RealizeRules.{AtStates, at_state, at_step};
-ghost use Rattle.ml_realize_text.specs.RealizeText.{machine_lines, machine_state_lines, step_line};
-ghost use Rattle.ml_realize_text.specs.private.Reads.{Goes, HasRoom, IsBody, RowFits, StepFits, TellsFault, machine_of};
-ghost use Rattle.ml_realize_text.specs.private.Rows.{steps_of};
+ghost use Rattle.ml_realize_text.specs.RealizeRules.{at_state, at_step};
+ghost use Rattle.ml_realize_text.specs.RealizeText.{machine_state_lines, step_line};
+ghost use Rattle.ml_realize_text.specs.private.Reads.{Goes, HasRoom, RowFits, TellsFault, machine_of};
 ghost use Rattle.ml_synthesis.specs.Machines.{MachineFits};
 
-use crate::read_lines::{read_end, read_state, read_states, read_step};
+use crate::read_lines::{read_state, read_step};
 use crate::rest::Rest;
 use ml_base::{DocRefusal, Name};
 use ml_synthesis::{Machine, MachineStep};
@@ -78,64 +77,34 @@ fn read_row<'a>(
     }
 }
 
-// the rows of all states
-fn read_rows<'a>(
+// the machine of so many states, with whose lines the text goes on
+pub(crate) fn read_machine<'a>(
     alloc: Global,
     at: Rest<'a>,
     inputs: &[Name],
     outputs: &[Name],
     states: u32,
-) -> Result<(Vec<Vec<MachineStep>>, Rest<'a>), DocRefusal>
+) -> Result<(Machine, Rest<'a>), DocRefusal>
     requires room { HasRoom at }
     requires few_inputs { length inputs.now ≤ 8 }
     requires few_outputs { length outputs.now ≤ 8 }
     requires inputs { AreWords inputs.now }
     requires outputs { AreWords outputs.now }
-    ensures read { IfOk result (λ r. Goes at.entry (flat_map (machine_state_lines inputs.now outputs.now) (enumerate_from 0 (steps_of r.0.items))) r.1) }
-    ensures long { IfOk result (λ r. length r.0.items ≡ states) }
-    ensures fit { IfOk result (λ r. AllByRecursion (RowFits (length inputs.now) (length outputs.now) states) (steps_of r.0.items)) }
+    requires some { 0 < states }
+    ensures read { IfOk result (λ r. Goes at.entry (flat_map (machine_state_lines inputs.now outputs.now) (enumerate_from 0 r.0)) r.1) }
+    ensures long { IfOk result (λ r. length r.0 ≡ states) }
+    ensures fits { IfOk result (λ r. MachineFits (length inputs.now) (length outputs.now) r.0) }
     ensures refused { IfErr result (TellsFault (at_state (machine_of inputs.now outputs.now) states 0) at.entry) }
 {
-    let mut rows = Vec::new(alloc);
+    let mut steps = Vec::new(alloc);
     let mut rest = at;
     for state in 0..states {
         let (row, behind) = match read_row(alloc, rest, inputs, outputs, states, state) {
             Ok(read) => read,
             Err(refusal) => return Err(refusal),
         };
-        rows.push(row)?;
+        steps.push(row)?;
         rest = behind;
     }
-    Ok((rows, rest))
-}
-
-// the machine of the lines of a body, behind which nothing stands
-pub(crate) fn read_machine(
-    alloc: Global,
-    at: Rest,
-    inputs: &[Name],
-    outputs: &[Name],
-) -> Result<Machine, DocRefusal>
-    requires room { HasRoom at }
-    requires few_inputs { length inputs.now ≤ 8 }
-    requires few_outputs { length outputs.now ≤ 8 }
-    requires inputs { AreWords inputs.now }
-    requires outputs { AreWords outputs.now }
-    ensures read { IfOk result (λ m. IsBody at.entry (machine_lines inputs.now outputs.now m)) }
-    ensures fits { IfOk result (λ m. MachineFits (length inputs.now) (length outputs.now) m) }
-    ensures few { IfOk result (λ m. length m < 2 ^ 32) }
-    ensures refused { IfErr result (TellsFault (AtStates (machine_of inputs.now outputs.now)) at.entry) }
-{
-    let (states, behind) = match read_states(at) {
-        Ok(read) => read,
-        Err(refusal) => return Err(refusal),
-    };
-    let (steps, end) = match read_rows(alloc, behind, inputs, outputs, states) {
-        Ok(read) => read,
-        Err(refusal) => return Err(refusal),
-    };
-    match read_end(end) {
-        Ok(()) => Ok(Machine { steps }),
-        Err(refusal) => Err(refusal),
-    }
+    Ok((Machine { steps }, rest))
 }

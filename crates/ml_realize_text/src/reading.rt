@@ -1,15 +1,16 @@
-// Reading the document of a machine or an environment.
-ghost use Rattle.std.specs.Prelude.{ℕ, ◌≡◌, IfErr, IfOk, IsErrOf};
+// The document of a machine or an environment is read as a whole.
+ghost use Rattle.std.specs.Prelude.{ℕ, ◌≡◌, ◌<◌, IfErr, IfOk, IsErrOf};
 ghost use Rattle.ml_base.specs.declared.doc_fault.DocFault.{DocFault};
 ghost use Rattle.ml_synthesis.specs.declared.outcome.Outcome as made;
 ghost use Rattle.ml_task.specs.Task as spec;
 ghost use Rattle.ml_task.specs.Task.{task_of};
 ghost use Rattle.ml_realize_text.specs.ReadText.{IsRealizeText};
-ghost use Rattle.ml_realize_text.specs.RealizeRules.{AtStates, AtTitle, IsRealizeFault};
-ghost use Rattle.ml_realize_text.specs.private.Reads.{HasRoom, IsBodyRead, TellsFault, answer_of, signals_of};
+ghost use Rattle.ml_realize_text.specs.RealizeRules.{AtStates, AtTitle, IsRealizeFault, at_state};
+ghost use Rattle.ml_realize_text.specs.private.Reads.{AreStatesRead, HasRoom, IsBodyRead, TellsFault, answer_of, signals_of};
 
 use crate::head::{BodyOf, read_head, read_task};
 use crate::read_environment::read_environment;
+use crate::read_lines::{read_end, read_states};
 use crate::read_machine::read_machine;
 use crate::rest::Rest;
 use ml_base::DocRefusal;
@@ -24,6 +25,40 @@ pub struct Document {
     pub outcome: Outcome,
 }
 
+// the machine or the environment of so many states, with whose lines the text goes on
+fn read_body<'a>(
+    alloc: Global,
+    at: Rest<'a>,
+    body: BodyOf,
+    task: &Task,
+    states: u32,
+) -> Result<(Outcome, Rest<'a>), DocRefusal>
+    requires room { HasRoom at }
+    requires some { 0 < states }
+    ensures read { IfOk result (λ r. AreStatesRead at.entry (answer_of body)
+        (task_of task.now.inputs.items task.now.outputs.items task.now.formula) states r.0 r.1) }
+    ensures refused { IfErr result (TellsFault
+        (at_state (signals_of (answer_of body) (task_of task.now.inputs.items task.now.outputs.items task.now.formula)) states 0)
+        at.entry) }
+{
+    match body {
+        BodyOf::AMachine => match read_machine(alloc, at, &task.inputs, &task.outputs, states) {
+            Ok((machine, rest)) => Ok((Outcome::Made(machine), rest)),
+            Err(refusal) => Err(refusal),
+        },
+        BodyOf::AnEnvironment => match read_environment(
+            alloc,
+            at,
+            &task.inputs,
+            &task.outputs,
+            states,
+        ) {
+            Ok((environment, rest)) => Ok((Outcome::Defeated(environment), rest)),
+            Err(refusal) => Err(refusal),
+        },
+    }
+}
+
 // the machine or the environment of a body, behind which nothing stands
 fn read_outcome(alloc: Global, at: Rest, body: BodyOf, task: &Task) -> Result<Outcome, DocRefusal>
     requires { HasRoom at }
@@ -31,15 +66,17 @@ fn read_outcome(alloc: Global, at: Rest, body: BodyOf, task: &Task) -> Result<Ou
     ensures refused { IfErr result (TellsFault
         (AtStates (signals_of (answer_of body) (task_of task.now.inputs.items task.now.outputs.items task.now.formula))) at.entry) }
 {
-    match body {
-        BodyOf::AMachine => match read_machine(alloc, at, &task.inputs, &task.outputs) {
-            Ok(machine) => Ok(Outcome::Made(machine)),
-            Err(refusal) => Err(refusal),
-        },
-        BodyOf::AnEnvironment => match read_environment(alloc, at, &task.inputs, &task.outputs) {
-            Ok(environment) => Ok(Outcome::Defeated(environment)),
-            Err(refusal) => Err(refusal),
-        },
+    let (states, behind) = match read_states(at) {
+        Ok(read) => read,
+        Err(refusal) => return Err(refusal),
+    };
+    let (outcome, end) = match read_body(alloc, behind, body, task, states) {
+        Ok(read) => read,
+        Err(refusal) => return Err(refusal),
+    };
+    match read_end(end) {
+        Ok(()) => Ok(outcome),
+        Err(refusal) => Err(refusal),
     }
 }
 

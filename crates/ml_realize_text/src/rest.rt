@@ -1,4 +1,4 @@
-// What is left of a text, and how a refused line of it is told.
+// A reader knows what is left of a text, and tells a refused line by its number.
 ghost use Rattle.std.specs.Prelude.{◌≡◌, ◌∷◌, [], IfErr, IfOk, MatchOption};
 ghost use Rattle.ml_lines.specs.Reading.{lines_of, words_of};
 ghost use Rattle.ml_realize_text.specs.RealizeRules.{AtNothing, rule_number};

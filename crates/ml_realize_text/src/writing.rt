@@ -1,4 +1,4 @@
-// The documents of realizability.
+// A document of realizability is written as a whole.
 ghost use Rattle.std.specs.Prelude.{◌≡◌, ◌++◌, ◌∷◌, [], codes, IfOk, OnOk};
 ghost use Rattle.ml_ctl.specs.Canonical.{canonical_text};
 ghost use Rattle.ml_lines.specs.Lines.{line_text, text_of};
@@ -7,11 +7,11 @@ ghost use Rattle.ml_task.specs.Task.{task_of};
 ghost use Rattle.ml_realize_text.specs.RealizeText as text;
 ghost use Rattle.ml_realize_text.specs.RealizeText.{answer_word, cause_line, head_lines, outcome_answer, outcome_lines, outcome_text, undecided_text};
 
-use crate::answer::Answer;
 use crate::cause::Cause;
 use crate::environments::write_environment;
 use crate::lines::{write_names, write_numbered};
 use crate::machines::write_machine;
+use crate::realizability::Realizability;
 use ml_base::{Name, NoMemory};
 use ml_lines::{end_line, write_next_word, write_word};
 use ml_ltl::append_text;
@@ -47,32 +47,32 @@ pub fn write_undecided(alloc: Global, task: &Task, cause: Cause) -> Result<Vec<u
         ≡ undecided_text (task_of task.now.inputs.items task.now.outputs.items task.now.formula) cause) }
 {
     let mut out = Vec::new(alloc);
-    write_head(&mut out, Answer::Undecided, task)?;
+    write_head(&mut out, Realizability::Undecided, task)?;
     write_cause(&mut out, cause)?;
     write_end(&mut out)?;
     Ok(out)
 }
 
-fn answer_of(outcome: &Outcome) -> Answer
+fn answer_of(outcome: &Outcome) -> Realizability
     ensures { result ≡ outcome_answer outcome.now }
 {
     match outcome {
-        Outcome::Made(_) => Answer::Realizable,
-        Outcome::Defeated(_) => Answer::Unrealizable,
+        Outcome::Made(_) => Realizability::Realizable,
+        Outcome::Defeated(_) => Realizability::Unrealizable,
     }
 }
 
-fn answer_word(answer: Answer) -> &'static [u8]
+fn answer_word(answer: Realizability) -> &'static [u8]
     ensures { result.now ≡ text.answer_word answer }
 {
     match answer {
-        Answer::Realizable => b"realizable",
-        Answer::Unrealizable => b"unrealizable",
-        Answer::Undecided => b"undecided",
+        Realizability::Realizable => b"realizable",
+        Realizability::Unrealizable => b"unrealizable",
+        Realizability::Undecided => b"undecided",
     }
 }
 
-fn write_answer(out: &mut Vec<u8>, answer: Answer) -> Result<(), NoMemory>
+fn write_answer(out: &mut Vec<u8>, answer: Realizability) -> Result<(), NoMemory>
     ensures { OnOk result (out.new.items ≡ out.old.items ++ line_text (codes "answer" ∷ text.answer_word answer ∷ [])) }
 {
     write_word(out, b"answer")?;
@@ -106,7 +106,7 @@ fn write_formula(out: &mut Vec<u8>, task: &Task) -> Result<(), NoMemory>
     end_line(out)
 }
 
-fn write_head(out: &mut Vec<u8>, answer: Answer, task: &Task) -> Result<(), NoMemory>
+fn write_head(out: &mut Vec<u8>, answer: Realizability, task: &Task) -> Result<(), NoMemory>
     ensures { OnOk result (out.new.items ≡ out.old.items
         ++ text_of (head_lines answer (task_of task.now.inputs.items task.now.outputs.items task.now.formula))) }
 {

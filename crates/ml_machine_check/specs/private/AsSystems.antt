@@ -23,8 +23,8 @@ use Rattle.ml_trace.specs.WordAutomata.{WordLasso}
 use Rattle.ml_word_automaton.specs.WordAutomaton.{start_block}
 use Rattle.ml_word_automaton.specs.Words.{SatisfiedBy}
 use Rattle.ml_machine_check.specs.Checked.{most_nodes}
-use Rattle.ml_machine_check.specs.declared.found.Checked.{Checked}
-use Rattle.ml_machine_check.specs.declared.found.Checked.TheVariants as found
+use Rattle.ml_machine_check.specs.declared.found.MachineVerdict.{MachineVerdict}
+use Rattle.ml_machine_check.specs.declared.found.MachineVerdict.TheVariants as found
 
 abbrev pub step_in : List MachineStep → ℕ → MachineStep
 step_in steps k = get_or steps k (record { give = 0; next = 0 })
@@ -60,7 +60,7 @@ IsSoughtIn t negated s (Some x) =
     × IsWordOn s lasso (record { word = x.letters.items; loop_start = x.loop_start })
     × IsSought t negated (record { word = x.letters.items; loop_start = x.loop_start })
 
-abbrev pub IsFoundIn : Task → Bool → SystemTable → Checked → Type 0
+abbrev pub IsFoundIn : Task → Bool → SystemTable → MachineVerdict → Type 0
 IsFoundIn t negated s found.Holds =
     (¬ (HasMoreThan (start_block t.formula negated) most_nodes))
     × ((lasso : Lasso) (w : WordLasso ℕ) → IsWordOn s lasso w → ¬ (IsSought t negated w))

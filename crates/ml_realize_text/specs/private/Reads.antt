@@ -24,9 +24,12 @@
 --   IsBehindTask at rest    == the rest stands behind the three lines of a task, or behind all lines
 --   IsTaskRead at t rest    == the next three lines are those of the task t, and the rest stands behind
 --   signals_of a t          == the answer a, and the names of the task t
+--   state_lines t r         == the lines of the states of the outcome r
+--   AreStatesRead at a t n r rest == the text goes on with the lines of the n states of the outcome r of the task t, which the
+--                              answer a tells, and then with the rest
 --   IsBodyRead at a t r     == what is left is the body of the outcome r of the task t, which the answer a tells
 use Rattle.std.specs.Prelude.{ℕ, ◌≡◌, ◌+◌, ◌<◌, ◌≤◌, ◌^◌, ◌⊎◌, ⊤, List, [], ◌∷◌, ◌++◌, codes, length, map}
-use Rattle.std.specs.List.{AllByRecursion, enumerate_from}
+use Rattle.std.specs.List.{AllByRecursion, enumerate_from, flat_map}
 use Rattle.ml_base.specs.declared.doc_refusal.DocRefusal.{DocRefusal}
 use Rattle.ml_base.specs.declared.doc_refusal.DocRefusal.TheVariants as refused
 use Rattle.ml_ctl.specs.Parsing.{IsParsedAs}
@@ -37,12 +40,13 @@ use Rattle.ml_lines.specs.Reading.{AreWords, IsNumber, IsTextBehind, IsWordBehin
 use Rattle.ml_lists.specs.Documents.{IsFirstBroken, Rule, rule}
 use Rattle.ml_synthesis.specs.declared.machines.MachineStep.{MachineStep}
 use Rattle.ml_synthesis.specs.declared.outcome.Outcome.{Outcome}
+use Rattle.ml_synthesis.specs.declared.outcome.Outcome.TheVariants as outcome
 use Rattle.ml_task.specs.Task.{IsTask, Task}
 use Rattle.ml_realize_text.specs.ReadText.{Fits, states_of}
 use Rattle.ml_realize_text.specs.RealizeRules.{Place, Signals, realize, rule_number, rules}
-use Rattle.ml_realize_text.specs.RealizeText.{answer_line, end_line, outcome_answer, outcome_lines, play_line, set_words, state_line, step_line}
-use Rattle.ml_realize_text.specs.declared.answer.Answer.{Answer}
-use Rattle.ml_realize_text.specs.declared.answer.Answer.TheVariants.{Realizable, Unrealizable}
+use Rattle.ml_realize_text.specs.RealizeText.{answer_line, end_line, environment_state_lines, machine_state_lines, outcome_answer, outcome_lines, play_line, set_words, state_line, step_line}
+use Rattle.ml_realize_text.specs.declared.realizability.Realizability.{Realizability}
+use Rattle.ml_realize_text.specs.declared.realizability.Realizability.TheVariants.{Realizable, Unrealizable}
 use Rattle.ml_realize_text.specs.declared.head.BodyOf.{BodyOf}
 use Rattle.ml_realize_text.specs.declared.head.BodyOf.TheVariants.{AMachine, AnEnvironment}
 use Rattle.ml_realize_text.specs.declared.line_rule.LineRule.{LineRule}
@@ -123,7 +127,7 @@ pub record IsReply (outs : List Word) (n s : ℕ) (line : Line) (x : ℕ) : Type
 
 -- ---- before the body
 
-abbrev pub answer_of : BodyOf → Answer
+abbrev pub answer_of : BodyOf → Realizability
 answer_of AMachine = Realizable
 answer_of AnEnvironment = Unrealizable
 
@@ -144,10 +148,20 @@ pub record IsTaskRead (at : Rest) (t : Task) (rest : Rest) : Type 0 where
   pub is_parsed : IsParsedAs Ltl formula_text t.formula
   pub is_task : IsTask t
 
-abbrev pub signals_of : Answer → Task → Signals
+abbrev pub signals_of : Realizability → Task → Signals
 signals_of a t = record { answer = a; inputs = t.inputs; outputs = t.outputs }
 
-pub record IsBodyRead (at : Rest) (a : Answer) (t : Task) (r : Outcome) : Type 0 where
+abbrev pub state_lines : Task → Outcome → List Line
+state_lines t (outcome.Made m) = flat_map (machine_state_lines t.inputs t.outputs) (enumerate_from 0 m)
+state_lines t (outcome.Defeated e) = flat_map (environment_state_lines t.inputs t.outputs e.next) (enumerate_from 0 e.plays)
+
+pub record AreStatesRead (at : Rest) (a : Realizability) (t : Task) (n : ℕ) (r : Outcome) (rest : Rest) : Type 0 where
+  pub answer_is : outcome_answer r ≡ a
+  pub goes : Goes at (state_lines t r) rest
+  pub fits : Fits t r
+  pub counted : states_of r ≡ n
+
+pub record IsBodyRead (at : Rest) (a : Realizability) (t : Task) (r : Outcome) : Type 0 where
   pub answer_is : outcome_answer r ≡ a
   pub body : IsBody at (outcome_lines t r)
   pub fits : Fits t r

@@ -2,7 +2,8 @@ use Rattle.std.proofs.Common.{[], ◌∷◌, ◌++◌, ap, ◌∙◌}
 use Rattle.std.specs.List.{flat_map}
 use Rattle.std.proofs.lemmas.Result.{on_ok_weaker}
 use Rattle.ml_lines.specs.Lines.{next, number}
-use Rattle.ml_labelled.specs.LabelledText.{bracketed, label, set_words}
+use Rattle.ml_hoa.specs.WrittenLines.{bracketed}
+use Rattle.ml_labelled.specs.LabelledText.{label, set_words}
 use Rattle.ml_lines.proofs.Words.{line_of}
 use Rattle.ml_lists.proofs.WrittenParts.{both}
 use Rattle.ml_labelled.proofs.writing.write_edge.Goals as goal

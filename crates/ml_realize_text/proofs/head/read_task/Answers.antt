@@ -2,7 +2,7 @@ use Rattle.std.proofs.Common.{◌+◌, ◌-◌, ◌≤◌, Fits, w64, Err, sym, 
 use Rattle.ml_base.specs.declared.doc_fault.DocFault.{DocFault}
 use Rattle.ml_base.specs.declared.doc_refusal.DocRefusal.TheVariants as refused
 use Rattle.ml_realize_text.specs.RealizeRules.{AtInputs}
-use Rattle.ml_realize_text.specs.declared.answer.Answer.{Answer}
+use Rattle.ml_realize_text.specs.declared.realizability.Realizability.{Realizability}
 use Rattle.ml_realize_text.specs.private.Reads.{TellsFault}
 use Rattle.ml_realize_text.proofs.HeadRead.{task_bad_within, task_refused}
 use Rattle.ml_realize_text.proofs.head.read_task.Goals as goal
@@ -33,7 +33,7 @@ returns-in-Err-Fault-clause-refused c =
     let at = c.args.at in
     let found = told.ensures.refused told.fault (ap Err told.field-0-is) in
     subst
-    (λ (f : DocFault). (a : Answer)
+    (λ (f : DocFault). (a : Realizability)
     → TellsFault (AtInputs a) at (refused.Fault (record { line = at.line + (f.line - 1); rule = f.rule })))
     (sym told.fault-is)
     (task_refused at c.behind_task-rest.result c.text_before.result.now told.fault c.behind_task-rest.ensures c.text_before.ensures

@@ -2,14 +2,14 @@ use Rattle.std.proofs.Common.{[], ◌∷◌, ◌++◌, codes, length, map, ap, �
 use Rattle.std.specs.List.{flat_map}
 use Rattle.std.proofs.lemmas.Result.{on_ok_weaker}
 use Rattle.ml_lines.specs.Lines.{next, number}
-use Rattle.ml_labelled.specs.LabelledText.{quoted}
 use Rattle.ml_lines.proofs.Words.{line_of}
 use Rattle.ml_lists.proofs.WrittenParts.{both}
-use Rattle.ml_labelled.proofs.writing.write_props.Goals as goal
+use Rattle.ml_hoa.specs.WrittenLines.{quoted}
+use Rattle.ml_hoa.proofs.writing.write_props.Goals as goal
 
 pub returns : goal.returns
-returns c =
-    let names = map quoted c.args.props.now in
+returns g c =
+    let names = map quoted (map g.N.PropName.name c.args.props.now) in
     let n = length c.args.props.now in
     let end_of_line = flat_map next names ++ 10 ∷ [] in
     on_ok_weaker c.end_line.result

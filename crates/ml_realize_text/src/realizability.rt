@@ -1,8 +1,8 @@
-// What is answered to a task.
+// A task is realizable or not, or nothing is told of it.
 
 /// What is answered to a task.
 #[derive(Clone, Copy, PartialEq, Eq)]
-pub enum Answer {
+pub enum Realizability {
     /// A machine realizes it.
     Realizable,
     /// An environment defeats every machine.

@@ -2,7 +2,7 @@ use Rattle.std.proofs.Common.{sym, subst}
 use Rattle.ml_lines.specs.Reading.{AreWords}
 use Rattle.ml_task.specs.Task.{task_of}
 use Rattle.ml_realize_text.proofs.DocumentRead.{input_words, output_words}
-use Rattle.ml_realize_text.proofs.reading.read_outcome.Goals as goal
+use Rattle.ml_realize_text.proofs.reading.read_body.Goals as goal
 
 pub read_machine-requires-clause-inputs : goal.read_machine-requires-clause-inputs
 read_machine-requires-clause-inputs c =

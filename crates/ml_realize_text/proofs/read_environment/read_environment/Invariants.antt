@@ -2,7 +2,7 @@ use Rattle.std.proofs.Common.{◌≡◌, length}
 use Rattle.ml_parity.specs.Refusal.{lists_of}
 use Rattle.ml_realize_text.proofs.EnvironmentRead.{PlaysTo}
 use Rattle.ml_realize_text.proofs.Tables.{play_rows}
-use Rattle.ml_realize_text.proofs.read_environment.read_rows.Given as goal
+use Rattle.ml_realize_text.proofs.read_environment.read_environment.Given as goal
 
 abbrev pub invariant-loop-state : goal.invariant-loop-state
 invariant-loop-state l =
