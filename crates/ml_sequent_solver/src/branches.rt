@@ -97,6 +97,8 @@ pub struct Branch {
     pub(crate) pending: Vec<u32>,
     /// Or-nodes with a side that can't hold, perhaps settled since.
     pub(crate) units: Vec<u32>,
+    /// The least number of changes, and of or-nodes that stand, to which changes were taken back since that was asked.
+    least: (usize, usize),
     /// Why the spread clashes.
     pub clash: Option<Clash>,
     /// Only clashes that stand end the branch, and each side is chosen: that a node can't hold, or has one node as both
@@ -224,6 +226,7 @@ impl Branch {
             tracing: Vec::new(alloc),
             pending: Vec::new(alloc),
             units: Vec::new(alloc),
+            least: (0, 0),
             clash: None,
             is_patient: false,
             focus: NONE,
@@ -292,6 +295,13 @@ impl Branch {
                 self.take_back(t, change);
             }
         }
+        let (changes, ors) = self.least;
+        self.least = (changes.min(mark), ors.min(self.ors.len()));
+    }
+
+    /// To how many changes, and or-nodes that stand, changes were taken back since this was asked.
+    pub(crate) fn take_least(&mut self) -> (usize, usize) {
+        std::mem::replace(&mut self.least, (usize::MAX, usize::MAX))
     }
 
     fn take_back(&mut self, t: &Terms, change: Change) {
@@ -397,20 +407,6 @@ impl Branch {
             }
             _ => true,
         }
-    }
-
-    /// The next or-node with a side that can't hold, and whether that is the right one.
-    pub(crate) fn next_unit(&mut self, t: &Terms) -> Option<(u32, bool)> {
-        for _ in 0..u64::MAX {
-            let n = self.units.pop()?;
-            if !self.stands(n) || self.is_settled(t, n) {
-                continue;
-            }
-            if let Some(right) = self.unit(t, n) {
-                return Some((n, right));
-            }
-        }
-        None
     }
 
     /// Whether the right side of an or-node can't hold, or the left one can't; `None` where both may.

@@ -8,7 +8,8 @@
 // - `Terms` is what depends on the graph alone, and `Part` some of its nodes with their strong components.
 // - `Branch` is the spread of a sequent under choices, with what follows; it grows by unit propagation and is taken back.
 //   Cores (`Core`) are watched by two of their nodes.
-// - `Solver` asks queries: choices by activity, analysis of clashes, jumps back past choices that don't matter.
+// - `Solver` asks queries: choices by activity (`choices`, with a heap in `order`), analysis of clashes, jumps back past
+//   choices that don't matter.
 //
 // Source: Marques-Silva and Sakallah, GRASP (1999); Moskewicz and others, Chaff (2001).
 //
@@ -16,8 +17,10 @@
 #![tactic(auto)]
 
 mod branches;
+mod choices;
 mod cores;
 mod marks;
+mod order;
 mod parts;
 mod solver;
 mod spreading;

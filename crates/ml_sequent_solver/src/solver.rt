@@ -1,5 +1,6 @@
 // Queries on a sequent: choices, analysis of clashes, jumps back.
 use crate::branches::{Branch, Clash};
+use crate::choices::Choices;
 use crate::cores::FOR_GOOD;
 use crate::marks::Marks;
 use crate::terms::Terms;
@@ -73,8 +74,7 @@ pub struct Solver {
     trees: Trees,
     levels: Vec<Level>,
     saved: Vec<Needed>,
-    activity: Vec<u64>,
-    gain: u64,
+    choices: Choices,
     /// Of each or-node the side at the last leaf: 0 for none, 1 for the left one, 2 for the right one.
     phase: Vec<u32>,
     guide: u32,
@@ -88,12 +88,6 @@ pub struct Solver {
     /// Whether it used that nodes weren't wanted.
     pub unwanted: bool,
 }
-
-/// By how much activity grows at first.
-const GAIN: u64 = 1 << 10;
-
-/// Above this all activities are made smaller.
-const HIGH: u64 = 1 << 50;
 
 /// Writes the sides that were chosen.
 fn write_phases(branch: &Branch, phase: &mut [u32]) {
@@ -116,8 +110,7 @@ impl Solver {
             trees: Trees::empty(alloc),
             levels: Vec::new(alloc),
             saved: Vec::new(alloc),
-            activity: Vec::new(alloc),
-            gain: GAIN,
+            choices: Choices::empty(alloc),
             phase: Vec::new(alloc),
             guide: NONE,
             copied: Vec::new(alloc),
@@ -139,11 +132,8 @@ impl Solver {
         self.branch.fill(t)?;
         self.branch.fuel = fuel;
         self.marks.fill(t)?;
-        more_numbers(&mut self.phase, t.size as usize, 0)?;
-        for _ in 0..t.size {
-            self.activity.push(0)?;
-        }
-        Ok(())
+        self.choices.fill(t)?;
+        more_numbers(&mut self.phase, t.size as usize, 0)
     }
 
     /// A tree, if there is one with this number.
@@ -216,6 +206,7 @@ impl Solver {
     ) -> Result<Outcome, NoMemory> {
         self.levels.clear();
         self.saved.clear();
+        self.choices.clear();
         self.guide = guide;
         let trees = self.trees.len();
         self.branch.start(t, nodes, unwanted, focus)?;
@@ -268,7 +259,7 @@ impl Solver {
     /// Makes the next choice; tells whether there was one.
     fn decide(&mut self, t: &Terms) -> Result<bool, NoMemory> {
         let guide = self.guide;
-        let Some(choice) = self.pick(t) else {
+        let Some(choice) = self.pick(t)? else {
             return Ok(false);
         };
         self.levels.push(Level {
@@ -289,21 +280,32 @@ impl Solver {
         Ok(true)
     }
 
-    fn pick(&mut self, t: &Terms) -> Option<Choice> {
+    fn pick(&mut self, t: &Terms) -> Result<Option<Choice>, NoMemory> {
         if let Some(choice) = self.guided(t) {
-            return Some(choice);
+            return Ok(Some(choice));
         }
         self.guide = NONE;
-        if let Some((node, right)) = self.branch.next_unit(t) {
-            return Some(Choice {
+        self.choices.refresh(t, &mut self.branch)?;
+        match self.choices.next_unit(t, &mut self.branch)? {
+            Some((node, right)) => Ok(Some(Choice {
                 node,
                 kind: Kind::Unit,
                 right,
-            });
+            })),
+            None => self.pick_first(t),
         }
-        let steps = self.branch.ors.len() as u64;
-        self.branch.spend(steps);
-        self.scan(t)
+    }
+
+    /// The or-node of greatest activity that isn't settled.
+    fn pick_first(&mut self, t: &Terms) -> Result<Option<Choice>, NoMemory> {
+        let Some(node) = self.choices.next(t, &mut self.branch)? else {
+            return Ok(None);
+        };
+        Ok(Some(Choice {
+            node,
+            kind: Kind::First,
+            right: self.prefers_right(t, node),
+        }))
     }
 
     /// The choice of the tree that is followed.
@@ -336,46 +338,6 @@ impl Solver {
         self.branch.stands(node) && self.branch.side(node) == 0
     }
 
-    /// A unit, or the or-node of greatest activity that isn't settled.
-    fn scan(&self, t: &Terms) -> Option<Choice> {
-        let mut best = NONE;
-        for n in &self.branch.ors {
-            if self.branch.is_settled(t, *n) {
-                continue;
-            }
-            if let Some(right) = self.branch.unit(t, *n) {
-                return Some(Choice {
-                    node: *n,
-                    kind: Kind::Unit,
-                    right,
-                });
-            }
-            if best == NONE || self.is_before(t, *n, best) {
-                best = *n;
-            }
-        }
-        if best == NONE {
-            return None;
-        }
-        Some(Choice {
-            node: best,
-            kind: Kind::First,
-            right: self.prefers_right(t, best),
-        })
-    }
-
-    fn activity(&self, n: u32) -> u64 {
-        match self.activity.get(n as usize) {
-            Some(activity) => *activity,
-            None => 0,
-        }
-    }
-
-    fn is_before(&self, t: &Terms, n: u32, other: u32) -> bool {
-        let (here, there) = (self.activity(n), self.activity(other));
-        here > there || (here == there && number(&t.rank, n) < number(&t.rank, other))
-    }
-
     /// Whether the right side is tried first.
     fn prefers_right(&self, t: &Terms, n: u32) -> bool {
         let Node::Or { left, right } = t.node(n) else {
@@ -401,7 +363,7 @@ impl Solver {
     fn backtrack(&mut self, t: &Terms, clash: Clash) -> Result<bool, NoMemory> {
         self.marks.clear();
         self.marks.clash(t, &self.branch, clash)?;
-        self.bump();
+        self.choices.raise(t, self.marks.ors.list());
         let mut tree = self.trees.push(Tree::Closed(clash))?;
         for _ in 0..u64::MAX {
             let Some(level) = self.levels.pop() else {
@@ -430,22 +392,6 @@ impl Solver {
     fn spend_steps(&mut self) {
         self.branch.spend(self.marks.steps);
         self.marks.steps = 0;
-    }
-
-    /// What is marked gains activity.
-    fn bump(&mut self) {
-        for n in self.marks.ors.list() {
-            if let Some(activity) = self.activity.get_mut(*n as usize) {
-                *activity = activity.saturating_add(self.gain);
-            }
-        }
-        self.gain = self.gain.saturating_add(self.gain / 19);
-        if self.gain > HIGH {
-            self.gain = GAIN;
-            for activity in self.activity.iter_mut() {
-                *activity /= HIGH / GAIN;
-            }
-        }
     }
 
     /// Back past a choice whose other side can't hold.
