@@ -12,7 +12,7 @@ pub(crate) struct Place {
     signature: u64,
     /// The positive literals of the leaf that was taken.
     pub labels: Vec<u32>,
-    /// Its threads, each with the place at which it began.
+    /// Its threads, ascending, each with the place at which it began.
     since: Vec<(u32, u32)>,
 }
 
@@ -61,8 +61,8 @@ impl Path {
         Ok(())
     }
 
-    /// Goes on to a sequent, with the positive literals here and the threads that go on; tells the place to which this is
-    /// the way back, if a lasso closes.
+    /// Goes on to a sequent, with the positive literals here and the threads that go on, ascending; tells the place to which
+    /// this is the way back, if a lasso closes.
     pub(crate) fn go(
         &mut self,
         t: &Terms,
@@ -98,7 +98,11 @@ impl Path {
         let here = small(self.places.len());
         for n in nodes {
             if t.component(*n) != 0 {
-                let began = if on.contains(n) { self.began(*n) } else { None };
+                let began = if on.binary_search(n).is_ok() {
+                    self.began(*n)
+                } else {
+                    None
+                };
                 since.push((*n, began.unwrap_or(here)))?;
             }
         }
@@ -107,12 +111,12 @@ impl Path {
 
     /// Where a thread of the last place began.
     fn began(&self, thread: u32) -> Option<u32> {
-        for (other, since) in &self.places.last()?.since {
-            if *other == thread {
-                return Some(*since);
-            }
-        }
-        None
+        let since = &self.places.last()?.since;
+        let place = since
+            .binary_search_by_key(&thread, |(other, _)| *other)
+            .ok()?;
+        let (_, began) = since.get(place)?;
+        Some(*began)
     }
 
     /// The last place within whose sequent these nodes lie, before each of their threads began.
