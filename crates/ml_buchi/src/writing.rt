@@ -119,7 +119,7 @@ fn write_literal(out: &mut Vec<u8>, valuation: usize, prop: usize) -> Result<(),
     requires { prop < most_props }
     ensures { OnOk result (out.new.items ≡ out.old.items ++ literal valuation prop) }
 {
-    let positive = (valuation >> prop) & 1 != 0;
+    let positive = (valuation >> prop) & 1 == 1;
     write_signed(out, positive, prop as u64)
 }
 
