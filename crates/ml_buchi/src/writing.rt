@@ -11,7 +11,9 @@ ghost use Rattle.ml_buchi.specs.private.Openings.{closings, opening};
 use crate::deterministic::Deterministic;
 use ml_base::NoMemory;
 use ml_determinise::DetMove;
-use ml_hoa::{Quoted, write_body_line, write_last_line, write_opening, write_signed, write_state_line};
+use ml_hoa::{
+    Quoted, write_body_line, write_last_line, write_opening, write_signed, write_state_line,
+};
 use ml_lines::{end_line, write_next_number, write_number, write_word};
 use std::alloc::Global;
 
