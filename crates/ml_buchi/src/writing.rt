@@ -64,7 +64,7 @@ fn write_alone(out: &mut Vec<u8>, set: u32) -> Result<(), NoMemory>
 }
 
 // what is said of a set behind which others stand, up to what is said of these
-fn write_opening(out: &mut Vec<u8>, set: u32, top: u32) -> Result<(), NoMemory>
+fn write_front(out: &mut Vec<u8>, set: u32, top: u32) -> Result<(), NoMemory>
     requires { set + 1 < top }
     ensures { OnOk result (out.new.items ≡ out.old.items ++ opening top set) }
 {
@@ -81,7 +81,7 @@ fn write_openings(out: &mut Vec<u8>, top: u32) -> Result<(), NoMemory>
     ensures { OnOk result (out.new.items ≡ out.old.items ++ flat_map (opening top) (range_with_len 0 (top - 1))) }
 {
     for set in 0..top - 1 {
-        write_opening(out, set, top)?;
+        write_front(out, set, top)?;
     }
     Ok(())
 }
@@ -121,7 +121,7 @@ fn write_literal(out: &mut Vec<u8>, valuation: usize, prop: usize) -> Result<(),
     requires { prop < most_props }
     ensures { OnOk result (out.new.items ≡ out.old.items ++ literal valuation prop) }
 {
-    let positive = (valuation >> prop) & 1 != 0;
+    let positive = (valuation >> prop) & 1 == 1;
     write_signed(out, positive, prop as u64)
 }
 

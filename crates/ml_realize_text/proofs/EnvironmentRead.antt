@@ -12,17 +12,17 @@ use Rattle.ml_base.specs.declared.doc_refusal.DocRefusal.{DocRefusal}
 use Rattle.ml_lines.specs.Lines.{Line, Word}
 use Rattle.ml_lines.specs.Reading.{AreWords}
 use Rattle.ml_synthesis.specs.Machines.{EnvironmentFits, EnvironmentTable}
-use Rattle.ml_realize_text.specs.RealizeRules.{AtEnd, AtPlay, AtReply, AtState, AtStates, Signals, at_reply, at_state, realize}
-use Rattle.ml_realize_text.specs.RealizeText.{answer_line, environment_lines, environment_state_lines, play_line, state_line, states_line}
-use Rattle.ml_realize_text.specs.private.Reads.{Goes, IsBody, IsEnded, PlayFits, PlayRow, TellsFault, environment_of, played_lines}
+use Rattle.ml_realize_text.specs.RealizeRules.{AtPlay, AtReply, AtState, Signals, at_reply, at_state, realize}
+use Rattle.ml_realize_text.specs.RealizeText.{answer_line, environment_state_lines, play_line, state_line}
+use Rattle.ml_realize_text.specs.private.Reads.{Goes, PlayFits, PlayRow, TellsFault, environment_of, played_lines}
 use Rattle.ml_realize_text.specs.declared.rest.Rest.{Rest}
-use Rattle.ml_realize_text.proofs.BodyLines.{play_good, state_good, states_good, value_back}
+use Rattle.ml_realize_text.proofs.BodyLines.{play_good, state_good}
 use Rattle.ml_realize_text.proofs.BodyRows.{play_lines, plays_at, plays_lead, replies_at, replies_lead, replies_turn, reply_lines}
 use Rattle.ml_realize_text.proofs.Going.{goes_begin, goes_on, told_behind}
 use Rattle.ml_realize_text.proofs.InTurn.{in_turn, runs_in_turn}
 use Rattle.ml_lists.proofs.AllOf.{all_last}
 use Rattle.ml_realize_text.proofs.ListedLines.{lines_more, rows_more}
-use Rattle.ml_realize_text.proofs.Places.{reply_next, state_next, states_done}
+use Rattle.ml_realize_text.proofs.Places.{reply_next, state_next}
 use Rattle.ml_lists.specs.Readings.{Runs}
 use Rattle.ml_realize_text.proofs.Tables.{environment_rows, environment_turn, lines_from, nexts_of, play_rows, plays_of, row_at, row_count, rows_back, rows_environment, table_of}
 

@@ -5,24 +5,24 @@
 --   steps_refused        == where the next one is refused, the state is
 --   row_read, row_refused == the line of the state, and its steps
 --   RowsTo, rows_begin, rows_more_read, rows_refused == so with the rows of a machine
-use Rattle.std.proofs.Common.{◌≡◌, ℕ, ◌<◌, ◌≤◌, ◌^◌, List, [], ◌∷◌, ◌++◌, length, map, refl, sym, ap, subst, ◌∙◌, length-append, arith}
+use Rattle.std.proofs.Common.{◌≡◌, ℕ, ◌<◌, ◌≤◌, ◌^◌, List, [], ◌∷◌, ◌++◌, length, map, refl, sym, subst, length-append, arith}
 use Rattle.std.specs.List.{AllByRecursion, enumerate_from, flat_map}
 use Rattle.ml_base.specs.declared.doc_refusal.DocRefusal.{DocRefusal}
 use Rattle.ml_lines.specs.Lines.{Word}
 use Rattle.ml_lines.specs.Reading.{AreWords}
 use Rattle.ml_synthesis.specs.Machines.{MachineTable}
 use Rattle.ml_synthesis.specs.declared.machines.MachineStep.{MachineStep}
-use Rattle.ml_realize_text.specs.RealizeRules.{AtEnd, AtState, AtStates, AtStep, at_state, at_step, realize}
-use Rattle.ml_realize_text.specs.RealizeText.{machine_lines, machine_state_lines, state_line, states_line, step_line}
-use Rattle.ml_realize_text.specs.private.Reads.{Goes, IsBody, IsEnded, RowFits, StepFits, TellsFault, machine_of}
+use Rattle.ml_realize_text.specs.RealizeRules.{AtState, AtStep, at_state, at_step, realize}
+use Rattle.ml_realize_text.specs.RealizeText.{machine_state_lines, state_line, step_line}
+use Rattle.ml_realize_text.specs.private.Reads.{Goes, RowFits, StepFits, TellsFault, machine_of}
 use Rattle.ml_realize_text.specs.declared.rest.Rest.{Rest}
-use Rattle.ml_realize_text.proofs.BodyLines.{state_good, states_good, value_back}
+use Rattle.ml_realize_text.proofs.BodyLines.{state_good}
 use Rattle.ml_realize_text.proofs.BodyRows.{row_lines, rows_at, rows_lead, rows_turn, step_lines, steps_at, steps_lead, steps_turn}
 use Rattle.ml_realize_text.proofs.Going.{goes_begin, goes_on, told_behind}
 use Rattle.ml_realize_text.proofs.InTurn.{runs_in_turn}
 use Rattle.ml_lists.proofs.AllOf.{all_last}
 use Rattle.ml_realize_text.proofs.ListedLines.{lines_more, rows_more}
-use Rattle.ml_realize_text.proofs.Places.{state_next, states_done, step_next}
+use Rattle.ml_realize_text.proofs.Places.{state_next, step_next}
 use Rattle.ml_lists.specs.Readings.{Runs}
 
 module _ (ins outs : List Word) (n : ℕ) where
