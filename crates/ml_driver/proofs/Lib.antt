@@ -20,6 +20,8 @@ pub mod CheckedGameAnswers
 pub mod AutomatonAnswers
 -- what is due for `path`
 pub mod PathAnswers
+-- how a call ends whose answer is delivered
+pub mod Delivered
 -- what is due for `check-machine`
 pub mod MachineAnswers
 -- what is due for `realize` and `make`
