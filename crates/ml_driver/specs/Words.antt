@@ -17,7 +17,6 @@
 --   Shape              == what stands behind the first word of a command, with the command that comes of it
 --   table              == the commands: their first words, with their shapes
 --   shape_in rows w    == the shape of the first row whose word is w
---   files_or_none w    == the form that the word behind `ask` tells
 --   command_by x p q r == the command of the shape x with the second word p, the third word q and the limit r, if these are as
 --                         the shape says
 --   Parts              == the words as they are taken apart: three positionals and the option's value

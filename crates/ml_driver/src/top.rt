@@ -38,11 +38,11 @@ use std::alloc::Global;
 pub struct Ending {
     /// Its status.
     pub status: Status,
-    /// The command that its words are.
+    /// The command that its words are, where something is said.
     pub command: Option<Command>,
-    /// Its input; nothing where the command takes none, or no longer one.
+    /// Its input, where something is said; nothing where the command takes none, or where the input is too long.
     pub input: Vec<u8>,
-    /// What its output says; `None` where that is a text, and where none was written.
+    /// What its output says; `None` where that is a text, and where none was written whole.
     pub said: Option<Said>,
 }
 
