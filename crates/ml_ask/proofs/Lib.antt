@@ -1,8 +1,10 @@
--- requirements that are taken
-pub mod Taken
+-- sets of requirements, as they are made
+pub mod TakenSets
+-- what is decided of requirements
+pub mod Judged
+-- requirements that are refuted
+pub mod Refuted
+-- the numbers of requirements, one after the other
+pub mod Numbers
 -- answers in order
 pub mod AnswersInOrder
--- what an answer says of requirements and structures
-pub mod RightAnswers
--- fewer requirements can be met wherever more can
-pub mod FewerRequirements

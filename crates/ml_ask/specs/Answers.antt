@@ -1,56 +1,38 @@
--- What an answer says.
+-- What the answers of the program say, as plain values.
 --
--- `n` is the limit: how many positions the decision game of a problem may have.
---
--- Where an answer has a structure or a refutation, the problem of which that speaks is small, so that it can be checked.
---
---   IsWithout l xs q n S p == what the part p says of the requirements in S without its own is so: a structure meets them where q
---                         is asked, and their problem is small; or this stays undecided with the limit
---   IsCoreOf l xs q n c == the requirements of c can't be met together where q is asked, as its refutation shows, and their problem
---                         is small; its parts are these requirements, in order, and what each says is so
---   IsAnswerOf l xs n q a == a answers q: yes, with a structure that meets all requirements where q is asked, and their problem is
---                         small; no, with requirements that can't be met together; or it stays open, since with all requirements
---                         it is undecided
---   AreAnswers l xs n as == the answers are those to the questions of the specification, in their order
-use Rattle.std.specs.Prelude.{ℕ, ◌≡◌, Bool, List, length, map}
-use Rattle.std.specs.List.{AllByRecursion}
-use Rattle.ml_decide.specs.Decision.{IsMetBy, IsRefutedBy}
-use Rattle.ml_decide.specs.Limits.{StaysOpen}
-use Rattle.ml_front.specs.declared.logic.Logic.{Logic}
+--   model_of m, ..    == the plain value of each part of an answer
+--   reply_of a        == the plain value of the answer a
+--   replied_of a      == that of a question with its answer
+use Rattle.std.specs.Prelude.{List, map}
 use Rattle.ml_refutation.specs.Views.{of_parts}
-use Rattle.ml_spec.specs.Questions.{is_in, questions}
-use Rattle.ml_spec.specs.declared.question.Question.{Question}
-use Rattle.ml_spec.specs.declared.specification.Item.{Item}
-use Rattle.ml_ask.specs.Meeting.{everything, numbers_in, problem_of, without, IsSmall}
+use Rattle.ml_replies.specs.Replies as plain
+use Rattle.ml_replies.specs.Replies.{Replied, Reply, LeftOpen, Met, StillMet, StillOpen, Unmet}
 use Rattle.ml_ask.specs.declared.answer.Answer.{Answer}
 use Rattle.ml_ask.specs.declared.answer.Answer.TheVariants.{Yes, No, Open}
 use Rattle.ml_ask.specs.declared.answer.Answered.{Answered}
 use Rattle.ml_ask.specs.declared.answer.Core.{Core}
 use Rattle.ml_ask.specs.declared.answer.Part.{Part}
 use Rattle.ml_ask.specs.declared.answer.Without.{Without}
-use Rattle.ml_ask.specs.declared.answer.Without.TheVariants as rest
+use Rattle.ml_ask.specs.declared.answer.Without.TheVariants as without
 
-abbrev pub IsWithoutBy : Logic → List Item → Question → ℕ → (ℕ → Bool) → Without → Type 0
-IsWithoutBy l xs q n S (rest.Met m) = IsSmall (problem_of l xs S q) × IsMetBy (problem_of l xs S q) m.structure m.start
-IsWithoutBy l xs q n S (rest.Open c) = StaysOpen n (problem_of l xs S q) c
+abbrev pub without_of : Without → plain.Without
+without_of (without.Met m) = StillMet m.structure m.start
+without_of without.Open = StillOpen
 
-abbrev pub IsWithout : Logic → List Item → Question → ℕ → (ℕ → Bool) → Part → Type 0
-IsWithout l xs q n S p = IsWithoutBy l xs q n (without S p.requirement) p.without
+abbrev pub part_of : Part → plain.Part
+part_of p = record { requirement = p.requirement; without = without_of p.without }
 
-pub record IsCoreOf (l : Logic) (xs : List Item) (q : Question) (n : ℕ) (c : Core) : Type 0 where
-  pub are_told : length c.taken.items ≡ length xs
-  pub is_small : IsSmall (problem_of l xs (is_in c.taken.items) q)
-  pub is_refuted : IsRefutedBy (problem_of l xs (is_in c.taken.items) q)
-      (of_parts c.refutation.names c.refutation.sequents c.refutation.stacks c.refutation.entries)
-  pub are_parts : map (λ p. p.requirement) c.parts.items ≡ numbers_in (is_in c.taken.items) xs
-  pub are_so : AllByRecursion (IsWithout l xs q n (is_in c.taken.items)) c.parts.items
+abbrev pub core_of : Core → plain.Core
+core_of c = record {
+  taken = c.taken.items;
+  parts = map part_of c.parts.items;
+  refutation = of_parts c.refutation.names c.refutation.sequents c.refutation.stacks c.refutation.entries;
+}
 
-abbrev pub IsAnswerOf : Logic → List Item → ℕ → Question → Answer → Type 0
-IsAnswerOf l xs n q (Yes m) =
-    IsSmall (problem_of l xs everything q) × IsMetBy (problem_of l xs everything q) m.structure m.start
-IsAnswerOf l xs n q (No c) = IsCoreOf l xs q n c
-IsAnswerOf l xs n q (Open c) = StaysOpen n (problem_of l xs everything q) c
+abbrev pub reply_of : Answer → Reply
+reply_of (Yes m) = Met m.structure m.start
+reply_of (No c) = Unmet (core_of c)
+reply_of Open = LeftOpen
 
-pub record AreAnswers (l : Logic) (xs : List Item) (n : ℕ) (answers : List Answered) : Type 0 where
-  pub are_questions : map (λ a. a.question) answers ≡ questions xs
-  pub are_answers : AllByRecursion (λ a. IsAnswerOf l xs n a.question a.answer) answers
+abbrev pub replied_of : Answered → Replied
+replied_of a = record { question = a.question; reply = reply_of a.answer }

@@ -1,8 +1,4 @@
--- requirements that can be met together
-pub mod Meeting
--- what an answer says
+-- what the answers of the program say, as plain values
 pub mod Answers
--- what holds of answers by their definitions
-pub mod Laws
 -- what private contracts cite
 pub mod private

@@ -1,5 +1,4 @@
 // Answers.
-use ml_decide::Cause;
 use ml_kripke::Model;
 use ml_refutation::Refutation;
 use ml_spec::Question;
@@ -9,8 +8,8 @@ use ml_spec::Question;
 pub enum Without {
     /// They can be met together, as this structure shows: so the one is needed.
     Met(Model),
-    /// That stays open, for this cause.
-    Open(Cause),
+    /// That stays open.
+    Open,
 }
 
 /// One of requirements that can't be met together, by the number of its item, and what is known of the others without it.
@@ -33,12 +32,12 @@ pub struct Core {
 /// An answer to a question.
 #[derive(Drop)]
 pub enum Answer {
-    /// All requirements can be met where the question is asked, as this structure shows.
+    /// The requirements can be met where the question is asked, as this structure shows.
     Yes(Model),
-    /// These can't.
+    /// These of them can't.
     No(Core),
-    /// It stays open, for this cause.
-    Open(Cause),
+    /// It stays open.
+    Open,
 }
 
 /// A question with its answer.

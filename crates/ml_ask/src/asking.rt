@@ -1,20 +1,28 @@
 // The questions of a specification, answered in order.
-ghost use Rattle.std.specs.Prelude.{◌≡◌, ◌≤◌, [], IfOk, OnOk};
+ghost use Rattle.std.specs.Prelude.{◌≡◌, ◌≤◌, ◌++◌, [], ◌∷◌, true, length, map, replicate, IfOk, OnOk};
 ghost use Rattle.std.specs.List.{list_any};
 ghost use Rattle.ml_spec.specs.Kinds.{is_requirement};
-ghost use Rattle.ml_spec.specs.Questions.{IsQuestion};
 ghost use Rattle.ml_spec.specs.Specification.{IsSpecified};
-ghost use Rattle.ml_ask.specs.Answers.{AreAnswers, IsAnswerOf};
+ghost use Rattle.ml_spec.specs.Joined.{requirements};
+ghost use Rattle.ml_spec.specs.Questions.{asking};
+ghost use Rattle.ml_replies.specs.Meeting.{everything};
+ghost use Rattle.ml_replies.specs.Replies.{AreConflicts, AreOfAll, AreReplies};
+ghost use Rattle.ml_ask.specs.Answers.{replied_of};
+ghost use Rattle.ml_ask.specs.private.Steps.{AreAnswered, IsAdded, IsAnswerTo, IsAsked, IsRestOf};
 
 use crate::answer::{Answer, Answered};
+use crate::asked::Asked;
 use crate::leaving::needed;
-use crate::seeking::{Sought, seek};
+use crate::seeking::seek;
+use crate::sets::{for_all, left_beside};
+use crate::sought::Sought;
 use ml_base::NoMemory;
 use ml_spec::{Item, Question, Specification};
 use std::alloc::Global;
 
-/// The answers to the questions of a specification, in their order: first whether the requirements can be met together, where
-/// there are any, and then each question as it stands in the text.
+/// The answers to the questions of a specification, in their order. First, where there are requirements, comes whether all of them
+/// can be met together; where they can't, whether those that the conflict doesn't name can, and so on, up to an answer that is no
+/// conflict. Then each question is answered as it stands in the text, asked of all requirements.
 ///
 /// The specification is one as `ml_spec::read` gives it, and the limit, which says how many positions the decision game of a
 /// problem may have, is 1 or more.
@@ -22,7 +30,9 @@ use std::alloc::Global;
 /// # Errors
 /// `NoMemory` alone.
 ///
-/// Cost: for each question that of some searches for each requirement, as `ml_decide::decide` has them.
+/// Cost: for each answer that of one search with all formulas at once, of some more with the requirements of a conflict, and of
+/// structures that are checked; where the search with all leads to nothing, of one more for each requirement at most. Each search
+/// is bounded by a fixed multiple of the limit.
 pub fn ask(
     alloc: Global,
     specification: &Specification,
@@ -30,15 +40,17 @@ pub fn ask(
 ) -> Result<Vec<Answered>, NoMemory>
     requires specified { IsSpecified specification.now.logic specification.now.items.items }
     requires some { 1 ≤ limit }
-    ensures { IfOk result (λ answers. AreAnswers specification.now.logic specification.now.items.items limit answers.items) }
+    ensures { IfOk result (λ answers. AreReplies specification.now.logic specification.now.items.items limit
+        (map replied_of answers.items)) }
 {
     let mut answers = Vec::new(alloc);
+    add_conflicts(alloc, specification, limit, &mut answers)?;
     add_answers(alloc, specification, limit, &mut answers)?;
     Ok(answers)
 }
 
-// adds the answers to none
-fn add_answers(
+// adds to none whether the requirements can be met together, where there are any, and whether the rest can
+fn add_conflicts(
     alloc: Global,
     specification: &Specification,
     limit: u32,
@@ -47,29 +59,12 @@ fn add_answers(
     requires specified { IsSpecified specification.now.logic specification.now.items.items }
     requires some { 1 ≤ limit }
     requires empty { answers.old.items ≡ [] }
-    ensures { OnOk result (AreAnswers specification.now.logic specification.now.items.items limit answers.new.items) }
+    ensures { OnOk result (AreOfAll specification.now.logic specification.now.items.items limit
+        (requirements specification.now.items.items) (map replied_of answers.new.items)) }
 {
     if has_requirements(&specification.items) {
-        let answered = question_answered(
-            alloc,
-            specification,
-            Question::Consistent,
-            limit,
-            answers,
-        )?;
-        answers.push(answered)?;
-    }
-    for number in 0..specification.items.len() {
-        if !specification.items[number].kind.is_requirement() {
-            let answered = question_answered(
-                alloc,
-                specification,
-                Question::Asks(number),
-                limit,
-                answers,
-            )?;
-            answers.push(answered)?;
-        }
+        let all = for_all(alloc, specification.items.len(), true)?;
+        add_lines(alloc, specification, limit, all, answers)?;
     }
     Ok(())
 }
@@ -80,42 +75,120 @@ fn has_requirements(items: &[Item]) -> bool
     items.iter().any(|item| item.kind.is_requirement())
 }
 
-// the question with its answer
-fn question_answered(
+// adds to none whether these requirements can be met together; and as long as some can't, whether the rest can
+fn add_lines(
     alloc: Global,
     specification: &Specification,
-    question: Question,
     limit: u32,
-    earlier: &[Answered],
-) -> Result<Answered, NoMemory>
+    all: Vec<bool>,
+    answers: &mut Vec<Answered>,
+) -> Result<(), NoMemory>
     requires specified { IsSpecified specification.now.logic specification.now.items.items }
-    requires question { IsQuestion specification.now.items.items question }
     requires some { 1 ≤ limit }
-    ensures question { IfOk result (λ a. a.question ≡ question) }
-    ensures answer { IfOk result (λ a. IsAnswerOf specification.now.logic specification.now.items.items limit question a.answer) }
+    requires all { all.items ≡ replicate (length specification.now.items.items) true }
+    requires empty { answers.old.items ≡ [] }
+    ensures { OnOk result (AreConflicts specification.now.logic specification.now.items.items limit everything
+        Question.Consistent (map replied_of answers.new.items)) }
 {
-    let answer = answer_to(alloc, specification, question, limit, earlier)?;
-    Ok(Answered { question, answer })
+    let mut left = all;
+    let mut question = Question::Consistent;
+    while let Some(rest) = add_line(
+        alloc,
+        Asked {
+            specification,
+            among: &left,
+            question,
+            limit,
+        },
+        answers,
+    )? {
+        left = rest;
+        question = Question::Rest;
+    }
+    Ok(())
 }
 
-fn answer_to(
+// adds the answer to a question; where it is a conflict, the requirements that it doesn't name
+fn add_line(
+    alloc: Global,
+    asked: Asked,
+    answers: &mut Vec<Answered>,
+) -> Result<Option<Vec<bool>>, NoMemory>
+    requires { IsAsked asked }
+    ensures { IfOk result (IsAdded asked.entry answers.old.items answers.new.items) }
+{
+    let answered = answered_to(alloc, asked, answers)?;
+    let rest = rest_of(alloc, asked, &answered.answer)?;
+    answers.push(answered)?;
+    Ok(rest)
+}
+
+// the requirements that a conflict doesn't name
+fn rest_of(alloc: Global, asked: Asked, answer: &Answer) -> Result<Option<Vec<bool>>, NoMemory>
+    requires asked { IsAsked asked }
+    requires answer { IsAnswerTo asked answer.now }
+    ensures { IfOk result (IsRestOf asked.entry answer.now) }
+{
+    match answer {
+        Answer::No(core) => {
+            let rest = left_beside(alloc, asked.among, &core.taken)?;
+            Ok(Some(rest))
+        }
+        Answer::Yes(_) | Answer::Open => Ok(None),
+    }
+}
+
+// adds the answers to the questions of the items, which are asked of all requirements
+fn add_answers(
     alloc: Global,
     specification: &Specification,
-    question: Question,
     limit: u32,
-    earlier: &[Answered],
-) -> Result<Answer, NoMemory>
+    answers: &mut Vec<Answered>,
+) -> Result<(), NoMemory>
     requires specified { IsSpecified specification.now.logic specification.now.items.items }
-    requires question { IsQuestion specification.now.items.items question }
     requires some { 1 ≤ limit }
-    ensures { IfOk result (IsAnswerOf specification.now.logic specification.now.items.items limit question) }
+    ensures { OnOk result (AreAnswered specification.now.logic specification.now.items.items limit
+        (asking specification.now.items.items) answers.old.items answers.new.items) }
 {
-    match seek(alloc, specification, question, limit, earlier)? {
+    let all = for_all(alloc, specification.items.len(), true)?;
+    for number in 0..specification.items.len() {
+        if !specification.items[number].kind.is_requirement() {
+            let asked = Asked {
+                specification,
+                among: &all,
+                question: Question::Asks(number),
+                limit,
+            };
+            let answered = answered_to(alloc, asked, answers)?;
+            answers.push(answered)?;
+        }
+    }
+    Ok(())
+}
+
+// a question with its answer
+fn answered_to(alloc: Global, asked: Asked, earlier: &[Answered]) -> Result<Answered, NoMemory>
+    requires { IsAsked asked }
+    ensures question { IfOk result (λ a. a.question ≡ asked.entry.question) }
+    ensures answer { IfOk result (λ a. IsAnswerTo asked.entry a.answer) }
+{
+    let answer = answer_to(alloc, asked, earlier)?;
+    Ok(Answered {
+        question: asked.question,
+        answer,
+    })
+}
+
+fn answer_to(alloc: Global, asked: Asked, earlier: &[Answered]) -> Result<Answer, NoMemory>
+    requires { IsAsked asked }
+    ensures { IfOk result (IsAnswerTo asked.entry) }
+{
+    match seek(alloc, asked, earlier)? {
         Sought::Met(model) => Ok(Answer::Yes(model)),
-        Sought::None(refuted) => {
-            let core = needed(alloc, specification, question, limit, refuted)?;
+        Sought::Unmet(refuted) => {
+            let core = needed(alloc, asked, refuted)?;
             Ok(Answer::No(core))
         }
-        Sought::Open(cause) => Ok(Answer::Open(cause)),
+        Sought::Open => Ok(Answer::Open),
     }
 }

@@ -4,13 +4,13 @@ pub mod Lists
 pub mod Verdicts
 -- lines, word by word
 pub mod WrittenLines
--- joined formulas are well formed
-pub mod WellFormedJoins
--- documents, one behind the other
-pub mod WrittenFiles
+-- formulas of items are well formed
+pub mod WellFormedItems
+-- the document that is written
+pub mod WrittenDocuments
+-- answers whose structures have a text
+pub mod ShownReplies
 -- something is told of each text
 pub mod SomeTold
 -- two things told of one text
 pub mod ToldAlike
--- documents are confirmed
-pub mod Confirmed

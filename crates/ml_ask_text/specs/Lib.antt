@@ -1,9 +1,3 @@
--- answers as plain values
-pub mod Replies
--- their lines
-pub mod Lines
--- their documents
-pub mod Files
 -- what is told of a text
 pub mod Told
 -- what is true of it

@@ -1,5 +1,5 @@
 // Laws over the definitions alone: no caller runs these functions, their contracts are the theorems.
-ghost use Rattle.ml_ask_text.specs.Laws.{FilesAreConfirmed, SomeTold, ToldAlike};
+ghost use Rattle.ml_ask_text.specs.Laws.{SomeTold, ToldAlike};
 
 /// Something is told of each text, in each form and for each limit of 32 bits: so `ask_text` may always answer, but for want of
 /// memory.
@@ -16,12 +16,4 @@ pub fn something_told()
 /// Does nothing when called.
 pub fn told_alike()
     ensures { ToldAlike }
-{}
-
-/// Of the documents that are told in files each with a structure is answered `Holds` by `ml_model_check::check_document`, and each
-/// with a refutation `Accepted` by `ml_refute_check::check`.
-///
-/// Does nothing when called.
-pub fn files_are_confirmed()
-    ensures { FilesAreConfirmed }
 {}

@@ -2,9 +2,9 @@
 ghost use Rattle.std.specs.Prelude.{◌≡◌, ◌++◌, IfOk, OnOk, map};
 ghost use Rattle.std.specs.List.{flat_map, list_any};
 ghost use Rattle.ml_lines.specs.Lines.{line_text, next};
-ghost use Rattle.ml_ask_text.specs.Lines as lines;
-ghost use Rattle.ml_ask_text.specs.Lines.{because_words, line_of, lines_of, needed_name, perhaps_words, reply_words, unsettled_name};
-ghost use Rattle.ml_ask_text.specs.private.Plain.{part_of, replied_of, reply_of};
+ghost use Rattle.ml_answers.specs.Lines as lines;
+ghost use Rattle.ml_answers.specs.Lines.{because_words, line_of, lines_of, needed_name, perhaps_words, reply_words, unsettled_name};
+ghost use Rattle.ml_ask.specs.Answers.{part_of, replied_of, reply_of};
 
 use crate::words::{first_word, name_at, wants_structure, write_asked_name};
 use ml_ask::{Answer, Answered, Part, Without};
@@ -24,7 +24,7 @@ fn is_needed(part: &Part) -> bool
 {
     match part.without {
         Without::Met(_) => true,
-        Without::Open(_) => false,
+        Without::Open => false,
     }
 }
 
@@ -121,12 +121,19 @@ fn write_reply(
             write_because(out, items, &core.parts)?;
             write_perhaps(out, items, &core.parts)
         }
-        Answer::Open(_) => write_next_word(out, b"open"),
+        Answer::Open => write_next_word(out, b"open"),
     }
 }
 
-// the line of a question and its answer
-fn write_line(out: &mut Vec<u8>, items: &[Item], answered: &Answered) -> Result<(), NoMemory>
+/// Appends the line of a question and its answer.
+///
+/// # Errors
+/// `NoMemory` alone.
+pub(crate) fn write_line(
+    out: &mut Vec<u8>,
+    items: &[Item],
+    answered: &Answered,
+) -> Result<(), NoMemory>
     ensures { OnOk result (out.new.items ≡ out.old.items ++ line_text (line_of items.now (replied_of answered.now))) }
 {
     write_word(out, first_word(items, answered.question))?;

@@ -7,7 +7,7 @@ use std::marker::Model;
 pub enum Form {
     /// A line for each answer.
     Lines,
-    /// These lines, and behind them the documents of the answers.
+    /// The document of the answers, with what shows each of them behind its line.
     Files,
 }
 

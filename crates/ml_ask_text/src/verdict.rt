@@ -1,8 +1,8 @@
 // What answers come to.
 ghost use Rattle.std.specs.Prelude.{◌≡◌, map};
 ghost use Rattle.std.specs.List.{list_any};
+ghost use Rattle.ml_ask.specs.Answers.{replied_of};
 ghost use Rattle.ml_ask_text.specs.Told as told;
-ghost use Rattle.ml_ask_text.specs.private.Plain.{replied_of};
 
 use crate::told::Verdict;
 use crate::words::wants_structure;
@@ -16,14 +16,14 @@ fn is_against(items: &[Item], answered: &Answered) -> bool
     match answered.answer {
         Answer::Yes(_) => !wants,
         Answer::No(_) => wants,
-        Answer::Open(_) => false,
+        Answer::Open => false,
     }
 }
 
 fn is_left_open(answered: &Answered) -> bool
     ensures { result ≡ told.is_left_open (replied_of answered.now) }
 {
-    matches!(answered.answer, Answer::Open(_))
+    matches!(answered.answer, Answer::Open)
 }
 
 fn some_against(items: &[Item], answers: &[Answered]) -> bool

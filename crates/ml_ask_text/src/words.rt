@@ -2,8 +2,8 @@
 ghost use Rattle.std.specs.Prelude.{◌≡◌, ◌++◌, OnOk};
 ghost use Rattle.std.specs.List.{flat_map};
 ghost use Rattle.ml_lines.specs.Lines.{next};
-ghost use Rattle.ml_ask_text.specs.Lines as lines;
-ghost use Rattle.ml_ask_text.specs.Lines.{asked_name, question_words};
+ghost use Rattle.ml_answers.specs.Lines as lines;
+ghost use Rattle.ml_answers.specs.Lines.{asked_name};
 
 use ml_base::NoMemory;
 use ml_lines::write_next_word;
@@ -25,6 +25,7 @@ pub(crate) fn first_word(items: &[Item], question: Question) -> &[u8]
 {
     match question {
         Question::Consistent => b"consistent",
+        Question::Rest => b"rest",
         Question::Asks(number) => match items.get(number) {
             Some(item) => item.kind.word(),
             None => b"",
@@ -37,7 +38,7 @@ pub(crate) fn wants_structure(items: &[Item], question: Question) -> bool
     ensures { result ≡ lines.wants_structure items.now question }
 {
     match question {
-        Question::Consistent => true,
+        Question::Consistent | Question::Rest => true,
         Question::Asks(number) => match items.get(number) {
             Some(item) => !matches!(item.kind, Kind::Follows),
             None => true,
@@ -54,19 +55,7 @@ pub(crate) fn write_asked_name(
     ensures { OnOk result (out.new.items ≡ out.old.items ++ flat_map next (asked_name items.now question)) }
 {
     match question {
-        Question::Consistent => Ok(()),
+        Question::Consistent | Question::Rest => Ok(()),
         Question::Asks(number) => write_next_word(out, name_at(items, number)),
     }
-}
-
-// the words of a question, behind a word
-pub(crate) fn write_next_question(
-    out: &mut Vec<u8>,
-    items: &[Item],
-    question: Question,
-) -> Result<(), NoMemory>
-    ensures { OnOk result (out.new.items ≡ out.old.items ++ flat_map next (question_words items.now question)) }
-{
-    write_next_word(out, first_word(items, question))?;
-    write_asked_name(out, items, question)
 }

@@ -26,7 +26,7 @@ use Rattle.ml_driver.specs.Decision.{IsAnswered, if_open, if_refused, if_refuted
 use Rattle.ml_driver.specs.declared.question.Question.{Question}
 use Rattle.ml_decide.specs.declared.way.Way.TheVariants.{WholeGame, Search}
 use Rattle.ml_driver.specs.declared.command.Command.{Command}
-use Rattle.ml_driver.specs.declared.command.Command.TheVariants.{Decide, Valid, Find, Prove, CheckModel, CheckRefutation, Migrate, Quotient, SolveGame, CheckGame, Path, CheckMachine, Determinise, Automaton, Realize, Make, Ask, Gen, Bench}
+use Rattle.ml_driver.specs.declared.command.Command.TheVariants.{Decide, Valid, Find, Prove, CheckModel, CheckRefutation, Migrate, Quotient, SolveGame, CheckGame, Path, CheckMachine, CheckAnswers, Determinise, Automaton, Realize, Make, Ask, Gen, Bench}
 use Rattle.ml_driver.specs.declared.status.Status.{Status}
 use Rattle.ml_driver.specs.declared.status.Status.TheVariants.{Yes, No, Undecided, Text, ReadFault, WriteFault, NoMemory}
 use Rattle.ml_decide.specs.Measures.{answer_of}
@@ -35,6 +35,7 @@ use Rattle.ml_driver.specs.Said.{said_text, status_said}
 use Rattle.ml_driver.specs.Statuses.{longest_input, model_said, refutation_said}
 use Rattle.ml_driver.specs.declared.said.Said.TheVariants.{TooLong}
 use Rattle.ml_driver.proofs.AskedAnswers.{calm_asked}
+use Rattle.ml_driver.proofs.CheckedAnswers.{calm_checked_answers}
 use Rattle.ml_driver.proofs.MachineAnswers.{calm_machine}
 use Rattle.ml_driver.proofs.PathAnswers.{calm_path}
 use Rattle.ml_driver.proofs.TaskAnswers.{calm_task}
@@ -91,6 +92,7 @@ calm_answer CheckRefutation text s out x = calm_verdict x.finding s x.is_said.0
 calm_answer CheckGame text s out x = calm_game text s out x
 calm_answer Path text s out x = calm_path x.finding s x.status_is
 calm_answer CheckMachine text s out x = calm_machine x.finding s x.status_is
+calm_answer CheckAnswers text s out x = calm_checked_answers x.finding s x.is_said.0
 calm_answer (Ask f n) text s out x = calm_asked x.told s x.status_is
 calm_answer (Make n) text s out x = calm_task Search n text s out x
 calm_answer (Realize n) text s out x = calm_task WholeGame n text s out x

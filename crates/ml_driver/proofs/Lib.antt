@@ -20,6 +20,8 @@ pub mod CheckedGameAnswers
 pub mod AutomatonAnswers
 -- what is due for `path`
 pub mod PathAnswers
+-- what is due for `check-answers`
+pub mod CheckedAnswers
 -- how a call ends whose answer is delivered
 pub mod Delivered
 -- what is due for `check-machine`

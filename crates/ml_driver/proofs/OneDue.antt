@@ -16,7 +16,7 @@ use Rattle.ml_driver.specs.Decision.{IsAnswered, IsProblem, LeftOpen, Refuted, R
 use Rattle.ml_driver.specs.declared.question.Question.{Question}
 use Rattle.ml_decide.specs.declared.way.Way.TheVariants.{WholeGame, Search}
 use Rattle.ml_model_check.proofs.OneCheck.{one_check}
-use Rattle.ml_driver.specs.declared.command.Command.TheVariants.{Decide, Valid, Find, Prove, CheckModel, CheckRefutation, Migrate, Quotient, SolveGame, CheckGame, Path, CheckMachine, Determinise, Automaton, Realize, Make, Ask, Gen, Bench}
+use Rattle.ml_driver.specs.declared.command.Command.TheVariants.{Decide, Valid, Find, Prove, CheckModel, CheckRefutation, Migrate, Quotient, SolveGame, CheckGame, Path, CheckMachine, CheckAnswers, Determinise, Automaton, Realize, Make, Ask, Gen, Bench}
 use Rattle.ml_driver.specs.declared.status.Status.{Status}
 use Rattle.ml_driver.specs.declared.status.Status.TheVariants.{Yes, Undecided, Text}
 use Rattle.ml_driver.specs.Said.{status_said}
@@ -34,6 +34,7 @@ use Rattle.ml_driver.specs.declared.command.TheConstants.{GREATEST_LIMIT}
 use Rattle.ml_driver.proofs.AutomatonAnswers.{one_automaton_answer}
 use Rattle.ml_driver.proofs.FamilyProblems.{one_family_problem}
 use Rattle.ml_driver.proofs.InputLimits.{alike_due}
+use Rattle.ml_driver.proofs.CheckedAnswers.{one_checked_answers}
 use Rattle.ml_driver.proofs.CheckedGameAnswers.{one_game_check}
 use Rattle.ml_driver.proofs.GameAnswers.{one_solved}
 use Rattle.ml_decide.proofs.Measures.{one_finding}
@@ -205,6 +206,7 @@ one_status (Determinise n) text s t out more whole x y = (one_automaton_answer n
 one_status (Automaton n) text s t out more whole x y = one_translated n text s t out more x y
 one_status Path text s t out more whole x y = one_path_told text s t out more x y
 one_status CheckMachine text s t out more whole x y = one_machine_told text s t out more x y
+one_status CheckAnswers text s t out more whole x y = one_checked_answers text s t out more x y
 one_status (Make n) text s t out more whole x y = absurd (cc)
 one_status (Realize n) text s t out more whole x y = one_told n text s t out more x y
 one_status (Ask f n) text s t out more whole x y = absurd (cc)

@@ -23,6 +23,7 @@ use Rattle.ml_driver.specs.Bench.{bench_text, gen_text, status_of}
 use Rattle.ml_front.specs.Connectives.{occurrences}
 use Rattle.ml_driver.proofs.AutomatonAnswers.{on_automaton}
 use Rattle.ml_driver.proofs.FamilyProblems.{family_problem}
+use Rattle.ml_driver.proofs.CheckedAnswers.{on_answers}
 use Rattle.ml_driver.proofs.CheckedGameAnswers.{on_checked_game}
 use Rattle.ml_driver.proofs.GameAnswers.{on_game}
 use Rattle.ml_decide.proofs.Measures.{some_finding}
@@ -33,7 +34,7 @@ use Rattle.ml_driver.proofs.MachineAnswers.{on_machine}
 use Rattle.ml_driver.proofs.AskedAnswers.{on_requirements}
 use Rattle.ml_driver.proofs.TaskAnswers.{on_task}
 use Rattle.ml_driver.proofs.TranslationAnswers.{on_formula}
-use Rattle.ml_driver.specs.declared.command.Command.TheVariants.{Decide, Valid, Find, Prove, CheckModel, CheckRefutation, Migrate, Quotient, SolveGame, CheckGame, Path, CheckMachine, Determinise, Automaton, Realize, Make, Ask, Gen, Bench}
+use Rattle.ml_driver.specs.declared.command.Command.TheVariants.{Decide, Valid, Find, Prove, CheckModel, CheckRefutation, Migrate, Quotient, SolveGame, CheckGame, Path, CheckMachine, CheckAnswers, Determinise, Automaton, Realize, Make, Ask, Gen, Bench}
 use Rattle.ml_driver.specs.declared.status.Status.TheVariants.{Yes, Text}
 use Rattle.ml_driver.specs.Said.{said_text, status_said}
 use Rattle.ml_driver.specs.Statuses.{model_said, refutation_said}
@@ -129,6 +130,7 @@ answered (Determinise n) text small = on_automaton n text
 answered (Automaton n) text small = on_formula n text
 answered Path text small = on_path text
 answered CheckMachine text small = on_machine text
+answered CheckAnswers text small = on_answers text
 answered (Make n) text small = on_task Search n text
 answered (Realize n) text small = on_task WholeGame n text
 answered (Ask f n) text small = on_requirements f n text small

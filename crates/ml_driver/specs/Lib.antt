@@ -24,6 +24,8 @@ pub mod Automata
 pub mod Translations
 -- paths of structures
 pub mod Paths
+-- what `check-answers` answers
+pub mod CheckedAnswers
 -- machines and environments that are checked
 pub mod CheckedMachines
 -- tasks for which a machine or an environment is made

@@ -37,7 +37,7 @@ use Rattle.ml_refute_check.specs.Documents.{HoldsNowhere, IsMigrated, IsVerdict}
 use Rattle.ml_refute_check.specs.declared.verdict.Verdict.{Verdict}
 use Rattle.ml_refute_check.specs.declared.verdict.Verdict.TheVariants as verdict
 use Rattle.ml_driver.specs.declared.command.Command.{Command}
-use Rattle.ml_driver.specs.declared.command.Command.TheVariants.{Decide, Valid, Find, Prove, CheckModel, CheckRefutation, Migrate, Quotient, SolveGame, CheckGame, Path, CheckMachine, Determinise, Automaton, Realize, Make, Ask, Gen, Bench}
+use Rattle.ml_driver.specs.declared.command.Command.TheVariants.{Decide, Valid, Find, Prove, CheckModel, CheckRefutation, Migrate, Quotient, SolveGame, CheckGame, Path, CheckMachine, CheckAnswers, Determinise, Automaton, Realize, Make, Ask, Gen, Bench}
 use Rattle.ml_driver.specs.declared.command.TheConstants.{LONGEST_DOCUMENT}
 use Rattle.ml_driver.specs.declared.question.Question.{Question}
 use Rattle.ml_decide.specs.declared.way.Way.{Way}
@@ -47,6 +47,7 @@ use Rattle.ml_driver.specs.declared.status.Status.TheVariants.{Yes, Undecided, T
 use Rattle.ml_driver.specs.Asked.{IsAsked}
 use Rattle.ml_driver.specs.Automata.{IsRefusedAutomaton, IsWrittenFor, PassesLimit}
 use Rattle.ml_driver.specs.Bench.{IsBenched, gen_text}
+use Rattle.ml_driver.specs.CheckedAnswers.{AreAnswersTold}
 use Rattle.ml_driver.specs.CheckedGames.{IsGameChecked}
 use Rattle.ml_driver.specs.CheckedMachines.{IsMachineTold}
 use Rattle.ml_driver.specs.Confirmed.{IsConfirmed}
@@ -101,6 +102,7 @@ IsAnswer (Automaton n) text Undecided out = StandsFor (IsParsedAs Ltl) text (λ 
 IsAnswer (Automaton n) text Text out = IsRefusedFormula text out
 IsAnswer Path text s out = IsPathTold text s out
 IsAnswer CheckMachine text s out = IsMachineTold text s out
+IsAnswer CheckAnswers text s out = AreAnswersTold text s out
 IsAnswer (Make n) text s out = IsTaskAnswered Search n text s out
 IsAnswer (Realize n) text s out = IsTaskAnswered WholeGame n text s out
 IsAnswer (Ask f n) text s out = IsAsked f n text s out

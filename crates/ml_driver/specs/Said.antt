@@ -20,7 +20,7 @@ use Rattle.ml_spec.specs.RuleNumbers.{rule_number}
 use Rattle.ml_driver.specs.declared.command.Command.{Command}
 use Rattle.ml_driver.specs.declared.command.Command.TheVariants as command
 use Rattle.ml_driver.specs.declared.said.Said.{Said}
-use Rattle.ml_driver.specs.declared.said.Said.TheVariants.{Accepted, Fails, Holds, NoCommand, NoPath, NotAWord, NotTotal, RefusedDocument, RefusedRequirements, RefusedText, RejectedLine, RejectedVertex, TooLong, Undecided}
+use Rattle.ml_driver.specs.declared.said.Said.TheVariants.{Accepted, Fails, Holds, NoAnswers, NoCommand, NoPath, NotAWord, NotTotal, OpenLine, RefusedDocument, RefusedRequirements, RefusedText, RejectedLine, RejectedVertex, Right, TooLong, Undecided, WrongLine}
 use Rattle.ml_driver.specs.declared.said.Size.{Size}
 use Rattle.ml_driver.specs.declared.said.Size.TheVariants.{Closure, Positions, States}
 use Rattle.ml_driver.specs.declared.said.TextKind.{TextKind}
@@ -34,6 +34,7 @@ status_said TooLong = status.Text
 status_said (RefusedText kind rule at) = status.Text
 status_said (RefusedDocument fault) = status.Text
 status_said (RefusedRequirements line column rule) = status.Text
+status_said (NoAnswers line column) = status.Text
 status_said (NotTotal state) = status.Text
 status_said (NotAWord state) = status.Text
 status_said Holds = status.Yes
@@ -41,6 +42,9 @@ status_said Fails = status.No
 status_said Accepted = status.Yes
 status_said (RejectedLine line rule) = status.No
 status_said (RejectedVertex id rule) = status.No
+status_said Right = status.Yes
+status_said (WrongLine line) = status.No
+status_said (OpenLine line) = status.Undecided
 status_said NoPath = status.No
 status_said (Undecided size limit) = status.Undecided
 
@@ -62,6 +66,8 @@ line_said (RefusedDocument fault) =
     codes "refused" ∷ codes "document" ∷ codes "line" ∷ number fault.line ∷ codes "rule" ∷ number fault.rule ∷ []
 line_said (RefusedRequirements line column rule) =
     codes "refused" ∷ codes "line" ∷ number line ∷ codes "column" ∷ number column ∷ codes "rule" ∷ number (rule_number rule) ∷ []
+line_said (NoAnswers line column) =
+    codes "refused" ∷ codes "line" ∷ number line ∷ codes "column" ∷ number column ∷ codes "rule" ∷ number 71 ∷ []
 line_said (NotTotal state) = codes "not" ∷ codes "total" ∷ codes "at" ∷ codes "state" ∷ number state ∷ []
 line_said (NotAWord state) = codes "not" ∷ codes "a" ∷ codes "word" ∷ codes "at" ∷ codes "state" ∷ number state ∷ []
 line_said Holds = codes "holds" ∷ []
@@ -70,6 +76,9 @@ line_said Accepted = codes "accepted" ∷ []
 line_said (RejectedLine line rule) = codes "rejected" ∷ codes "line" ∷ number line ∷ codes "rule" ∷ number rule ∷ []
 line_said (RejectedVertex id rule) =
     codes "rejected" ∷ codes "vertex" ∷ number id ∷ codes "rule" ∷ number (number_of rule) ∷ []
+line_said Right = codes "right" ∷ []
+line_said (WrongLine line) = codes "wrong" ∷ codes "line" ∷ number line ∷ []
+line_said (OpenLine line) = codes "open" ∷ codes "line" ∷ number line ∷ []
 line_said NoPath = codes "none" ∷ []
 line_said (Undecided size limit) = codes "undecided" ∷ size_word size ∷ number limit ∷ []
 
@@ -100,6 +109,7 @@ is_text command.CheckModel = never
 is_text command.CheckRefutation = never
 is_text command.CheckGame = never
 is_text command.CheckMachine = never
+is_text command.CheckAnswers = never
 is_text command.Path = is_yes
 is_text (command.Determinise n) = is_yes
 is_text (command.Automaton n) = is_yes

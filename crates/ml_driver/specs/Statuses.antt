@@ -12,6 +12,7 @@
 --   refusal_said e   == what is said of the text of a formula that the parser refuses
 --   refusal_line e   == its line
 use Rattle.std.specs.Prelude.{ℕ, ◌≡◌, List, Option, Some, None, option_map}
+use Rattle.ml_answers.specs.declared.finding.TheConstants.{LONGEST_ANSWERS}
 use Rattle.ml_base.specs.declared.doc_fault.DocFault.{DocFault}
 use Rattle.ml_base.specs.declared.parse_refusal.ParseRefusal.{ParseRefusal}
 use Rattle.ml_base.specs.declared.parse_refusal.ParseRefusal.TheVariants as refusal
@@ -24,7 +25,7 @@ use Rattle.ml_refute_check.specs.declared.verdict.Verdict.{Verdict}
 use Rattle.ml_refute_check.specs.declared.verdict.Verdict.TheVariants as verdict
 use Rattle.ml_task.specs.declared.limits.TheConstants.{LONGEST_TASK_TEXT}
 use Rattle.ml_driver.specs.declared.command.Command.{Command}
-use Rattle.ml_driver.specs.declared.command.Command.TheVariants.{CheckModel, CheckRefutation, Migrate, Quotient, SolveGame, CheckGame, Path, CheckMachine, Determinise, Realize, Make, Gen, Bench}
+use Rattle.ml_driver.specs.declared.command.Command.TheVariants.{CheckModel, CheckRefutation, Migrate, Quotient, SolveGame, CheckGame, Path, CheckMachine, CheckAnswers, Determinise, Realize, Make, Gen, Bench}
 use Rattle.ml_driver.specs.declared.command.TheConstants.{LONGEST_TEXT, LONGEST_DOCUMENT}
 use Rattle.ml_driver.specs.declared.said.Said.{Said}
 use Rattle.ml_driver.specs.declared.said.Said.TheVariants as said
@@ -39,6 +40,7 @@ longest_input Migrate = Some LONGEST_DOCUMENT
 longest_input Quotient = Some LONGEST_DOCUMENT
 longest_input Path = Some LONGEST_DOCUMENT
 longest_input CheckMachine = Some LONGEST_DOCUMENT
+longest_input CheckAnswers = Some LONGEST_ANSWERS
 longest_input (SolveGame e) = Some LONGEST_GAME_TEXT
 longest_input CheckGame = Some LONGEST_CHECKED_TEXT
 longest_input (Determinise n) = Some LONGEST_AUTOMATON_TEXT

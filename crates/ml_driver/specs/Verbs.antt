@@ -2,7 +2,7 @@
 --
 --   shape_of v   == the shape of the commands that begin with v
 --   further_in x == what stands behind the first word of a command of the shape x
-use Rattle.ml_driver.specs.declared.command.Command.TheVariants.{Decide, Valid, Find, Prove, CheckModel, CheckRefutation, Migrate, Quotient, SolveGame, CheckGame, Path, CheckMachine, Determinise, Automaton, Realize, Make, Ask, Gen, Bench}
+use Rattle.ml_driver.specs.declared.command.Command.TheVariants.{Decide, Valid, Find, Prove, CheckModel, CheckRefutation, Migrate, Quotient, SolveGame, CheckGame, Path, CheckMachine, Determinise, Automaton, Realize, Make, Ask, CheckAnswers, Gen, Bench}
 use Rattle.ml_driver.specs.declared.table.Further.{Further}
 use Rattle.ml_driver.specs.declared.table.Further.TheVariants.{Engine, Family, Files, Limit, Logic, Nothing}
 use Rattle.ml_driver.specs.declared.table.Verb.{Verb}
@@ -15,6 +15,7 @@ shape_of verb.Prove = about_logic Prove
 shape_of verb.Decide = about_logic Decide
 shape_of verb.Valid = about_logic Valid
 shape_of verb.Ask = with_files Ask
+shape_of verb.CheckAnswers = alone CheckAnswers
 shape_of verb.CheckModel = alone CheckModel
 shape_of verb.CheckRefutation = alone CheckRefutation
 shape_of verb.Path = alone Path

@@ -2,6 +2,7 @@
 ghost use Rattle.std.specs.Prelude.{◌≡◌};
 
 use crate::Engine;
+use ml_answers::LONGEST_ANSWERS;
 use ml_ask_text::Form;
 use ml_front::Logic;
 use ml_gen::Family;
@@ -51,6 +52,8 @@ pub enum Command {
     /// `ask`, `ask files`: the answers to the questions of the file of requirements on the input, as lines, or with a
     /// document for each. The decision game of a problem may have as many positions as the limit.
     Ask { form: Form, limit: u32 },
+    /// `check-answers`: is each answer true that stands behind the file of requirements on the input?
+    CheckAnswers,
     /// `gen FAMILY N`: the text of the family's formula for the number. Nothing is read.
     Gen { family: Family, n: u32 },
     /// `bench FAMILY N`: the size of this formula, of its graph and of its decision game, and is it satisfiable? Nothing is
@@ -93,6 +96,7 @@ impl Command {
             | Command::Quotient
             | Command::Path
             | Command::CheckMachine => Some(LONGEST_DOCUMENT),
+            Command::CheckAnswers => Some(LONGEST_ANSWERS as u64),
             Command::SolveGame { .. } => Some(LONGEST_GAME_TEXT as u64),
             Command::CheckGame => Some(LONGEST_CHECKED_TEXT as u64),
             Command::Determinise { .. } => Some(LONGEST_AUTOMATON_TEXT as u64),

@@ -22,6 +22,7 @@
 mod asking;
 mod bench;
 mod check;
+mod checking_answers;
 mod checking_games;
 mod checking_machines;
 mod command;

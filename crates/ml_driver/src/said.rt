@@ -56,6 +56,11 @@ pub enum Said {
         column: u64,
         rule: SpecRule,
     },
+    /// `refused line L column C rule 71`: no answers stand behind a file of requirements, which ends at this line and column.
+    NoAnswers {
+        line: u64,
+        column: u64,
+    },
     /// `not total at state S`: this state, the least such one, has no edge.
     NotTotal(u32),
     /// `not a word at state S`: this state, the least such one, hasn't exactly one edge.
@@ -76,6 +81,12 @@ pub enum Said {
         id: u32,
         rule: Rule,
     },
+    /// `right`: each answer to a file of requirements is shown.
+    Right,
+    /// `wrong line L`: the answer in this line isn't; it is the first such one.
+    WrongLine(u64),
+    /// `open line L`: none is wrong, and this line is the first that is open or can't be checked.
+    OpenLine(u64),
     /// `none`: no path shows the problem.
     NoPath,
     /// `undecided SIZE N`: this size passes this limit.
@@ -124,12 +135,16 @@ impl Said {
             | Said::RefusedText { .. }
             | Said::RefusedDocument(_)
             | Said::RefusedRequirements { .. }
+            | Said::NoAnswers { .. }
             | Said::NotTotal(_)
             | Said::NotAWord(_) => Status::Text,
-            Said::Holds | Said::Accepted => Status::Yes,
-            Said::Fails | Said::RejectedLine { .. } | Said::RejectedVertex { .. } | Said::NoPath =>
-                Status::No,
-            Said::Undecided { .. } => Status::Undecided,
+            Said::Holds | Said::Accepted | Said::Right => Status::Yes,
+            Said::Fails
+            | Said::RejectedLine { .. }
+            | Said::RejectedVertex { .. }
+            | Said::WrongLine(_)
+            | Said::NoPath => Status::No,
+            Said::OpenLine(_) | Said::Undecided { .. } => Status::Undecided,
         }
     }
 
@@ -167,6 +182,9 @@ impl Said {
                     rule.number()
                 )
             }
+            Said::NoAnswers { line, column } => {
+                format!(in alloc; "refused line {line} column {column} rule 71\n")
+            }
             Said::NotTotal(state) => format!(in alloc; "not total at state {state}\n"),
             Said::NotAWord(state) => format!(in alloc; "not a word at state {state}\n"),
             Said::Holds => format!(in alloc; "holds\n"),
@@ -178,6 +196,9 @@ impl Said {
             Said::RejectedVertex { id, rule } => {
                 format!(in alloc; "rejected vertex {id} rule {}\n", rule.number())
             }
+            Said::Right => format!(in alloc; "right\n"),
+            Said::WrongLine(line) => format!(in alloc; "wrong line {line}\n"),
+            Said::OpenLine(line) => format!(in alloc; "open line {line}\n"),
             Said::NoPath => format!(in alloc; "none\n"),
             Said::Undecided { size, limit } => {
                 format!(in alloc; "undecided {} {limit}\n", size.word())

@@ -14,6 +14,7 @@ pub enum Verb {
     Decide,
     Valid,
     Ask,
+    CheckAnswers,
     CheckModel,
     CheckRefutation,
     Path,
@@ -48,12 +49,13 @@ pub enum Further {
 }
 
 /// The commands: their first words, in the order in which people are told of them.
-pub const TABLE: [(&str, Verb); 19] = [
+pub const TABLE: [(&str, Verb); 20] = [
     ("find", Verb::Find),
     ("prove", Verb::Prove),
     ("decide", Verb::Decide),
     ("valid", Verb::Valid),
     ("ask", Verb::Ask),
+    ("check-answers", Verb::CheckAnswers),
     ("check-model", Verb::CheckModel),
     ("check-refutation", Verb::CheckRefutation),
     ("path", Verb::Path),
@@ -90,7 +92,8 @@ impl Verb {
             Verb::SolveGame => Further::Engine,
             Verb::Gen | Verb::Bench => Further::Family,
             Verb::Determinise | Verb::Automaton | Verb::Make | Verb::Realize => Further::Limit,
-            Verb::CheckModel
+            Verb::CheckAnswers
+            | Verb::CheckModel
             | Verb::CheckRefutation
             | Verb::Path
             | Verb::Migrate
@@ -108,6 +111,7 @@ impl Verb {
             Verb::Decide => "as find, without a search",
             Verb::Valid => "as prove, without a search",
             Verb::Ask => "the questions of a file of requirements",
+            Verb::CheckAnswers => "are the answers behind a file of requirements right?",
             Verb::CheckModel => "does the document's problem hold at its start?",
             Verb::CheckRefutation => "is the document's refutation right?",
             Verb::Path => "a path of the document's structure that shows its formula",

@@ -16,6 +16,7 @@ ghost use Rattle.ml_driver.specs.private.Written.{IsDelivered, IsSaidIf};
 use crate::asking::ask;
 use crate::bench::{generate, measure};
 use crate::check::{check_model, check_refutation, migrate};
+use crate::checking_answers::check_answers;
 use crate::checking_games::check_game;
 use crate::checking_machines::check_machine;
 use crate::decide::decide;
@@ -64,6 +65,7 @@ pub struct Ending {
 /// | `realize`, `make` | a machine that realizes the task | an environment that defeats it |
 /// | `check-machine` | the machine realizes its task, or the environment defeats it | it doesn't, with a word that shows it |
 /// | `ask` | all requirements and questions are as their writer means them | some answer says no |
+/// | `check-answers` | each answer behind the file of requirements is shown | some answer isn't |
 /// | `bench` | the family's formula is satisfiable, with its occurrences, nodes and positions | it isn't |
 /// | `migrate` | the document of the same refutation in version 2 | never |
 /// | `quotient` | the document of the same problem with the quotient of the structure | never |
@@ -85,7 +87,8 @@ pub struct Ending {
 /// - of `automaton` exactly where the graph of the word automaton has too many nodes, or the word automaton more places than
 ///   the limit;
 /// - of `ask` only where some answer stays open, which comes only where the closure of the joined problem has too many nodes,
-///   or its decision game passes the limit;
+///   where its decision game passes the limit, or where the joined formula has more than 1,000 occurrences;
+/// - of `check-answers` exactly where no answer is wrong, and some one is open, has names behind `perhaps:` or can't be checked;
 /// - of `realize` exactly where the graph of the word automaton has too many nodes, or the game of the task passes the limit;
 ///   of `make` only there.
 ///
@@ -269,6 +272,7 @@ pub fn answer(alloc: Global, command: Command, text: &[u8]) -> Result<Output, No
         Command::Automaton { limit } => translate_text(alloc, limit, text),
         Command::Path => find_path(alloc, text),
         Command::CheckMachine => check_machine(alloc, text),
+        Command::CheckAnswers => check_answers(alloc, text),
         Command::Make { limit } => answer_task(alloc, Way::Search, limit, text),
         Command::Realize { limit } => answer_task(alloc, Way::WholeGame, limit, text),
         Command::Ask { form, limit } => ask(alloc, form, limit, text),

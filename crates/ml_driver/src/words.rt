@@ -156,6 +156,7 @@ fn alone(verb: Verb, limit: Option<&str>) -> Option<Command>
             let limit = limit_named(limit)?;
             Some(Command::Realize { limit })
         }
+        Verb::CheckAnswers => unlimited(Command::CheckAnswers, limit),
         Verb::CheckModel => unlimited(Command::CheckModel, limit),
         Verb::CheckRefutation => unlimited(Command::CheckRefutation, limit),
         Verb::Path => unlimited(Command::Path, limit),
@@ -213,7 +214,8 @@ fn about(verb: Verb, subject: &str, limit: Option<&str>) -> Option<Command>
         }
         Verb::Ask => with_files(subject, limit),
         Verb::SolveGame => by_engine(subject, limit),
-        Verb::CheckModel
+        Verb::CheckAnswers
+        | Verb::CheckModel
         | Verb::CheckRefutation
         | Verb::Path
         | Verb::Migrate

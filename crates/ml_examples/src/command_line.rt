@@ -1,6 +1,7 @@
 // A command line of a page, taken apart. It is one of
 //
 //     [printf 'TEXT' |] mlsolver WORDS [< FILE] [> FILE] [; echo $?]
+//     cat FILE FILE | mlsolver WORDS [> FILE] [; echo $?]
 //     cat FILE
 //
 // where WORDS and FILE have none but signs that a shell takes as they are, and TEXT knows `\n` and `%%` alone.
@@ -34,27 +35,44 @@ pub(crate) enum Input<'a> {
     /// What `printf` is given.
     Text(&'a str),
     File(&'a str),
+    /// What `cat` writes of two files.
+    Files(&'a str, &'a str),
 }
 
 /// The command line, taken apart, or `None` where it is of another form.
 pub(crate) fn taken_apart(line: &str) -> Option<CommandLine<'_>> {
     match line.strip_prefix("cat ") {
-        Some(name) => Some(CommandLine::Show(plain(name)?)),
-        None => Some(CommandLine::Call(call_in(line)?)),
+        Some(names) => shown_or_read(names),
+        None => {
+            let (text, line) = text_before(line)?;
+            Some(CommandLine::Call(call_in(line, text.map(Input::Text))?))
+        }
     }
 }
 
-fn call_in(line: &str) -> Option<Call<'_>> {
+// one file, or two and the call that reads them
+fn shown_or_read(names: &str) -> Option<CommandLine<'_>> {
+    match names.split_once(" | ") {
+        None => Some(CommandLine::Show(plain(names)?)),
+        Some((names, line)) => {
+            let (first, second) = names.split_once(' ')?;
+            let input = Input::Files(plain(first)?, plain(second)?);
+            Some(CommandLine::Call(call_in(line, Some(input))?))
+        }
+    }
+}
+
+// the call that reads this, if it is given what is before it
+fn call_in<'a>(line: &'a str, before: Option<Input<'a>>) -> Option<Call<'a>> {
     let (line, is_status_shown) = match line.strip_suffix("; echo $?") {
         Some(line) => (line, true),
         None => (line, false),
     };
-    let (text, line) = text_before(line)?;
     let (line, into) = file_behind(line.strip_prefix("mlsolver")?, " > ")?;
     let (words, from) = file_behind(line, " < ")?;
-    let input = match (text, from) {
+    let input = match (before, from) {
         (None, None) => Input::Nothing,
-        (Some(text), None) => Input::Text(text),
+        (Some(input), None) => input,
         (None, Some(name)) => Input::File(name),
         (Some(_), Some(_)) => return None,
     };

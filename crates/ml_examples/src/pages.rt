@@ -156,7 +156,25 @@ fn input_of<R: Files + AllocGlobal>(
         Input::Nothing => Ok(Some(Vec::new(rt.alloc()))),
         Input::Text(text) => Ok(printed(rt.alloc(), text)?),
         Input::File(name) => bytes_of(rt, session, name),
+        Input::Files(first, second) => both_of(rt, session, first, second),
     }
+}
+
+// the bytes of two files, one behind the other
+fn both_of<R: Files + AllocGlobal>(
+    rt: &R,
+    session: &Session<'_>,
+    first: &str,
+    second: &str,
+) -> Result<Option<Vec<u8>>, Failure> {
+    let (Some(mut bytes), Some(more)) = (
+        bytes_of(rt, session, first)?,
+        bytes_of(rt, session, second)?,
+    ) else {
+        return Ok(None);
+    };
+    bytes.extend_from_slice(&more)?;
+    Ok(Some(bytes))
 }
 
 // the bytes of a file of examples/, or of one that was written

@@ -28,6 +28,9 @@ use std::rt::Files;
 /// The status of an answer past a limit.
 const UNDECIDED: u8 = 2;
 
+/// How a document of answers begins.
+const ANSWERS: &[u8] = b"mlsolver answers 1\n";
+
 /// What a file has so far.
 #[derive(Clone, Copy, Default)]
 pub(crate) struct Counts {
@@ -127,6 +130,17 @@ fn may_be_large(document: &[u8]) -> bool {
     document.starts_with(b"mlsolver realize 1\nanswer unrealizable\n")
 }
 
+/// Are the answers that were written found right behind their file? Some may be open.
+fn are_right(alloc: Global, file: &[u8], answers: &[u8]) -> Result<bool, Failure> {
+    let mut both = Vec::from_slice(alloc, file)?;
+    both.extend_from_slice(answers)?;
+    let status = answer_to(alloc, "check-answers", &both)?.status;
+    let is_open = answers
+        .split(|byte| matches!(*byte, b' ' | b'\n'))
+        .any(|word| word == b"open" || word == b"perhaps:");
+    Ok(status == if is_open { UNDECIDED } else { 0 })
+}
+
 /// Is the document that was written found good, if it has an answer? One that is written of another document has to be found
 /// as that one is.
 fn is_checked(
@@ -135,6 +149,10 @@ fn is_checked(
     found: &Answer,
     counts: &mut Counts,
 ) -> Result<bool, Failure> {
+    if found.output.starts_with(ANSWERS) {
+        counts.documents = counts.documents.saturating_add(1);
+        return are_right(alloc, &row.input, &found.output);
+    }
     match checking(&found.output) {
         None => Ok(true),
         Some((command, document)) => {

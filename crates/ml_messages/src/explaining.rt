@@ -1,5 +1,6 @@
 // The sentence about an answer.
 
+use crate::answers::{open_answer, wrong_answer};
 use crate::documents::{checked_problem, document_fault, rejection};
 use crate::formulas::formula_fault;
 use crate::requirements::requirements_fault;
@@ -9,6 +10,9 @@ use ml_driver::{Command, Said, TextKind};
 use ml_front::Logic;
 use ml_spec::line_and_column;
 use std::alloc::{AllocError, Global};
+
+/// The rule that a file of requirements breaks that has no answers behind it.
+const NO_ANSWERS: u32 = 71;
 
 /// What people are told of the answer to a command on this input, in one line without its end: where the input is at fault
 /// and why, or which problem a document was checked for; `None` where nothing is to be told.
@@ -34,6 +38,11 @@ pub fn explanation(
         Said::RefusedRequirements { line, column, rule } => {
             requirements_fault(alloc, input, line as usize, column as usize, rule.number())?
         }
+        Said::NoAnswers { line, column } => {
+            requirements_fault(alloc, input, line as usize, column as usize, NO_ANSWERS)?
+        }
+        Said::WrongLine(line) => wrong_answer(alloc, input, line as usize)?,
+        Said::OpenLine(line) => open_answer(alloc, input, line as usize)?,
         Said::RejectedLine { line, rule } => rejection(alloc, input, line as usize, rule)?,
         Said::RejectedVertex { rule, .. } => String::from_str(alloc, of_solution(rule))?,
         Said::TooLong => String::from_str(alloc, "the input is longer than this command reads")?,
@@ -51,7 +60,7 @@ pub fn explanation(
                 None => Ok(None),
             };
         }
-        Said::NoCommand | Said::NoPath | Said::Undecided { .. } => return Ok(None),
+        Said::NoCommand | Said::NoPath | Said::Right | Said::Undecided { .. } => return Ok(None),
     }))
 }
 
@@ -90,6 +99,7 @@ fn shape_of(command: Command) -> Shape {
         Command::CheckRefutation | Command::Migrate => Shape::Refutation,
         Command::Realize { .. } | Command::Make { .. } => Shape::Task,
         Command::CheckMachine => Shape::Machine,
+        Command::CheckAnswers => Shape::Answers,
         _ => Shape::Model,
     }
 }

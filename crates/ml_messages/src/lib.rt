@@ -12,6 +12,7 @@
 // `ml_spec`, for lines and columns. Above stands the program.
 #![tactic(auto)]
 
+mod answers;
 mod documents;
 mod expected;
 mod explaining;

@@ -13,6 +13,8 @@ pub(crate) enum Shape {
     Task,
     /// A machine or an environment.
     Machine,
+    /// Answers behind a file of requirements.
+    Answers,
 }
 
 /// How the text of a game, with or without a solution, breaks the rule.
@@ -51,6 +53,10 @@ pub(crate) fn of_solution(rule: Rule) -> &'static str {
     }
 }
 
+/// Why a file of requirements has no answers behind it.
+const NO_ANSWERS: &str =
+    "no answers stand behind the file; they begin with the line `mlsolver answers 1`, as `ask files` writes it, and the line before it needs an end";
+
 /// How an item of a file of requirements breaks the rule.
 pub(crate) fn of_requirements(rule: u32) -> &'static str {
     match rule {
@@ -62,9 +68,8 @@ pub(crate) fn of_requirements(rule: u32) -> &'static str {
             "a name belongs here: a letter, and then letters, digits, `_`, `-` and `.`, at most 64 bytes in all",
         64 => "a colon belongs here, between the name and the formula",
         65 => "an earlier item has this name",
-        66 => "this is the 257th requirement or question, and a file has at most 256",
-        _ =>
-            "with this item the formula that joins the requirements and a question passes 1,000 occurrences of operators and names",
+        71 => NO_ANSWERS,
+        _ => "this is the 4,097th requirement or question, and a file has at most 4,096",
     }
 }
 
@@ -80,9 +85,12 @@ pub(crate) fn of_document(shape: Shape, line: usize, rule: u32) -> &'static str 
         },
         4 =>
             "`path` reads any formula in `ltl` and `word`, and in `ctl` `E f` or `A f` where f has no `E` and no `A`",
+        11 if shape == Shape::Answers =>
+            "expected: `states` and a number, `start` and a number, a `state` line for each state, then `edge` lines with a state, an action and a state, then `end`",
         11..=17 => of_structure(line, rule),
         21..=31 => of_refutation(rule),
         41..=46 => of_task(line, rule),
+        71..=72 => of_answers(rule),
         _ => of_machine(rule),
     }
 }
@@ -168,6 +176,24 @@ fn of_machine(rule: u32) -> &'static str {
         55 =>
             "the empty set is `-`; any other is written by its inputs or outputs, in the order of the task, each once",
         _ => "states are numbered from 0, so the state behind `goto` has to be below their number",
+    }
+}
+
+fn of_answers(rule: u32) -> &'static str {
+    match rule {
+        71 =>
+            "expected: the line of the next question with one of its answers, `rest` behind a conflict, `without` and the next name behind a refutation, or `end` and nothing behind it",
+        _ =>
+            "the names have to be those of requirements, in the order of the file, each once; a line of the rest has names of the rest, and a conflict has one name at least",
+    }
+}
+
+/// Why the answer in this line isn't shown.
+pub(crate) fn of_wrong_answer(has_refutation: bool) -> &'static str {
+    if has_refutation {
+        "the refutation behind it isn't one of the requirements that are named and the question, or a structure behind `without` doesn't meet the others and the question"
+    } else {
+        "the structure behind it doesn't meet all requirements that are asked about, and the question"
     }
 }
 

@@ -15,7 +15,7 @@ use Rattle.ml_spec.specs.RuleNumbers.{rule_number}
 use Rattle.ml_spec.specs.Specification.{most_items}
 use Rattle.ml_spec.specs.declared.kind.Kind.{Kind}
 use Rattle.ml_spec.specs.declared.rule.SpecRule.{SpecRule}
-use Rattle.ml_spec.specs.declared.rule.SpecRule.TheVariants.{Syntax, Unbound, NotPositive, TooMany, TooNested, NameTooLong, NoLogic, NoKind, NoName, NoColon, NameTaken, TooManyItems, TooLarge}
+use Rattle.ml_spec.specs.declared.rule.SpecRule.TheVariants.{Syntax, Unbound, NotPositive, TooMany, TooNested, NameTooLong, NoLogic, NoKind, NoName, NoColon, NameTaken, TooManyItems}
 use Rattle.ml_spec.specs.declared.specification.Item.{Item}
 use Rattle.ml_spec.specs.private.Stages.{IsFirstInItem, IsNextItem}
 use Rattle.ml_spec.proofs.PartSizes.{colon_shortens, kind_fits, kind_shortens, name_fits, name_shortens}
@@ -48,7 +48,6 @@ module _ (l : Logic) (seen : List (List ℕ)) (i : ItemText) where
   fault_by P kind many name taken colon text TooNested k is = text TooNested k is
   fault_by P kind many name taken colon text NameTooLong k is = text NameTooLong k is
   fault_by P kind many name taken colon text NoLogic k is = text NoLogic k is
-  fault_by P kind many name taken colon text TooLarge k is = text TooLarge k is
 
   -- ---- places
 
@@ -190,7 +189,6 @@ module _ (l : Logic) (seen : List (List ℕ)) (i : ItemText) where
       text_comes NoColon j colon refused = absurd refused
       text_comes NameTaken j colon refused = absurd refused
       text_comes TooManyItems j colon refused = absurd refused
-      text_comes TooLarge j colon refused = absurd refused
 
       pub first_text : (r : SpecRule) (j : ℕ)
           → HasColon i

@@ -1,25 +1,27 @@
 -- How many occurrences joined formulas have.
 --
---   asked_sound    == what an item with a sound formula asks for is sound
---   asked_required == a requirement asks for its formula
+--   requirements_in == requirements among items of a logic are of it
+--   asked_logic, asked_sound == what an item asks for is of its formula's logic, and sound where that is
 --   joined_size    == formulas that are joined have one occurrence less than their total
---   part_size      == so has the formula that an item must keep small
-use Rattle.std.proofs.Common.{◌≡◌, ◌+◌, Bool, true, false, cond, List, [], ◌∷◌, ◌++◌, filter, map, refl, sym, ap, ◌∙◌, arith}
+--   long_joined, long_total == so they are too long exactly where that is
+use Rattle.std.proofs.Common.{◌≡◌, ◌+◌, ◌<◌, Bool, true, false, cond, List, [], ◌∷◌, filter, map, refl, sym, ◌∙◌, arith}
 use Rattle.std.specs.List.{AllByRecursion}
-use Rattle.std.proofs.lemmas.List.Sums.{sum_by-append, sum_by-cons}
+use Rattle.std.proofs.lemmas.List.Sums.{sum_by-cons}
+use Rattle.ml_text.specs.Limits.{most_occurrences}
+use Rattle.ml_front.specs.Connectives.{all_of, both, joined, occurrences, truth, AreOf}
 use Rattle.ml_front.specs.Logics.{logic_of}
 use Rattle.ml_front.specs.declared.logic.Logic.{Logic}
+use Rattle.ml_front.specs.declared.logic.Logic.TheVariants as logic
 use Rattle.ml_front.specs.declared.problem.AnyFormula.{AnyFormula}
 use Rattle.ml_front.specs.private.Sound.{IsSound}
 use Rattle.ml_front.proofs.Connected.{both_logic, both_size, negation_logic}
 use Rattle.ml_front.proofs.Sound.{negation_sound}
-use Rattle.ml_front.specs.Connectives.{AreOf, all_of, both, joined, negation, occurrences}
-use Rattle.ml_spec.specs.Joined.{asked, asked_as, joined_at, parts_as, requirements}
+use Rattle.ml_spec.specs.Joined.{asked_as, requirements}
 use Rattle.ml_spec.specs.Kinds.{is_requirement}
 use Rattle.ml_spec.specs.declared.kind.Kind.{Kind}
 use Rattle.ml_spec.specs.declared.kind.Kind.TheVariants as kind
 use Rattle.ml_spec.specs.declared.specification.Item.{Item}
-use Rattle.ml_spec.specs.private.Sizes.{due_of, total}
+use Rattle.ml_spec.specs.private.Sizes.{total}
 
 -- ---- formulas
 
@@ -40,21 +42,26 @@ joined_size l f fs are =
     let whole : occurrences (joined l (f ∷ fs)) ≡ occurrences f + total fs = all_size l f fs are.0 are.1 in
     omega (arith, whole, sum_by-cons (λ h. 1 + occurrences h) f fs)
 
-pub last_size : (l : Logic) (fs : List AnyFormula) (f : AnyFormula)
-    → AreOf l fs
-    → logic_of f ≡ l
-    → 1 + occurrences (joined l (fs ++ f ∷ [])) ≡ total fs + (1 + occurrences f)
-last_size l [] f are is = omega arith
-last_size l (g ∷ gs) f are is =
-    joined_size l g (gs ++ f ∷ []) (are.0, more gs are.1)
-    ∙ total_more (g ∷ gs)
-  where
-    more : (hs : List AnyFormula) → AreOf l hs → AreOf l (hs ++ f ∷ [])
-    more [] are = (is, tt)
-    more (h ∷ hs) are = (are.0, more hs are.1)
+truth_size : (l : Logic) → most_occurrences < occurrences (truth l) → ⊥
+truth_size logic.Mu long = omega (arith, long)
+truth_size logic.Pdl long = omega (arith, long)
+truth_size logic.Ctl long = omega (arith, long)
+truth_size logic.Ltl long = omega (arith, long)
+truth_size logic.Word long = omega (arith, long)
 
-    total_more : (hs : List AnyFormula) → total (hs ++ f ∷ []) ≡ total hs + (1 + occurrences f)
-    total_more hs = omega (arith, sum_by-append (λ h. 1 + occurrences h) hs (f ∷ []))
+pub long_joined : (l : Logic) (fs : List AnyFormula)
+    → AreOf l fs
+    → most_occurrences + 1 < total fs
+    → most_occurrences < occurrences (joined l fs)
+long_joined l [] are long = absurd (omega (arith, long))
+long_joined l (f ∷ fs) are long = omega (arith, long, joined_size l f fs are)
+
+pub long_total : (l : Logic) (fs : List AnyFormula)
+    → AreOf l fs
+    → most_occurrences < occurrences (joined l fs)
+    → most_occurrences + 1 < total fs
+long_total l [] are long = absurd (truth_size l long)
+long_total l (f ∷ fs) are long = omega (arith, long, joined_size l f fs are)
 
 -- ---- items
 
@@ -80,28 +87,3 @@ pub asked_sound : (k : Kind) (f : AnyFormula) → IsSound f → IsSound (asked_a
 asked_sound kind.Require f sound = sound
 asked_sound kind.Possible f sound = sound
 asked_sound kind.Follows f sound = negation_sound f sound
-
-pub part_size : (l : Logic) (xs before : List Item) (x : Item)
-    → AreItemsIn l xs
-    → AreItemsIn l before
-    → logic_of x.formula ≡ l
-    → 1 + occurrences (joined_at l xs before x) ≡ due_of x (total (requirements xs)) (total (requirements before))
-part_size l xs before x are earlier is = by x.kind refl
-  where
-    of_item : (k : Kind) → logic_of (asked_as k x.formula) ≡ l
-    of_item k = asked_logic k x.formula ∙ is
-
-    by : (k : Kind)
-        → x.kind ≡ k
-        → 1 + occurrences (joined l (parts_as k xs before x))
-        ≡ cond (is_requirement k) (total (requirements before)) (total (requirements xs)) + (1 + occurrences (asked x))
-    by kind.Require e =
-        last_size l (requirements before) x.formula (requirements_in l before earlier) is
-        ∙ ap (λ k. total (requirements before) + (1 + occurrences (asked_as k x.formula))) (sym e)
-    by kind.Possible e = last_size l (requirements xs) (asked x) (requirements_in l xs are) (of_item x.kind)
-    by kind.Follows e = last_size l (requirements xs) (asked x) (requirements_in l xs are) (of_item x.kind)
-
-pub asked_required : (k : Kind) (f : AnyFormula) → is_requirement k ≡ true → asked_as k f ≡ f
-asked_required kind.Require f is = refl
-asked_required kind.Possible f is = cc
-asked_required kind.Follows f is = cc

@@ -16,10 +16,6 @@ pub mod TextFaults
 pub mod JoinedSizes
 -- each text is read in one way, or has a first fault
 pub mod Readings
--- items whose joined formulas are small
-pub mod SmallItems
--- where joined formulas are too large
-pub mod LargeItems
 -- each text has one answer
 pub mod OneAnswer
 -- requirements that are chosen

@@ -12,18 +12,15 @@ use Rattle.ml_spec.specs.Items.{ItemText, behind_word, first_word, items_of}
 use Rattle.ml_spec.specs.Laws.{NeverBoth, OneRefusal, OneSpecification, SomeReading}
 use Rattle.ml_spec.specs.Places.{column_at, line_at}
 use Rattle.ml_spec.specs.RuleNumbers.{rule_number}
-use Rattle.ml_spec.specs.Specification.{first_filled, items_behind, AreSmall, IsReadAs, IsSpecification, TellsLogic}
+use Rattle.ml_spec.specs.Specification.{first_filled, items_behind, IsSpecification, TellsLogic}
 use Rattle.ml_spec.specs.declared.fault.Fault.{Fault}
 use Rattle.ml_spec.specs.declared.fault.Fault.TheVariants.{Breaks, NoMemory}
 use Rattle.ml_spec.specs.declared.rule.SpecRule.{SpecRule}
-use Rattle.ml_spec.specs.declared.rule.SpecRule.TheVariants.{Syntax, Unbound, NotPositive, TooMany, TooNested, NameTooLong, NoLogic, NoKind, NoName, NoColon, NameTaken, TooManyItems, TooLarge}
+use Rattle.ml_spec.specs.declared.rule.SpecRule.TheVariants.{Syntax, Unbound, NotPositive, TooMany, TooNested, NameTooLong, NoLogic, NoKind, NoName, NoColon, NameTaken, TooManyItems}
 use Rattle.ml_spec.specs.declared.specification.Item.{Item}
-use Rattle.ml_spec.specs.private.Sizes.{IsFirstLarge}
 use Rattle.ml_spec.specs.private.Stages.{IsReadTo, IsStopped, TellsAmong, TellsInText}
-use Rattle.ml_spec.proofs.LargeItems.{first_of_large, small_not_large}
 use Rattle.ml_spec.proofs.Readings.{items_answer, one_reading, read_whole}
-use Rattle.ml_spec.proofs.SmallItems.{small_answer, small_behind}
-use Rattle.ml_spec.proofs.TextFaults.{first_logic, first_of_items, large_alone}
+use Rattle.ml_spec.proofs.TextFaults.{first_logic, first_of_items, read_right}
 
 -- ---- what a reader of items tells
 
@@ -120,20 +117,13 @@ module _ (text : List ℕ) where
   refused r at first =
       inr (line_at text at, column_at text at, r, record { at = at; is_first = first; is_line = refl; is_column = refl })
 
-  by_size : (l : Logic) (xs : List Item) → IsReadAs plain l xs → Answered
-  by_size l xs read = by (small_answer l xs)
-    where
-      by : AreSmall l xs ⊎ ((at : ℕ) × IsFirstLarge l xs at) → Answered
-      by (inl small) = inl (l, xs, record { is_read = read; are_small = small })
-      by (inr (at, large)) = refused TooLarge at (first_of_large plain l xs read at large)
-
   by_items : (l : Logic) → TellsLogic plain l → Answered
   by_items l told = by (items_answer l (items_behind plain))
     where
       by : ((xs : List Item) × IsReadTo l (items_behind plain) [] xs)
           ⊎ ((r : SpecRule) × (at : ℕ) × IsStopped l (items_behind plain) r at)
           → Answered
-      by (inl (xs, read)) = by_size l xs (read_whole plain l xs told read)
+      by (inl (xs, read)) = inl (l, xs, read_whole plain l xs told read)
       by (inr (r, at, stopped)) = refused r at (first_of_items plain l told r at stopped)
 
   by_logic : Decided (TellsOne plain) → Answered
@@ -146,13 +136,11 @@ some_reading text = by_logic text (decided_logic (uncommented text))
 -- ---- one at most, and never both
 
 pub one_specification : OneSpecification
-one_specification text l k xs ys one other = one_reading (uncommented text) l k xs ys one.is_read other.is_read
+one_specification text l k xs ys one other = one_reading (uncommented text) l k xs ys one other
 
 pub never_both : NeverBoth
 never_both text l xs line column r is refused =
-    large_alone (uncommented text) l xs is.is_read (λ s k. ⊥)
-    (λ k found. small_not_large (uncommented text) l xs is.is_read (small_behind l xs is.are_small) k found)
-    r refused.at refused.is_first.comes
+    read_right (uncommented text) l xs is r refused.at refused.is_first.comes
 
 -- the rule with a number
 abbrev rule_of : ℕ → SpecRule
@@ -168,8 +156,7 @@ rule_of n =
     if n == 63 then NoName else
     if n == 64 then NoColon else
     if n == 65 then NameTaken else
-    if n == 66 then TooManyItems else
-    TooLarge
+    TooManyItems
 
 rule_read : (r : SpecRule) → rule_of (rule_number r) ≡ r
 rule_read Syntax = refl
@@ -184,7 +171,6 @@ rule_read NoName = refl
 rule_read NoColon = refl
 rule_read NameTaken = refl
 rule_read TooManyItems = refl
-rule_read TooLarge = refl
 
 one_rule : (r s : SpecRule) → rule_number r ≡ rule_number s → r ≡ s
 one_rule r s same = sym (rule_read r) ∙ ap rule_of same ∙ rule_read s

@@ -261,11 +261,9 @@ read_named l (i ∷ is) (x ∷ xs) are = (are.0.is_named, read_named l is xs are
 
 pub specified : (text : List ℕ) (l : Logic) (xs : List Item) → IsSpecification text l xs → IsSpecified l xs
 specified text l xs is =
-    let read = is.is_read in
     record {
-      of_logic = read_in l (items_behind (uncommented text)) xs read.are_items;
-      are_named = read_named l (items_behind (uncommented text)) xs read.are_items;
-      are_new = read.are_new;
-      are_few = read.are_few;
-      are_small = is.are_small;
+      of_logic = read_in l (items_behind (uncommented text)) xs is.are_items;
+      are_named = read_named l (items_behind (uncommented text)) xs is.are_items;
+      are_new = is.are_new;
+      are_few = is.are_few;
     }

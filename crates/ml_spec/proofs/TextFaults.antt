@@ -1,4 +1,4 @@
--- The faults of a text: of those of its items, one behind the other, and of the joined formulas.
+-- The faults of a text: of those of its items, one behind the other.
 --
 --   HasFault l seen is s k == some item of `is` has a fault, where these names stand before the items
 --   from_split             == a fault of an item among others is one of them
@@ -10,14 +10,14 @@ use Rattle.std.proofs.Common.{◌≡◌, ℕ, ◌+◌, ◌<◌, ◌≤◌, ◌�
 use Rattle.std.proofs.lemmas.List.{append-nil}
 use Rattle.ml_front.specs.declared.logic.Logic.{Logic}
 use Rattle.ml_front.proofs.Logics as logics
-use Rattle.ml_spec.specs.Faults.{HasItemFault, HasLargeItem, IsFault, IsFirstFault, IsItemFault}
+use Rattle.ml_spec.specs.Faults.{HasItemFault, IsFault, IsFirstFault, IsItemFault}
 use Rattle.ml_spec.specs.ItemParts.{name_of}
 use Rattle.ml_spec.specs.Items.{ItemText, behind_word, items_of}
 use Rattle.ml_spec.specs.Laws.{AreApart}
 use Rattle.ml_spec.specs.RuleNumbers.{rule_number}
 use Rattle.ml_spec.specs.Specification.{first_filled, items_behind, most_items, names, AreItemsOf, AreNew, IsReadAs, TellsLogic}
 use Rattle.ml_spec.specs.declared.rule.SpecRule.{SpecRule}
-use Rattle.ml_spec.specs.declared.rule.SpecRule.TheVariants.{Syntax, Unbound, NotPositive, TooMany, TooNested, NameTooLong, NoLogic, NoKind, NoName, NoColon, NameTaken, TooManyItems, TooLarge}
+use Rattle.ml_spec.specs.declared.rule.SpecRule.TheVariants.{Syntax, Unbound, NotPositive, TooMany, TooNested, NameTooLong, NoLogic, NoKind, NoName, NoColon, NameTaken, TooManyItems}
 use Rattle.ml_spec.specs.declared.specification.Item.{Item}
 use Rattle.ml_spec.specs.private.Stages.{AreNewBehind, IsFirstInItem, IsStopped}
 use Rattle.ml_spec.proofs.ItemFaults.{fault_place, no_fault}
@@ -189,37 +189,31 @@ pub read_behind : (text : List ℕ) (l : Logic) (xs : List Item)
 read_behind text l xs read =
     record { are_items = read.are_items; are_new = new_behind xs read.are_new; are_few = omega (arith, read.are_few) }
 
--- a text that is read has no fault but of joined formulas that are too large
+-- a text that is read has no fault
 module _ (text : List ℕ) (l : Logic) (xs : List Item) (read : IsReadAs text l xs) where
   no_item_fault : (s : SpecRule) (k : ℕ) → HasItemFault text s k → ⊥
   no_item_fault s k found =
       read_clean l [] (items_behind text) xs s k (read_behind text l xs read)
       (item_fault l text s k found (one_logic text found.logic l found.told read.tells_logic))
 
-  pub large_alone : (P : SpecRule → ℕ → Type 0)
-      → ((k : ℕ) → HasLargeItem text k → P TooLarge k)
-      → (s : SpecRule) (k : ℕ)
-      → IsFault text s k
-      → P s k
-  large_alone P large NoLogic k fault = absurd (fault.0 l read.tells_logic)
-  large_alone P large TooLarge k fault = large k fault
-  large_alone P large Syntax k fault = absurd (no_item_fault Syntax k fault)
-  large_alone P large Unbound k fault = absurd (no_item_fault Unbound k fault)
-  large_alone P large NotPositive k fault = absurd (no_item_fault NotPositive k fault)
-  large_alone P large TooMany k fault = absurd (no_item_fault TooMany k fault)
-  large_alone P large TooNested k fault = absurd (no_item_fault TooNested k fault)
-  large_alone P large NameTooLong k fault = absurd (no_item_fault NameTooLong k fault)
-  large_alone P large NoKind k fault = absurd (no_item_fault NoKind k fault)
-  large_alone P large NoName k fault = absurd (no_item_fault NoName k fault)
-  large_alone P large NoColon k fault = absurd (no_item_fault NoColon k fault)
-  large_alone P large NameTaken k fault = absurd (no_item_fault NameTaken k fault)
-  large_alone P large TooManyItems k fault = absurd (no_item_fault TooManyItems k fault)
+  pub read_right : (s : SpecRule) (k : ℕ) → IsFault text s k → ⊥
+  read_right NoLogic k fault = fault.0 l read.tells_logic
+  read_right Syntax k fault = no_item_fault Syntax k fault
+  read_right Unbound k fault = no_item_fault Unbound k fault
+  read_right NotPositive k fault = no_item_fault NotPositive k fault
+  read_right TooMany k fault = no_item_fault TooMany k fault
+  read_right TooNested k fault = no_item_fault TooNested k fault
+  read_right NameTooLong k fault = no_item_fault NameTooLong k fault
+  read_right NoKind k fault = no_item_fault NoKind k fault
+  read_right NoName k fault = no_item_fault NoName k fault
+  read_right NoColon k fault = no_item_fault NoColon k fault
+  read_right NameTaken k fault = no_item_fault NameTaken k fault
+  read_right TooManyItems k fault = no_item_fault TooManyItems k fault
 
 -- the first fault of a text that tells no logic
 module _ (text : List ℕ) (none : (l : Logic) → ¬ (TellsLogic text l)) where
   logic_alone : (s : SpecRule) (k : ℕ) → IsFault text s k → (first_filled text ≡ k) × (61 ≤ rule_number s)
   logic_alone NoLogic k fault = (sym fault.1, omega arith)
-  logic_alone TooLarge k fault = absurd (none fault.logic fault.is_read.tells_logic)
   logic_alone Syntax k fault = absurd (none fault.logic fault.told)
   logic_alone Unbound k fault = absurd (none fault.logic fault.told)
   logic_alone NotPositive k fault = absurd (none fault.logic fault.told)
@@ -273,16 +267,8 @@ module _ (text : List ℕ) (l : Logic) (told : TellsLogic text l) (r : SpecRule)
         (names_read stopped.is_read.done stopped.items stopped.is_read.are_items) stopped.is_first.comes;
   }
 
-  not_read : (k : Logic) (xs : List Item) → IsReadAs text k xs → ⊥
-  unfolding found_item
-  not_read k xs read =
-      let same = one_logic text k l read.tells_logic told in
-      let read_here = subst (λ m. IsReadAs text m xs) same read in
-      read_clean l [] (items_behind text) xs r at (read_behind text l xs read_here) (item_fault l text r at found_item refl)
-
   comes_by : (q : SpecRule) → HasItemFault text q at → IsItemFault l (names stopped.items) stopped.item q at → IsFault text q at
   comes_by NoLogic found here = absurd here.1.1
-  comes_by TooLarge found here = absurd here.1.1
   comes_by Syntax found here = found
   comes_by Unbound found here = found
   comes_by NotPositive found here = found
@@ -297,7 +283,6 @@ module _ (text : List ℕ) (l : Logic) (told : TellsLogic text l) (r : SpecRule)
 
   first_fault : (s : SpecRule) (k : ℕ) → IsFault text s k → ComesBehind l r at s k
   first_fault NoLogic k fault = absurd (fault.0 l told)
-  first_fault TooLarge k fault = absurd (not_read fault.logic fault.items fault.is_read)
   first_fault Syntax k fault = item_first Syntax k fault
   first_fault Unbound k fault = item_first Unbound k fault
   first_fault NotPositive k fault = item_first NotPositive k fault

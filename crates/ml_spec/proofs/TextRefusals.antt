@@ -19,7 +19,7 @@ use Rattle.ml_front.proofs.Logics.{formula_or_refused}
 use Rattle.ml_spec.specs.Faults.{IsTextRefused}
 use Rattle.ml_spec.specs.declared.rule.SpecRule.{SpecRule}
 use Rattle.ml_spec.specs.private.Stages.{told_byte, told_rule}
-use Rattle.ml_spec.specs.declared.rule.SpecRule.TheVariants.{Syntax, Unbound, NotPositive, TooMany, TooNested, NameTooLong, NoLogic, NoKind, NoName, NoColon, NameTaken, TooManyItems, TooLarge}
+use Rattle.ml_spec.specs.declared.rule.SpecRule.TheVariants.{Syntax, Unbound, NotPositive, TooMany, TooNested, NameTooLong, NoLogic, NoKind, NoName, NoColon, NameTaken, TooManyItems}
 
 pub refused_once : (l : Logic) (text : List ℕ) (e d : ParseRefusal)
     → e ≢ refusal.NoMemory
@@ -53,7 +53,6 @@ is_told l text NoName k is = absurd is
 is_told l text NoColon k is = absurd is
 is_told l text NameTaken k is = absurd is
 is_told l text TooManyItems k is = absurd is
-is_told l text TooLarge k is = absurd is
 
 pub refused_by : (l : Logic) (text : List ℕ) (e : ParseRefusal) (r : SpecRule)
     → told_rule e ≡ Some r

@@ -1,36 +1,29 @@
 -- Why a text is no specification, and where.
 --
 -- A text may break rules at several places. The one at the least place is told, and of several at one place the one with the
--- lowest number. Where no logic is told nothing else is asked. The last rule speaks only of texts that read as items: so it
--- is told only where no other is broken.
+-- lowest number. Where no logic is told nothing else is asked.
 --
 --   IsTextRefused l text r k      == the text is refused as a formula of the logic l, by the rule r of the parser at its byte k
 --   IsTextFault l i r at          == so is the text of the item i, the place being where the rest of it from that byte on begins
 --   IsItemFault l names i r at    == the item i breaks the rule r at this place of the text, where `names` stand as the names
 --                                    of the items before it
 --   HasItemFault text r at        == some item behind the first one does
---   HasLargeItem text at          == the text reads as items, and the joined formula that one must keep small, which begins at
---                                    this place, is too large
 --   IsFault text r at             == the text, whose comments are blanks by now, breaks the rule r at this place
 --   IsFirstFault text r at        == this is the first of all: the least place, and there the lowest number
 --   IsRefused text line column r  == the text, which may have comments, is refused by the rule r at this line and column
 use Rattle.std.specs.Prelude.{ℕ, ◌≡◌, ◌<◌, ◌≤◌, ◌⊎◌, false, List, ◌∷◌, ◌++◌, drop, length, map, Contains}
 use Rattle.ml_base.specs.declared.parse_refusal.ParseRefusal.TheVariants as refusal
-use Rattle.ml_text.specs.Limits.{most_occurrences}
 use Rattle.ml_front.specs.Logics.{IsRefusedBy}
 use Rattle.ml_front.specs.declared.logic.Logic.{Logic}
 use Rattle.ml_spec.specs.Comments.{uncommented}
 use Rattle.ml_spec.specs.ItemParts.{behind_kind, behind_name, name_of, place_of, text_of, HasColon, HasKind, HasName, IsOfKind}
 use Rattle.ml_spec.specs.Items.{ItemText, begins_with_colon, is_name}
-use Rattle.ml_front.specs.Connectives.{occurrences}
-use Rattle.ml_spec.specs.Joined.{joined_at}
 use Rattle.ml_spec.specs.Places.{column_at, line_at}
 use Rattle.ml_spec.specs.RuleNumbers.{rule_number}
-use Rattle.ml_spec.specs.Specification.{first_filled, items_behind, most_items, IsReadAs, TellsLogic}
+use Rattle.ml_spec.specs.Specification.{first_filled, items_behind, most_items, TellsLogic}
 use Rattle.ml_spec.specs.declared.kind.Kind.{Kind}
 use Rattle.ml_spec.specs.declared.rule.SpecRule.{SpecRule}
-use Rattle.ml_spec.specs.declared.rule.SpecRule.TheVariants.{Syntax, Unbound, NotPositive, TooMany, TooNested, NameTooLong, NoLogic, NoKind, NoName, NoColon, NameTaken, TooManyItems, TooLarge}
-use Rattle.ml_spec.specs.declared.specification.Item.{Item}
+use Rattle.ml_spec.specs.declared.rule.SpecRule.TheVariants.{Syntax, Unbound, NotPositive, TooMany, TooNested, NameTooLong, NoLogic, NoKind, NoName, NoColon, NameTaken, TooManyItems}
 
 -- ---- an item
 
@@ -65,20 +58,8 @@ pub record HasItemFault (text : List ℕ) (r : SpecRule) (at : ℕ) : Type 0 whe
   pub are_items : items_behind text ≡ before ++ item ∷ after
   pub is_fault : IsItemFault logic (map name_of before) item r at
 
-pub record HasLargeItem (text : List ℕ) (at : ℕ) : Type 0 where
-  pub logic : Logic
-  pub items : List Item
-  pub is_read : IsReadAs text logic items
-  pub before : List Item
-  pub item : Item
-  pub after : List Item
-  pub are_items : items ≡ before ++ item ∷ after
-  pub is_large : most_occurrences < occurrences (joined_at logic items before item)
-  pub is_at : at ≡ item.at
-
 abbrev pub IsFault : List ℕ → SpecRule → ℕ → Type 0
 IsFault text NoLogic at = ((l : Logic) → ¬ (TellsLogic text l)) × (at ≡ first_filled text)
-IsFault text TooLarge at = HasLargeItem text at
 IsFault text r at = HasItemFault text r at
 
 pub record IsFirstFault (text : List ℕ) (r : SpecRule) (at : ℕ) : Type 0 where

@@ -8,7 +8,7 @@ pub mod Kinds
 pub mod ItemParts
 -- lines and columns
 pub mod Places
--- formulas joined
+-- the formulas of requirements and of a question
 pub mod Joined
 -- questions
 pub mod Questions

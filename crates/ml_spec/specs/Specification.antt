@@ -11,22 +11,17 @@
 --   AreItemsOf l is xs   == so do these, one by one
 --   names xs             == the names of the items xs
 --   AreNew xs            == no item has a name that an item before it has
---   IsReadAs text l xs   == the text reads as the items xs of the logic l, whose joined formulas may be too large
---   AreSmall l xs        == the joined formulas of xs have no more occurrences than a formula may have
---   IsSpecification text l xs == the text, which may have comments, is a specification: it reads as these items, and their joined
---                           formulas are small
+--   IsReadAs text l xs   == the text reads as the items xs of the logic l
+--   IsSpecification text l xs == so does the text, which may have comments, without them: it is a specification
 --   IsSpecified l xs     == what holds of the items of each specification
 use Rattle.std.specs.Prelude.{ℕ, ◌≡◌, ◌≤◌, ⊤, true, List, [], ◌∷◌, ◌++◌, codes, drop, length, map, Contains}
 use Rattle.std.specs.List.{prefix_len, AllByRecursion}
 use Rattle.ml_text.specs.Bytes.{is_blank}
-use Rattle.ml_text.specs.Limits.{most_occurrences}
 use Rattle.ml_front.specs.Logics.{logic_of, logic_word, IsParsedAs}
 use Rattle.ml_front.specs.declared.logic.Logic.{Logic}
 use Rattle.ml_spec.specs.Comments.{uncommented}
 use Rattle.ml_spec.specs.ItemParts.{behind_name, name_of, text_of, HasKind}
 use Rattle.ml_spec.specs.Items.{ItemText, behind_word, begins_with_colon, first_word, is_name, items_of}
-use Rattle.ml_front.specs.Connectives.{occurrences}
-use Rattle.ml_spec.specs.Joined.{joined_at}
 use Rattle.ml_spec.specs.declared.specification.Item.{Item}
 use Rattle.ml_spec.specs.declared.specification.TheConstants.{MOST_ITEMS}
 
@@ -80,19 +75,11 @@ pub record IsReadAs (text : List ℕ) (l : Logic) (xs : List Item) : Type 0 wher
   pub are_new : AreNew xs
   pub are_few : length xs ≤ most_items
 
-abbrev pub AreSmall : Logic → List Item → Type 0
-AreSmall l xs =
-    (before : List Item) (x : Item) (after : List Item)
-    → xs ≡ before ++ x ∷ after
-    → occurrences (joined_at l xs before x) ≤ most_occurrences
-
-pub record IsSpecification (text : List ℕ) (l : Logic) (xs : List Item) : Type 0 where
-  pub is_read : IsReadAs (uncommented text) l xs
-  pub are_small : AreSmall l xs
+abbrev pub IsSpecification : List ℕ → Logic → List Item → Type 0
+IsSpecification text l xs = IsReadAs (uncommented text) l xs
 
 pub record IsSpecified (l : Logic) (xs : List Item) : Type 0 where
   pub of_logic : AllByRecursion (λ x. logic_of x.formula ≡ l) xs
   pub are_named : AllByRecursion (λ x. is_name x.name ≡ true) xs
   pub are_new : AreNew xs
   pub are_few : length xs ≤ most_items
-  pub are_small : AreSmall l xs

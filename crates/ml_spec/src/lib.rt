@@ -8,7 +8,7 @@
 //     follows shut: G(fire -> !open)
 //
 // The calls to know: `read` gives the `Specification` of a text, or tells at which line and column it breaks which rule first;
-// `joined` gives the problem of some requirements and a question together.
+// `joined` gives the problem of some requirements and a question together, where it isn't too long for one formula.
 //
 // What a specification is stands in `specs/Specification.antt`, which rules a text may break and where in `specs/Faults.antt`, and
 // what is joined in `specs/Joined.antt` and `specs/Questions.antt`. `laws` says that each text is one specification or has one
@@ -35,7 +35,6 @@ mod question;
 mod reading;
 mod refusal;
 mod rule;
-mod sizes;
 mod specification;
 
 pub use comments::uncommented;

@@ -1,8 +1,7 @@
 // Reading a specification from its text.
 //
-// `told_logic` reads the first item, `add_items` the others, one after the other, with the names that were seen, and
-// `first_too_large` asks for the sizes at the end. Each answers the first fault of what it reads; what lies behind a fault is
-// not read.
+// `told_logic` reads the first item, and `add_items` the others, one after the other, with the names that were seen. Each answers
+// the first fault of what it reads; what lies behind a fault is not read.
 ghost use Rattle.std.specs.Prelude.{◌≡◌, ◌≤◌, [], ℕ, List, codes, length, IfOk, IfErr, IsErrOf, MatchOption, OnOk};
 ghost use Rattle.ml_front.specs.Logics.{logic_word};
 ghost use Rattle.ml_front.specs.declared.logic.Logic as declared;
@@ -10,7 +9,7 @@ ghost use Rattle.ml_spec.specs.Comments as comments;
 ghost use Rattle.ml_spec.specs.Faults.{IsRefused};
 ghost use Rattle.ml_spec.specs.Items.{behind_word, first_word};
 ghost use Rattle.ml_spec.specs.Scan.{items_at};
-ghost use Rattle.ml_spec.specs.Specification.{items_behind, AreSmall, IsReadAs, IsSpecification, IsSpecified, TellsLogic};
+ghost use Rattle.ml_spec.specs.Specification.{items_behind, IsReadAs, IsSpecification, IsSpecified, TellsLogic};
 ghost use Rattle.ml_spec.specs.declared.specification.Item as plain;
 ghost use Rattle.ml_spec.specs.private.Stages.{IsReadTo, TellsAmong, TellsInText, TellsRefusal};
 
@@ -23,7 +22,6 @@ use crate::parts::{blank_length, split_word};
 use crate::place::line_and_column;
 use crate::refusal::SpecRefusal;
 use crate::rule::SpecRule;
-use crate::sizes::first_too_large;
 use crate::specification::{Item, Specification};
 use indexmap::IndexSet;
 use ml_front::Logic;
@@ -75,7 +73,6 @@ fn refusal(text: &[u8], fault: Fault) -> SpecRefusal
 // the specification of a text without comments
 fn read_plain(alloc: Global, text: &[u8]) -> Result<Specification, Fault>
     ensures read { IfOk result (λ s. IsReadAs text.now s.logic s.items.items) }
-    ensures small { IfOk result (λ s. AreSmall s.logic s.items.items) }
     ensures refused { IfErr result (TellsInText text.now) }
 {
     let Some((logic, from)) = told_logic(text) else {
@@ -84,16 +81,9 @@ fn read_plain(alloc: Global, text: &[u8]) -> Result<Specification, Fault>
             at: blank_length(text),
         });
     };
-    let items = match read_items(alloc, logic, text, from) {
-        Ok(items) => items,
-        Err(fault) => return Err(fault),
-    };
-    match first_too_large(&items) {
-        Some(at) => Err(Fault::Breaks {
-            rule: SpecRule::TooLarge,
-            at,
-        }),
-        None => Ok(Specification { logic, items }),
+    match read_items(alloc, logic, text, from) {
+        Ok(items) => Ok(Specification { logic, items }),
+        Err(fault) => Err(fault),
     }
 }
 

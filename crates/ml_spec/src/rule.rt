@@ -29,12 +29,10 @@ pub enum SpecRule {
     NameTaken,
     /// More items than the limit.
     TooManyItems,
-    /// Requirements, or requirements and a question, that are too large where they are joined.
-    TooLarge,
 }
 
 impl SpecRule {
-    /// The number by which a refusal tells this rule: 1 to 6, or 61 to 67.
+    /// The number by which a refusal tells this rule: 1 to 6, or 61 to 66.
     pub fn number(self) -> u32
         ensures { result ≡ rule_number self }
     {
@@ -51,7 +49,6 @@ impl SpecRule {
             SpecRule::NoColon => 64,
             SpecRule::NameTaken => 65,
             SpecRule::TooManyItems => 66,
-            SpecRule::TooLarge => 67,
         }
     }
 }

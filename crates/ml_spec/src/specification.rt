@@ -4,7 +4,7 @@ use crate::name::ItemName;
 use ml_front::{AnyFormula, Logic};
 
 /// How many items a specification has at most.
-pub const MOST_ITEMS: usize = 256;
+pub const MOST_ITEMS: usize = 4_096;
 
 /// A requirement or a question.
 #[derive(Drop)]

@@ -1,5 +1,6 @@
 // Texts of requirements and questions, with what `ml_spec` answers.
 use ml_base::NoMemory;
+use ml_front::Problem;
 use ml_lines::write_number;
 use ml_spec::{Question, SpecRefusal, joined, read};
 use std::alloc::Global;
@@ -89,10 +90,8 @@ fn refused_at(alloc: Global, count: u32, text: &[u8]) -> Result<Option<(u64, u32
 
 #[test]
 fn limits(rt: HostRuntime) -> Result<(), Fail> {
-    assert_eq!(rt; refused_at(rt.alloc(), 256, b"p")?, None);
-    assert_eq!(rt; refused_at(rt.alloc(), 257, b"p")?, Some((258, 66)));
-    assert_eq!(rt; refused_at(rt.alloc(), 250, b"p & p")?, None);
-    assert_eq!(rt; refused_at(rt.alloc(), 251, b"p & p")?, Some((252, 67)));
+    assert_eq!(rt; refused_at(rt.alloc(), 4096, b"p & p")?, None);
+    assert_eq!(rt; refused_at(rt.alloc(), 4097, b"p & p")?, Some((4098, 66)));
     Ok(())
 }
 
@@ -111,8 +110,15 @@ fn is_joined(
     if taken.len() != specification.items.len() || !question.is_of(&specification.items) {
         return Ok(false);
     }
-    let problem = joined(alloc, &specification, taken, question)?;
-    Ok(ml_front::print(alloc, &problem)?.as_slice() == text)
+    is_text(alloc, joined(alloc, &specification, taken, question)?, text)
+}
+
+// is there a problem, and is this its formula?
+fn is_text(alloc: Global, problem: Option<Problem>, text: &[u8]) -> Result<bool, SpecRefusal> {
+    match problem {
+        Some(problem) => Ok(ml_front::print(alloc, &problem)?.as_slice() == text),
+        None => Ok(false),
+    }
 }
 
 #[test]
@@ -144,6 +150,32 @@ fn formulas_joined(rt: HostRuntime) -> Result<(), Fail> {
         )?
     );
     let none = [false, false, false, false];
-    assert!(rt; is_joined(rt.alloc(), &none, Question::Consistent, b"tt")?);
+    assert!(rt; is_joined(rt.alloc(), &none, Question::Rest, b"tt")?);
+    Ok(())
+}
+
+fn all_taken(alloc: Global, count: usize) -> Result<Vec<bool>, NoMemory> {
+    let mut taken = Vec::new(alloc);
+    for _ in 0..count {
+        taken.push(true)?;
+    }
+    Ok(taken)
+}
+
+// is the joined formula of so many requirements with this formula too long to be held?
+fn is_too_long(alloc: Global, count: u32, text: &[u8]) -> Result<bool, SpecRefusal> {
+    let all = many(alloc, count, text)?;
+    let specification = read(alloc, &all)?;
+    let taken = all_taken(alloc, specification.items.len())?;
+    if taken.len() != specification.items.len() {
+        return Ok(false);
+    }
+    Ok(joined(alloc, &specification, &taken, Question::Consistent)?.is_none())
+}
+
+#[test]
+fn formulas_too_long(rt: HostRuntime) -> Result<(), Fail> {
+    assert!(rt; !is_too_long(rt.alloc(), 250, b"p & p")?);
+    assert!(rt; is_too_long(rt.alloc(), 251, b"p & p")?);
     Ok(())
 }

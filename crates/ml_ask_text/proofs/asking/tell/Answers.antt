@@ -1,7 +1,6 @@
-use Rattle.std.proofs.Common.{map, ap, ◌∙◌}
-use Rattle.ml_ask_text.specs.Told.{verdict_of}
-use Rattle.ml_ask_text.specs.private.Plain.{replied_of}
-use Rattle.ml_ask_text.proofs.WrittenFiles.{plain_replies}
+use Rattle.std.proofs.Common.{map, sym, ap, subst, ◌∙◌}
+use Rattle.ml_ask.specs.Answers.{replied_of}
+use Rattle.ml_ask_text.specs.Told.{verdict_of, IsWrittenAs}
 use Rattle.ml_ask_text.proofs.asking.tell.Goals as goal
 
 pub returns : goal.returns
@@ -13,8 +12,8 @@ returns c =
       items = s.items.items;
       replies = rs;
       is_specification = c.requires.is_specification;
-      are_replies = plain_replies s.logic s.items.items c.args._limit c.args.answers.now c.requires.answers;
-      are_shown = c.in_ok-bytes.ensures.shown;
-      is_verdict = c.verdict_of-verdict.ensures ∙ ap (λ xs. verdict_of xs rs) c.deref.ensures.value;
-      is_written = c.new.ensures ∙ c.in_ok-bytes.ensures.text;
+      are_replies = c.requires.answers;
+      is_verdict = c.verdict_of-verdict.ensures ∙ ap (λ xs. verdict_of xs rs) c.deref-2.ensures.value;
+      is_written = subst (IsWrittenAs c.args.form s.items.items rs) (sym c.new.ensures)
+          (subst (λ xs. IsWrittenAs c.args.form xs rs c.in_ok-bytes.bytes.items) c.deref.ensures.value c.in_ok-bytes.ensures);
     }

@@ -1,7 +1,13 @@
-use Rattle.ml_ask_text.proofs.WrittenFiles.{tellable}
+use Rattle.std.proofs.Common.{IfOk, map, sym, subst}
+use Rattle.ml_ask.specs.Answers.{replied_of}
+use Rattle.ml_ask_text.specs.Told.{IsWrittenAs}
+use Rattle.ml_ask_text.proofs.WrittenDocuments.{document_told}
 use Rattle.ml_ask_text.proofs.asking.written.Goals as goal
 
-pub files_of-requires-clause-tellable : goal.files_of-requires-clause-tellable
-files_of-requires-clause-tellable c =
-    let s = c.args.specification.now in
-    tellable s.logic s.items.items c.args._limit c.args.answers.now c.requires.answers
+pub returns-in-Files : goal.returns-in-Files
+returns-in-Files c =
+    let xs = c.args.items.now in
+    let rs = map replied_of c.args.answers.now in
+    subst (λ form. IfOk c.document_of.result (λ bytes. IsWrittenAs form xs rs bytes.items)) (sym c.in-Files.is)
+    (document_told c.args._logic xs c.args._limit rs c.document_of.result (λ bytes. bytes.items) c.requires
+    c.document_of.ensures.text c.document_of.ensures.shown)

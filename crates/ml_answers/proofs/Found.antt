@@ -1,0 +1,154 @@
+-- What is found of a text.
+--
+--   found_there    == where a line is found, it stands
+--   found_start    == and before it stand whole lines
+--   title_there    == so a document begins with its title
+--   checked_found  == what comes of the answers of a document is found
+--   fault_found    == so is a fault of the document
+use Rattle.std.proofs.Common.{◌≡◌, ℕ, ◌+◌, ◌-◌, ◌<◌, ◌≤◌, ◌||◌, Bool, true, false, cond, List, [], ◌∷◌, ◌++◌, Option, None, Some, codes, length, take, drop, refl, sym, ap, subst, ◌∙◌, arith}
+use Rattle.std.specs.List.{list_any}
+use Rattle.std.specs.Str.{bytes_eq}
+use Rattle.std.proofs.lemmas.Bool.Decides.{nat_tests}
+use Rattle.std.proofs.lemmas.List.{append_assoc, drop-drop, drop_at, length-append}
+use Rattle.std.proofs.lemmas.Option.{none-some}
+use Rattle.std.proofs.lemmas.Slice.Eq.{bytes_eq-Decides}
+use Rattle.ml_base.specs.declared.doc_fault.DocFault.{DocFault}
+use Rattle.ml_base.specs.declared.doc_refusal.DocRefusal.{DocRefusal}
+use Rattle.ml_base.specs.declared.doc_refusal.DocRefusal.TheVariants as refusal
+use Rattle.ml_front.specs.declared.logic.Logic.{Logic}
+use Rattle.ml_lines.specs.Lines.{line_text}
+use Rattle.ml_lines.specs.Reading.{is_line_end}
+use Rattle.ml_spec.specs.Specification.{IsSpecification}
+use Rattle.ml_spec.specs.declared.specification.Item.{Item}
+use Rattle.ml_replies.specs.Meeting.{everything}
+use Rattle.ml_answers.specs.Checked.{lines_from, longest_specification, placed, IsCheckedAs, IsFoundFrom, IsFoundIn, IsVerdict}
+use Rattle.ml_answers.specs.Documents.{title_line}
+use Rattle.ml_answers.specs.Rules.{IsAnswersFault}
+use Rattle.ml_answers.specs.Texts.{first_line, line_count, line_from, IsLine, IsThen}
+use Rattle.ml_answers.specs.declared.finding.AnswersFinding.{AnswersFinding}
+use Rattle.ml_answers.specs.declared.finding.AnswersFinding.TheVariants.{NoDocument, OpenAt, Refused, Right, TooLong, Unreadable, WrongAt}
+use Rattle.ml_answers.specs.declared.rest.Rest.{Rest}
+use Rattle.ml_answers.specs.declared.stated.Stated.{Stated}
+use Rattle.ml_answers.specs.private.Plain as plain
+use Rattle.ml_answers.specs.private.Plain.{replies_of}
+use Rattle.ml_answers.specs.private.Reads.{AreReadBehind, TellsFault}
+
+-- ---- the line that is found
+
+pub record IsThere (w text seen : List ℕ) (at k : ℕ) : Type 0 where
+  pub is_behind : at ≤ k
+  pub rest : List ℕ
+  pub is_line : drop (k - at) (seen ++ text) ≡ w ++ 10 ∷ rest
+
+found_there : (w text : List ℕ) (at : ℕ) (seen : List ℕ) (k : ℕ)
+    → line_from w at seen text ≡ Some k
+    → IsThere w text seen at k
+found_there w [] at seen k e = absurd (none-some k e)
+found_there w (b ∷ bs) at seen k e = go (is_line_end b) refl (bytes_eq seen w) refl (found_there w bs) e
+  where
+    go : (t : Bool)
+        → is_line_end b ≡ t
+        → (u : Bool)
+        → bytes_eq seen w ≡ u
+        → ((at : ℕ) (seen : List ℕ) (k : ℕ) → line_from w at seen bs ≡ Some k → IsThere w bs seen at k)
+        → cond t (cond u (Some at) (line_from w (at + length seen + 1) [] bs)) (line_from w at (seen ++ b ∷ []) bs)
+        ≡ Some k
+        → IsThere w (b ∷ bs) seen at k
+    go true lf true same rest e =
+        let here : at ≡ k = cc in
+        let is_lf : b ≡ 10 = grind (arith, nat_tests) in
+        let none : k - at ≡ 0 = omega (arith, here) in
+        record {
+          is_behind = omega (arith, here);
+          rest = bs;
+          is_line =
+            ap (λ n. drop n (seen ++ b ∷ bs)) none
+            ∙ ap (λ c. seen ++ c ∷ bs) is_lf
+            ∙ ap (λ v. v ++ 10 ∷ bs) ((bytes_eq-Decides seen w).0 same);
+        }
+    go true lf false other rest e =
+        let later = rest (at + length seen + 1) [] k e in
+        let skip : k - at ≡ length seen + 1 + (k - (at + length seen + 1)) = omega (arith, later.is_behind) in
+        let front : drop (length seen + 1) (seen ++ b ∷ bs) ≡ bs =
+        ap (drop (length seen + 1)) (sym (append_assoc seen (b ∷ []) bs))
+        ∙ drop_at (seen ++ b ∷ []) bs (length seen + 1) (length-append seen (b ∷ [])) in
+        record {
+          is_behind = omega (arith, later.is_behind);
+          rest = later.rest;
+          is_line =
+            ap (λ n. drop n (seen ++ b ∷ bs)) skip
+            ∙ sym (drop-drop (k - (at + length seen + 1)) (length seen + 1) (seen ++ b ∷ bs))
+            ∙ ap (drop (k - (at + length seen + 1))) front
+            ∙ later.is_line;
+        }
+    go false lf u is rest e =
+        let later = rest at (seen ++ b ∷ []) k e in
+        record {
+          is_behind = later.is_behind;
+          rest = later.rest;
+          is_line = ap (drop (k - at)) (sym (append_assoc seen (b ∷ []) bs)) ∙ later.is_line;
+        }
+
+pub title_there : (text : List ℕ) (at : ℕ)
+    → first_line (codes "mlsolver answers 1") text ≡ Some at
+    → IsThen (IsLine title_line) (λ t. Unit {0}) (drop at text)
+title_there text at e =
+    let there = found_there (codes "mlsolver answers 1") text 0 [] at e in
+    let same : at ≡ at - 0 = omega arith in
+    record {
+      first = line_text title_line;
+      second = there.rest;
+      are_both = ap (λ n. drop n text) same ∙ there.is_line;
+      is_first = refl;
+      is_second = tt;
+    }
+
+-- ---- what is found
+
+pub checked_found : (spec : List ℕ) (l : Logic) (xs : List Item) (at : Rest) (stated : List Stated) (x : AnswersFinding)
+    → length spec ≤ longest_specification
+    → IsSpecification spec l xs
+    → at.line ≡ 1 + line_count spec
+    → AreReadBehind xs at stated
+    → IsVerdict l xs (placed everything (replies_of stated) (plain.lines_of stated)) x
+    → IsFoundIn spec at.text.now x
+checked_found spec l xs at stated x short is line read verdict = by x verdict
+  where
+    checked : (x : AnswersFinding)
+        → IsVerdict l xs (placed everything (replies_of stated) (plain.lines_of stated)) x
+        → IsCheckedAs l xs (1 + line_count spec) at.text.now x
+    checked x verdict = record {
+      replies = replies_of stated;
+      texts = read.texts;
+      are_all = read.are_all;
+      are_texts = read.are_texts;
+      is_text = read.is_text;
+      is_verdict =
+        subst (λ ks. IsVerdict l xs (placed everything (replies_of stated) ks) x)
+        (read.are_lines ∙ ap (λ k. lines_from (k + 1) read.texts) line) verdict;
+    }
+    by : (x : AnswersFinding)
+        → IsVerdict l xs (placed everything (replies_of stated) (plain.lines_of stated)) x
+        → IsFoundIn spec at.text.now x
+    by Right verdict = (short, (l, xs, is, checked Right verdict))
+    by (OpenAt k) verdict = (short, (l, xs, is, checked (OpenAt k) verdict))
+    by (WrongAt k) verdict = (short, (l, xs, is, checked (WrongAt k) verdict))
+    by TooLong verdict = absurd verdict
+    by (NoDocument k c) verdict = absurd verdict
+    by (Refused k c r) verdict = absurd verdict
+    by (Unreadable f) verdict = absurd verdict
+
+pub fault_found : (spec : List ℕ) (l : Logic) (xs : List Item) (at : Rest) (fault : DocFault)
+    → length spec ≤ longest_specification
+    → IsSpecification spec l xs
+    → at.line ≡ 1 + line_count spec
+    → TellsFault (IsAnswersFault xs) at (refusal.Fault fault)
+    → IsFoundIn spec at.text.now (Unreadable fault)
+fault_found spec l xs at fault short is line tells =
+    (short, (l, xs, is, subst (λ k. IsAnswersFault xs k at.text.now fault) line tells))
+
+pub found_from : (text : List ℕ) (at : ℕ) (x : AnswersFinding)
+    → first_line (codes "mlsolver answers 1") text ≡ Some at
+    → IsFoundIn (take at text) (drop at text) x
+    → IsFoundFrom (first_line (codes "mlsolver answers 1") text) text x
+found_from text at x e found = subst (λ o. IsFoundFrom o text x) (sym e) found

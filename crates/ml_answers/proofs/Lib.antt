@@ -1,0 +1,40 @@
+-- texts cut at their lines
+pub mod FirstLines
+-- marks of items, and the names by which they are told
+pub mod Marking
+-- words behind `because`, cut at `perhaps:`
+pub mod Splitting
+-- items that are marked one by one
+pub mod Scanning
+-- cores, and the marks of the items that they name
+pub mod MarkedCores
+-- reading on, from place to place
+pub mod Reading
+-- lines of answers, and what they tell
+pub mod AnswerLines
+-- bodies that name requirements, read part by part
+pub mod PartsRead
+-- documents, read answer by answer
+pub mod DocumentRead
+-- requirements that are told by flags
+pub mod SameSets
+-- what comes of answers, one after the other
+pub mod Judgments
+-- nothing is both shown and wrong
+pub mod NeverWrong
+-- what is read answers questions of the specification
+pub mod Judgable
+-- answers that are all shown are those of the specification
+pub mod RightAnswers
+-- what is found of a text
+pub mod Found
+-- refutations checked in a graph of a problem
+pub mod Refuted
+-- flags from which others are left out
+pub mod Leaving
+-- the next answer, where answers are judged one after the other
+pub mod NextAnswer
+-- what stands before a line that is found
+pub mod WholeLines
+-- answers that are found right are those of their specification
+pub mod RightIsTrue

@@ -1,0 +1,10 @@
+use Rattle.std.proofs.Common.{◌≡◌, ◌++◌, ℕ, Bool, drop, length}
+use Rattle.ml_answers.specs.private.Marks.{scan, Scanned}
+use Rattle.ml_answers.specs.private.Words.{words_left, Agrees}
+use Rattle.ml_answers.proofs.Scanning.{IsScannedTo}
+use Rattle.ml_answers.proofs.names.mark_items.Given as goal
+
+abbrev pub invariant-loop-number : goal.invariant-loop-number
+invariant-loop-number l =
+    IsScannedTo l.items l.among l.number l.marks.items (words_left l.fn.needed) (words_left l.fn.perhaps)
+    (words_left l.needed) (words_left l.perhaps)

@@ -1,0 +1,10 @@
+-- how a line marks items by their names
+pub mod Marks
+-- words that are read one by one
+pub mod Words
+-- plain values of what is read
+pub mod Plain
+-- what the reader knows
+pub mod Reads
+-- what comes of answers
+pub mod Judged

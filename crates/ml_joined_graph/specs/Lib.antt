@@ -1,0 +1,2 @@
+-- what a finding looks like
+pub mod Findings

@@ -1,0 +1,41 @@
+// What is told of answers to files of requirements that aren't shown, or stay open.
+
+use crate::rules::of_wrong_answer;
+use crate::shown::{line_of, shown};
+use std::alloc::{AllocError, Global};
+
+/// Why the answer in this line isn't shown.
+pub(crate) fn wrong_answer(alloc: Global, input: &[u8], line: usize) -> Result<String, AllocError> {
+    let answer = line_of(input, line).unwrap_or(b"");
+    told(
+        alloc,
+        answer,
+        line,
+        of_wrong_answer(has_word(answer, b"because")),
+    )
+}
+
+/// Why the answer in this line stays open.
+pub(crate) fn open_answer(alloc: Global, input: &[u8], line: usize) -> Result<String, AllocError> {
+    let answer = line_of(input, line).unwrap_or(b"");
+    told(alloc, answer, line, of_open_answer(answer))
+}
+
+fn of_open_answer(answer: &[u8]) -> &'static str {
+    if has_word(answer, b"open") {
+        "it is left open"
+    } else if has_word(answer, b"perhaps:") {
+        "whether the requirements behind `perhaps:` are needed is left open"
+    } else {
+        "it can't be checked, since a closure has more than 4,096 nodes or a joined formula more than 1,000 occurrences"
+    }
+}
+
+fn told(alloc: Global, answer: &[u8], line: usize, cause: &str) -> Result<String, AllocError> {
+    let answer = shown(alloc, answer)?;
+    format!(in alloc; "line {line}: {answer}: {cause}")
+}
+
+fn has_word(line: &[u8], word: &[u8]) -> bool {
+    line.split(|byte| *byte == b' ').any(|found| found == word)
+}

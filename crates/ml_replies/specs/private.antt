@@ -1,0 +1,2 @@
+-- what is known while a structure is checked
+pub mod Checks
