@@ -1,7 +1,7 @@
 -- Items that are marked one by one.
 --
---   IsScannedTo xs flags n ms a b c d == where the first n items are marked by ms, what is found of all in the words a and b is these
---                       marks, and what is found of the others in c and d
+--   IsScannedTo xs flags n ms a b c d == where the first n items are marked by ms, what is found of all in the words a and b is
+--                       these marks, and what is found of the others in c and d
 --   scanned_begin, scanned_more, scanned_end == it stays so
 use Rattle.std.proofs.Common.{◌≡◌, ℕ, ◌+◌, ◌<◌, ◌≤◌, ◌&&◌, Bool, true, false, List, [], ◌∷◌, ◌++◌, length, drop, get_or, refl, sym, ap, subst, ◌∙◌, arith}
 use Rattle.std.proofs.lemmas.List.{append-nil, append_assoc, drop_all, drop_more}

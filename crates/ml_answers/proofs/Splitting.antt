@@ -4,7 +4,8 @@
 --   marked_split     == names with `-` and `perhaps:` are cut into what they are
 --   split_marked     == what is cut so, and begins with names, is made of these
 --   found_marked     == where a scan of the parts ends as it should, its marks name the items by the words
---   marked_found     == where marks name the items by the words, the parts are there, and a scan of them finds these and ends so
+--   marked_found     == where marks name the items by the words, the parts are there, and a scan of them finds these and ends
+--                       so
 use Rattle.std.proofs.Common.{◌≡◌, ◌≢◌, ℕ, ◌+◌, ◌||◌, ◌&&◌, Bool, true, false, cond, List, [], ◌∷◌, ◌++◌, Option, None, Some, codes, drop, length, ◌<◌, refl, sym, ap, subst, ◌∙◌, arith}
 use Rattle.std.specs.Prelude.{⊤}
 use Rattle.std.specs.List.{AllByRecursion, list_any}

@@ -1,16 +1,16 @@
 -- What checking a specification finds, with a document of answers behind it.
 --
--- The document begins with the first line that is its title; what stands before that is the specification. A text without such a line
--- is refused at its end, whatever else is wrong, and a specification that is too long, or refused, is told before the document is
--- looked at.
+-- The document begins with the first line that is its title; what stands before that is the specification. A text without such
+-- a line is refused at its end, whatever else is wrong, and a specification that is too long, or refused, is told before the
+-- document is looked at.
 --
--- A line whose answer is a structure is shown where that meets the requirements of which the question is asked, and the question. One
--- that names requirements is shown where its refutation is accepted in the graph of their joined formula, and each structure shows
--- that the others can be met. Some can't be checked, as a formula is too long or its closure too large, and `open` and `perhaps:`
--- show nothing. A line is wrong where something of it that can be checked fails.
+-- A line whose answer is a structure is shown where that meets the requirements of which the question is asked, and the
+-- question. One that names requirements is shown where its refutation is accepted in the graph of their joined formula, and
+-- each structure shows that the others can be met. Some can't be checked, as a formula is too long or its closure too large,
+-- and `open` and `perhaps:` show nothing. A line is wrong where something of it that can be checked fails.
 --
---   IsRefuted p r        == the formula of p is one that the program holds, its closure is small, and the refutation r is accepted in
---                           a graph of p
+--   IsRefuted p r        == the formula of p is one that the program holds, its closure is small, and the refutation r is
+--                           accepted in a graph of p
 --   IsNotRefuted p r     == so it is, but r isn't accepted there
 --   IsShownBy l xs S q r == the answer r to the question q, asked of the requirements in S, is shown
 --   IsWrong l xs S q r   == it is wrong
@@ -19,10 +19,10 @@
 --   AreTexts xs rs ts    == the texts ts are the lines of the answers rs with their bodies
 --   lines_from k ts      == the numbers of the lines with which the texts ts begin, the first of which has the number k
 --   IsFirst P ps line    == of the answers ps, the one in this line is the first of which P is true
---   IsVerdict l xs ps x  == x is what comes of these answers: that all are shown; or the first line that is wrong; or, where none is,
---                           the first one that isn't shown
---   IsCheckedAs l xs k text x == the text is a document of answers to the questions of the items xs of the logic l, its first line has
---                           the number k, and x comes of them
+--   IsVerdict l xs ps x  == x is what comes of these answers: that all are shown; or the first line that is wrong; or, where
+--                           none is, the first one that isn't shown
+--   IsCheckedAs l xs k text x == the text is a document of answers to the questions of the items xs of the logic l, its first
+--                           line has the number k, and x comes of them
 --   IsFoundIn spec text x == x is found where spec is the text of the specification, and this text the document behind it
 --   IsFound text x       == x is what is found of the text
 use Rattle.std.specs.Prelude.{ℕ, ◌≡◌, ◌<◌, ◌≤◌, ◌+◌, ◌⊎◌, ⊤, Bool, List, [], ◌∷◌, ◌++◌, Option, None, Some, codes, drop, length, take}

@@ -1,7 +1,7 @@
 -- Which questions are due, and which answers may stand in their lines.
 --
--- First, where there are requirements, it is told whether they are consistent; behind each conflict, whether the rest is, which is
--- the requirements that no conflict before it names; and then the further questions are answered, in their order.
+-- First, where there are requirements, it is told whether they are consistent; behind each conflict, whether the rest is, which
+-- is the requirements that no conflict before it names; and then the further questions are answered, in their order.
 --
 --   Due                == the rest, and the questions that are due, in their order
 --   asked_of R q       == the requirements of which q is asked, where R is the rest
@@ -9,8 +9,8 @@
 --   behind d r         == what is due behind the answer r, where it answers the first question that is due in d
 --   is_required xs k   == is the item with this number a requirement?
 --   is_of_conflict q   == does q ask whether requirements are consistent?
---   FitsCore xs S q c  == the requirements of c are some of those in S, and its parts are these, in order; where it is asked whether
---                         they are consistent, there is one
+--   FitsCore xs S q c  == the requirements of c are some of those in S, and its parts are these, in order; where it is asked
+--                         whether they are consistent, there is one
 --   Fits xs S q r      == the answer r may stand in a line of the question q, asked of the requirements in S
 --   MayStand xs d r    == r answers the first question that is due in d, by an answer that may stand there
 --   LeadTo xs d rs e   == so does each of the answers rs, one by one, and behind them e is due

@@ -1,12 +1,12 @@
 -- What is true of documents of answers, and of checking them.
 --
 --   SomeFinding, OneFinding == of each text something is found, and one thing at most
---   RightIsTrue      == where `Right` is found, the text is a specification with a document of answers to its questions behind it,
---                       whichever the limit: so each line says what is so, nothing is open, and each requirement behind `because` is
---                       needed
+--   RightIsTrue      == where `Right` is found, the text is a specification with a document of answers to its questions behind
+--                       it, whichever the limit: so each line says what is so, nothing is open, and each requirement behind
+--                       `because` is needed
 --   IsSettled r      == nothing of the answer r is left open
---   AnswersAreRight  == behind its specification, a document of the answers to its questions, with whichever limit, is found `Right`
---                       where all of them are settled, and else `OpenAt` the line of one
+--   AnswersAreRight  == behind its specification, a document of the answers to its questions, with whichever limit, is found
+--                       `Right` where all of them are settled, and else `OpenAt` the line of one
 --   RulesRise        == the numbers of the rules of a line rise: so the first one that it breaks is the lowest
 use Rattle.std.specs.Prelude.{ℕ, ◌≡◌, ◌⊎◌, ◌≤◌, ⊤, Bool, List, [], ◌∷◌, ◌++◌, length}
 use Rattle.std.specs.List.{AllByRecursion}

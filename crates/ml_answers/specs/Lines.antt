@@ -1,10 +1,10 @@
 -- The lines of answers.
 --
--- A line has the words of a question and behind them the answer. `yes` or `no` answers what was asked: whether the requirements are
--- consistent, whether the rest of them is, whether something is possible, whether it follows. So of all but `follows` a structure
--- says `yes`, and of `follows` it says `no`. Where there is no structure, the names of requirements for which there is none stand
--- behind `because`: first those without which there is one, or `-` where there are none such; then, behind `perhaps:`, those without
--- which it stays open.
+-- A line has the words of a question and behind them the answer. `yes` or `no` answers what was asked: whether the requirements
+-- are consistent, whether the rest of them is, whether something is possible, whether it follows. So of all but `follows` a
+-- structure says `yes`, and of `follows` it says `no`. Where there is no structure, the names of requirements for which there
+-- is none stand behind `because`: first those without which there is one, or `-` where there are none such; then, behind
+-- `perhaps:`, those without which it stays open.
 --
 --   name_at xs k        == the name of the item with this number
 --   first_word xs q     == `consistent` or `rest`, or the word of the kind of what q asks

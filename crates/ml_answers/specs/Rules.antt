@@ -1,26 +1,28 @@
 -- Where a text is no document of answers.
 --
--- A document is read from its first line on, of which it is known that it is the title. What stands at a line follows from the lines
--- before it: the line of the question that is due; behind it the body that its answer wants, which goes from there up to and with the
--- first line `end`, or to the text's end; and behind the last question `end`, and nothing more. The first bad line is told, with the
--- lowest rule that it breaks: 71 and 72 for the lines of answers, and the rules of bodies within them. A line that is missing is the
--- line of no words.
+-- A document is read from its first line on, of which it is known that it is the title. What stands at a line follows from the
+-- lines before it: the line of the question that is due; behind it the body that its answer wants, which goes from there up to
+-- and with the first line `end`, or to the text's end; and behind the last question `end`, and nothing more. The first bad line
+-- is told, with the lowest rule that it breaks: 71 and 72 for the lines of answers, and the rules of bodies within them. A line
+-- that is missing is the line of no words.
 --
---   IsAnswerLine xs q line == the line has the words of the question q, and an answer behind them: `open`, `yes` or `no`, and behind
---                         `because` any words
---   HasNames xs S q line == the line is that of an answer that may stand there, where q is asked of the requirements in S: so its names
---                         are requirements in S, in their order, and each stands in it once
---   IsLineFault rs k text f == f tells that the text's first line, which has the number k, breaks the first of the rules rs in f
+--   IsAnswerLine xs q line == the line has the words of the question q, and an answer behind them: `open`, `yes` or `no`, and
+--                         behind `because` any words
+--   HasNames xs S q line == the line is that of an answer that may stand there, where q is asked of the requirements in S: so
+--                         its names are requirements in S, in their order, and each stands in it once
+--   IsLineFault rs k text f == f tells that the text's first line, which has the number k, breaks the first of the rules rs in
+--                              f
 --   IsBehind P F k text f == P is true of the front of the text, and F tells f of what is behind it; lines are counted on
 --   IsModelFault k text f, IsRefutationFault k text f == f tells a fault of a body with which the text begins
 --   IsWithoutFault xs n k text f == f tells a fault of the line `without` with the name of the item n, or of the body behind it
 --   ArePartsFault xs ps k text f == f tells a fault of what stands behind the refutation of a core with the parts ps
 --   IsBodyFault xs r k text f == f tells a fault of what stands behind the line of the answer r
---   IsAnswerFault xs S q k text f == f tells a fault of the line of the question q, asked of the requirements in S, or of its body
+--   IsAnswerFault xs S q k text f == f tells a fault of the line of the question q, asked of the requirements in S, or of its
+--                                    body
 --   IsEndFault k text f  == f tells a fault of the last line, or of what is behind it
 --   IsDueFault xs d k text f == f tells a fault of what stands where d is due
---   IsAnswersFault xs k text f == f tells the first bad line of the text, whose first line has the number k, and the lowest rule that
---                         it breaks
+--   IsAnswersFault xs k text f == f tells the first bad line of the text, whose first line has the number k, and the lowest
+--                         rule that it breaks
 use Rattle.std.specs.Prelude.{ℕ, ◌≡◌, ◌≢◌, ◌+◌, ◌⊎◌, Bool, not, List, [], ◌∷◌, ◌++◌, codes}
 use Rattle.ml_base.specs.declared.doc_fault.DocFault.{DocFault}
 use Rattle.ml_base.specs.declared.version.Version.TheVariants.{Two}

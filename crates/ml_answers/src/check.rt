@@ -26,16 +26,16 @@ use std::alloc::Global;
 ///
 /// - `NoDocument` exactly where there is no such line, with the line and the column behind the last byte;
 /// - else `TooLong` exactly where more than 1,048,576 bytes stand before it;
-/// - else `Refused` exactly where these are no specification, with the first line and column at which they break a rule, and the
-///   lowest such rule, as `ml_spec::read` tells;
-/// - else `Unreadable` exactly where the document is none of answers to its questions, with the first bad line, counted from the first
-///   one of the text, and the lowest rule that it breaks: 71 where a line is missing or not of the kind that stands there, or
-///   something follows the last `end`; 72 where names aren't those of requirements, each once and in their order, or one is
-///   wanting; 11 to 17 in a body of a structure, as `ml_kripke::read_model` says; 21 to 31 in one of a refutation, as
+/// - else `Refused` exactly where these are no specification, with the first line and column at which they break a rule, and
+///   the lowest such rule, as `ml_spec::read` tells;
+/// - else `Unreadable` exactly where the document is none of answers to its questions, with the first bad line, counted from
+///   the first one of the text, and the lowest rule that it breaks: 71 where a line is missing or not of the kind that stands
+///   there, or something follows the last `end`; 72 where names aren't those of requirements, each once and in their order, or
+///   one is wanting; 11 to 17 in a body of a structure, as `ml_kripke::read_model` says; 21 to 31 in one of a refutation, as
 ///   `ml_refutation_text::read` says;
-/// - else `WrongAt` exactly where something of an answer that can be checked fails: the logic doesn't speak of its structure, that
-///   doesn't meet the requirements where the question is asked, or its refutation breaks a rule; with the line of the first such
-///   answer;
+/// - else `WrongAt` exactly where something of an answer that can be checked fails: the logic doesn't speak of its structure,
+///   that doesn't meet the requirements where the question is asked, or its refutation breaks a rule; with the line of the
+///   first such answer;
 /// - else `OpenAt` exactly where some answer is open or has `perhaps:`, or can't be checked, as a formula has more than 1,000
 ///   occurrences or a closure more than 4,096 nodes; with the line of the first such answer;
 /// - else `Right`: then each line says what is so, and each requirement behind `because` is needed.

@@ -47,8 +47,8 @@ fn together(one: Standing, other: Standing) -> Standing
 
 /// What comes of what is said in answer to a question, which is asked of these requirements.
 ///
-/// Cost: that of the checks of its structures (`ml_replies::meets`) and of its refutation (`ml_refute_check::check_refutation`), of
-/// which none is left out.
+/// Cost: that of the checks of its structures (`ml_replies::meets`) and of its refutation
+/// (`ml_refute_check::check_refutation`), of which none is left out.
 pub(crate) fn judge(
     alloc: Global,
     specification: &Specification,

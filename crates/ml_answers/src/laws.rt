@@ -1,7 +1,8 @@
 // What is true of documents of answers: no caller runs these functions, their contracts are the theorems.
 ghost use Rattle.ml_answers.specs.Laws.{AnswersAreRight, OneFinding, RightIsTrue, RulesRise, SomeFinding};
 
-/// Of each text exactly one thing is found: so `check_answers` answers each exactly where it is said to come, but for want of memory.
+/// Of each text exactly one thing is found: so `check_answers` answers each exactly where it is said to come, but for want of
+/// memory.
 ///
 /// Does nothing when called.
 pub fn one_finding()
@@ -9,16 +10,16 @@ pub fn one_finding()
     ensures once { OneFinding }
 {}
 
-/// Where a document is found right, its answers are those to the questions of its specification, whichever the limit: each line says
-/// what is so, nothing is open, and each requirement behind `because` is needed.
+/// Where a document is found right, its answers are those to the questions of its specification, whichever the limit: each line
+/// says what is so, nothing is open, and each requirement behind `because` is needed.
 ///
 /// Does nothing when called.
 pub fn right_is_true()
     ensures { RightIsTrue }
 {}
 
-/// Whatever answers a specification has, with whichever limit, their document behind it is found right, or where some of them are open
-/// the line of one is told.
+/// Whatever answers a specification has, with whichever limit, their document behind it is found right, or where some of them
+/// are open the line of one is told.
 ///
 /// Does nothing when called.
 pub fn answers_are_right()

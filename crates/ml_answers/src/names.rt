@@ -87,9 +87,9 @@ fn behind_perhaps<'a>(names: Names<'a>) -> Option<Names<'a>>
     None
 }
 
-/// The marks that these words give the items: those behind `because` up to `perhaps:`, and those behind that, each the name of a
-/// requirement that is among these, in their order, and each once. `None` where the words aren't such names; `wants_some` tells
-/// whether there has to be one.
+/// The marks that these words give the items: those behind `because` up to `perhaps:`, and those behind that, each the name of
+/// a requirement that is among these, in their order, and each once. `None` where the words aren't such names; `wants_some`
+/// tells whether there has to be one.
 ///
 /// Cost: linear in the items and the words.
 pub(crate) fn read_marks(
@@ -112,8 +112,8 @@ pub(crate) fn read_marks(
     }
 }
 
-// the words behind `because`, without the dash where that stands for none, and those behind `perhaps:`; `None` where there is none
-// where one has to be
+// the words behind `because`, without the dash where that stands for none, and those behind `perhaps:`; `None` where there is
+// none where one has to be
 fn split_names<'a>(words: Names<'a>, wants_some: bool) -> Option<(Names<'a>, Names<'a>)>
     ensures { MatchOption result (split_words wants_some (words_left words.entry) ≡ None)
         (λ r. split_words wants_some (words_left words.entry) ≡ Some (words_left r.0, words_left r.1)) }

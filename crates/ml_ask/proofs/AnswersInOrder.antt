@@ -3,7 +3,8 @@
 --   next_asks, next_none == the questions of items, with one more
 --   one_answered  == one more is answered
 --   some_required == a specification has requirements, or none
---   lines_begin, lines_go_on, lines_end == whether requirements can be met together, and what is asked of the rest, line by line
+--   lines_begin, lines_go_on, lines_end == whether requirements can be met together, and what is asked of the rest, line by
+--                                          line
 --   fewer_left    == behind a conflict fewer are left
 --   all_replies   == these lines and the answers to the further questions are the answers
 use Rattle.std.proofs.Common.{◌≡◌, ℕ, suc, ◌+◌, ◌<◌, Bool, true, false, ◌||◌, cond, List, [], ◌∷◌, ◌++◌, Option, None, Some, filter, get_or, length, map, replicate, take, refl, sym, ap, subst, ◌∙◌, append_assoc, arith, length-take}

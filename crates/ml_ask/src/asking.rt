@@ -20,9 +20,9 @@ use ml_base::NoMemory;
 use ml_spec::{Item, Question, Specification};
 use std::alloc::Global;
 
-/// The answers to the questions of a specification, in their order. First, where there are requirements, comes whether all of them
-/// can be met together; where they can't, whether those that the conflict doesn't name can, and so on, up to an answer that is no
-/// conflict. Then each question is answered as it stands in the text, asked of all requirements.
+/// The answers to the questions of a specification, in their order. First, where there are requirements, comes whether all of
+/// them can be met together; where they can't, whether those that the conflict doesn't name can, and so on, up to an answer
+/// that is no conflict. Then each question is answered as it stands in the text, asked of all requirements.
 ///
 /// The specification is one as `ml_spec::read` gives it, and the limit, which says how many positions the decision game of a
 /// problem may have, is 1 or more.
@@ -31,8 +31,8 @@ use std::alloc::Global;
 /// `NoMemory` alone.
 ///
 /// Cost: for each answer that of one search with all formulas at once, of some more with the requirements of a conflict, and of
-/// structures that are checked; where the search with all leads to nothing, of one more for each requirement at most. Each search
-/// is bounded by a fixed multiple of the limit.
+/// structures that are checked; where the search with all leads to nothing, of one more for each requirement at most. Each
+/// search is bounded by a fixed multiple of the limit.
 pub fn ask(
     alloc: Global,
     specification: &Specification,

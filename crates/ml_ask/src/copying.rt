@@ -5,8 +5,8 @@ use ml_base::{Edge, Name, NoMemory};
 use ml_kripke::{Model, Structure, StructureRefusal};
 use std::alloc::Global;
 
-/// A structure with the same labels and edges, and the same start. Nothing is claimed of it: whoever wants to know whether it meets
-/// something checks it.
+/// A structure with the same labels and edges, and the same start. Nothing is claimed of it: whoever wants to know whether it
+/// meets something checks it.
 ///
 /// # Errors
 /// `NoMemory` alone.

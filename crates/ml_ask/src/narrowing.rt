@@ -35,8 +35,8 @@ pub(crate) enum Step {
     GiveUp,
 }
 
-/// A structure for all requirements of which the question is asked, or some that have none, where searches with few of them lead
-/// there.
+/// A structure for all requirements of which the question is asked, or some that have none, where searches with few of them
+/// lead there.
 ///
 /// # Errors
 /// `NoMemory` alone.
@@ -165,8 +165,8 @@ fn smallest_unmet(
     Ok(smallest)
 }
 
-// Does the model fail the requirement? In LTL of paths, where each formula may have a path of its own, the requirement is looked at
-// beside those that are taken.
+// Does the model fail the requirement? In LTL of paths, where each formula may have a path of its own, the requirement is
+// looked at beside those that are taken.
 fn fails(
     alloc: Global,
     asked: Asked,

@@ -1,7 +1,7 @@
 // One search with all formulas at once.
 //
-// Nothing is claimed of what it finds: a structure is checked, and the requirements of a clash are refuted by themselves. Where that
-// fails, each of them is left out in turn, as long as the others clash.
+// Nothing is claimed of what it finds: a structure is checked, and the requirements of a clash are refuted by themselves. Where
+// that fails, each of them is left out in turn, as long as the others clash.
 ghost use Rattle.std.specs.Prelude.{ℕ, ◌≡◌, ◌<◌, true, length, IfOk, IfSome};
 ghost use Rattle.ml_spec.specs.Questions.{is_in};
 ghost use Rattle.ml_ask.specs.private.Steps.{AreProblemsOf, IsAsked, IsSought};
@@ -15,8 +15,8 @@ use ml_joined_graph::{Conjunct, JoinedFinding, search};
 use ml_spec::{Item, Kind, Question};
 use std::alloc::Global;
 
-/// A structure for all requirements of which the question is asked, or some that have none, where one search with all formulas leads
-/// there. In LTL of paths it never does: there each formula by itself may have a path of its own.
+/// A structure for all requirements of which the question is asked, or some that have none, where one search with all formulas
+/// leads there. In LTL of paths it never does: there each formula by itself may have a path of its own.
 ///
 /// # Errors
 /// `NoMemory` alone.

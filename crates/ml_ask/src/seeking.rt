@@ -1,7 +1,7 @@
 // A structure for all requirements of which a question is asked, or some that have none.
 //
-// Earlier answers are looked at first. Then one search is made with all formulas at once, and where that leads to nothing, searches
-// with few requirements. What is left is decided with all of them together, where their joined formula isn't too long.
+// Earlier answers are looked at first. Then one search is made with all formulas at once, and where that leads to nothing,
+// searches with few requirements. What is left is decided with all of them together, where their joined formula isn't too long.
 ghost use Rattle.std.specs.Prelude.{IfOk};
 ghost use Rattle.ml_spec.specs.Questions.{is_in};
 ghost use Rattle.ml_ask.specs.private.Steps.{AreProblemsOf, AreRefutedBy, IsAsked, IsSought};

@@ -1,7 +1,7 @@
 -- Answers whose structures have a text.
 --
--- Where a structure shows something, the decision of its problem gives one that has a text, or leaves the problem open. So each answer
--- may have structures that have one, or stay open where it had one that has none.
+-- Where a structure shows something, the decision of its problem gives one that has a text, or leaves the problem open. So each
+-- answer may have structures that have one, or stay open where it had one that has none.
 --
 --   shown_or_open    == a structure that shows that requirements can be met has a text, or that may be left open
 --   some_reply_shown == an answer to the same question, whose structures have one

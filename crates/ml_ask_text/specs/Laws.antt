@@ -2,8 +2,8 @@
 --
 --   SomeTold     == something is told of each text, in each form and for each limit of 32 bits
 --   NeverAgainst v w == it isn't so that one of v and w is `AsMeant` and the other `Against`
---   AreAlike t u == both are refusals by the same rule at the same place, or both are answers, and never is one as it is meant and
---                   the other against it
+--   AreAlike t u == both are refusals by the same rule at the same place, or both are answers, and never is one as it is meant
+--                   and the other against it
 --   ToldAlike    == so are two things that are told of one text, in whichever forms, and for whichever limits
 use Rattle.std.specs.Prelude.{ℕ, ◌≡◌, ◌<◌, ◌^◌, List}
 use Rattle.ml_ask_text.specs.Told.{IsToldOf}

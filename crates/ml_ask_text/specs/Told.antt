@@ -1,15 +1,15 @@
 -- What is told of a text.
 --
--- A text that is no specification is refused, as `ml_spec` says. Of each other one the answers to its questions are told, in one of
--- two forms, as lines or as a document, and with a verdict: whether all is as whoever wrote it means it, consistent, possible and
--- following.
+-- A text that is no specification is refused, as `ml_spec` says. Of each other one the answers to its questions are told, in
+-- one of two forms, as lines or as a document, and with a verdict: whether all is as whoever wrote it means it, consistent,
+-- possible and following.
 --
 --   is_against xs r  == does the answer say no?
 --   is_left_open r   == does it stay open?
 --   verdict_of xs rs == `Against` where some answer says no; else `Open` where some one stays open; else `AsMeant`
 --   IsWrittenAs f xs rs out == out is what is written of the answers rs in the form f: their lines, or a document of them
---   IsAnswered f text n v out == the text is a specification, and out tells the answers to its questions in the form f, where the
---                       limit is n, with their verdict v
+--   IsAnswered f text n v out == the text is a specification, and out tells the answers to its questions in the form f, where
+--                       the limit is n, with their verdict v
 --   IsToldOf f text n t == t is what is told of the text
 use Rattle.std.specs.Prelude.{ℕ, ◌≡◌, Bool, true, false, not, if◌then◌else◌, List}
 use Rattle.std.specs.List.{list_any}

@@ -20,13 +20,13 @@ use std::alloc::Global;
 ///
 /// The limit, which says how many positions the decision game of a problem may have, is 1 or more.
 ///
-/// - `Answered` exactly where the text is a specification, with what its answers come to. As `Lines` they are a line each: `consistent`,
-///   `rest`, `possible NAME` or `follows NAME` with `yes`, `no` or `open` behind it. Where some requirements can't be met together,
-///   their names stand behind `because`: without each of the first ones a structure meets the others, and without those behind
-///   `perhaps:` the others stay open with this limit. As `Files` these lines stand between `mlsolver answers 1` and `end`, each with
-///   the structures and the refutation that show it behind it;
-/// - `Refused` exactly where it is none, with the first line and column, counted from 1, at which it breaks a rule, and of those the
-///   rule with the lowest number, as `ml_spec::read` tells.
+/// - `Answered` exactly where the text is a specification, with what its answers come to. As `Lines` they are a line each:
+///   `consistent`, `rest`, `possible NAME` or `follows NAME` with `yes`, `no` or `open` behind it. Where some requirements
+///   can't be met together, their names stand behind `because`: without each of the first ones a structure meets the others,
+///   and without those behind `perhaps:` the others stay open with this limit. As `Files` these lines stand between `mlsolver
+///   answers 1` and `end`, each with the structures and the refutation that show it behind it;
+/// - `Refused` exactly where it is none, with the first line and column, counted from 1, at which it breaks a rule, and of
+///   those the rule with the lowest number, as `ml_spec::read` tells.
 ///
 /// # Errors
 /// `NoMemory` alone.

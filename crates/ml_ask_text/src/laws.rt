@@ -9,9 +9,9 @@ pub fn something_told()
     ensures { SomeTold }
 {}
 
-/// Of two things that are told of one text both are refusals, by the same rule at the same line and column; or both are answers, and
-/// never does one say that all is as it is meant and the other that something is against it. So `ask_text` answers and refuses
-/// exactly where it is said to.
+/// Of two things that are told of one text both are refusals, by the same rule at the same line and column; or both are
+/// answers, and never does one say that all is as it is meant and the other that something is against it. So `ask_text` answers
+/// and refuses exactly where it is said to.
 ///
 /// Does nothing when called.
 pub fn told_alike()

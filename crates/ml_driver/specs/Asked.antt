@@ -1,6 +1,7 @@
 -- What `ask` answers of a file of requirements and questions.
 --
---   status_of v             == yes where all is as whoever wrote the file means it; no where some answer says no; else undecided
+--   status_of v             == yes where all is as whoever wrote the file means it; no where some answer says no; else
+--                              undecided
 --   requirements_told t     == the status and the output that tell t
 --   IsAsked f n text s out  == s and out tell what is told of the text in the form f, with the limit n
 use Rattle.std.specs.Prelude.{ℕ, ◌≡◌, List}

@@ -1,7 +1,7 @@
 -- What `check-answers` answers of a file of requirements with answers behind it.
 --
---   said_of x              == what is said of it: that each answer is shown; or which line is the first that is wrong, or that stays
---                             open; or why the input is refused
+--   said_of x              == what is said of it: that each answer is shown; or which line is the first that is wrong, or that
+--                             stays open; or why the input is refused
 --   AreAnswersTold text s out == s and out say what is found of the text
 use Rattle.std.specs.Prelude.{ℕ, ◌≡◌, List}
 use Rattle.ml_answers.specs.Checked.{IsFound}

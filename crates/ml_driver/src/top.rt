@@ -88,7 +88,8 @@ pub struct Ending {
 ///   the limit;
 /// - of `ask` only where some answer stays open, which comes only where the closure of the joined problem has too many nodes,
 ///   where its decision game passes the limit, or where the joined formula has more than 1,000 occurrences;
-/// - of `check-answers` exactly where no answer is wrong, and some one is open, has names behind `perhaps:` or can't be checked;
+/// - of `check-answers` exactly where no answer is wrong, and some one is open, has names behind `perhaps:` or can't be
+///   checked;
 /// - of `realize` exactly where the graph of the word automaton has too many nodes, or the game of the task passes the limit;
 ///   of `make` only there.
 ///

@@ -5,7 +5,7 @@
 --   lower_apart, key_between, higher_apart == where a list rises by a key, what stands before the entries with the key
 --                    hasn't it, nor has what stands behind them, and they have it
 --   members_at == behind all entries with lower keys, and before all with higher ones, stand those with the key
-use Rattle.std.proofs.Common.{◌≡◌, ◌↔◌, ◌⊎◌, ℕ, ◌+◌, ◌<◌, ◌≤◌, true, false, ltb, leb, List, length, get_or, take, drop}
+use Rattle.std.proofs.Common.{◌≡◌, ◌↔◌, ◌⊎◌, ℕ, ◌+◌, ◌<◌, ◌≤◌, true, false, ltb, leb, List, length, take, drop}
 use Rattle.std.proofs.Common.{inl, inr, sym, ◌∙◌, subst, arith}
 use Rattle.std.specs.List.{AllWithin}
 use Rattle.std.specs.List.Sorted.{IsPartitionPoint}

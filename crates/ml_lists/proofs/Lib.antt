@@ -18,6 +18,8 @@ pub mod Pigeons
 pub mod Reach
 -- bounded search
 pub mod Search
+-- a binary search in a list that ascends by an order
+pub mod Searched
 -- lassos as endless sequences
 pub mod Unrolling
 -- a function with one value changed

@@ -1,7 +1,7 @@
 -- Conflicts, one after the other.
 --
---   reply_same, conflicts_same == what answers a question asked of some requirements answers it asked of others, where these are
---                      the same items
+--   reply_same, conflicts_same == what answers a question asked of some requirements answers it asked of others, where these
+--                      are the same items
 --   not_empty       == a conflict of requirements alone has a member
 --   conflicts_are_apart == no two conflicts have one in common
 use Rattle.std.proofs.Common.{◌≡◌, ℕ, ◌<◌, ◌⊎◌, inl, inr, Bool, true, false, not, ◌&&◌, List, [], ◌∷◌, ◌++◌, length, refl, sym, ap, subst, ◌∙◌, arith}

@@ -1,7 +1,8 @@
 -- Each question has an answer.
 --
--- Each problem that the program holds has an answer. Where all requirements can't be met, one is left out while the others have a
--- refutation too: fewer and fewer are taken, and in the end each that is left has a structure for the others, or that stays open.
+-- Each problem that the program holds has an answer. Where all requirements can't be met, one is left out while the others have
+-- a refutation too: fewer and fewer are taken, and in the end each that is left has a structure for the others, or that stays
+-- open.
 --
 --   numbers_within  == the numbers of the requirements in a set are numbers of items, and in the set
 --   parts_or_less   == each requirement of some has a part, or some one can be left out

@@ -5,13 +5,13 @@
 --   UnmetIsRefuted   == where it is a conflict, its requirements can't be met together where the question is asked
 --   NeededOnesAre    == without one of them beside which a structure stands, the others can
 --   FewerAreMet      == fewer requirements can be met wherever more of them can
---   NeverBoth        == no question is answered by a structure and by a conflict, asked of the same requirements, with whichever
---                       limits
+--   NeverBoth        == no question is answered by a structure and by a conflict, asked of the same requirements, with
+--                       whichever limits
 --   AreApart cs      == no two of the conflicts cs have a requirement in common
 --   conflicts_of rs  == the conflicts among the answers rs
 --   ConflictsAreApart == the conflicts that are told of all requirements are apart
---   SomeCheck, OneCheck == exactly one thing comes of checking a structure: it meets requirements and a question, or fails to, or that
---                       can't be told
+--   SomeCheck, OneCheck == exactly one thing comes of checking a structure: it meets requirements and a question, or fails to,
+--                       or that can't be told
 --   SomeReply        == each question has an answer, asked of whichever requirements, with each limit of 32 bits
 --   SomeReplies      == each specification has answers
 use Rattle.std.specs.Prelude.{ℕ, ◌≡◌, ◌≢◌, ◌<◌, ◌^◌, ◌↔◌, ⊤, Bool, true, false, List, [], ◌∷◌}

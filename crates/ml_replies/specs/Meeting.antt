@@ -6,17 +6,18 @@
 --   without S k        == the set S without k
 --   beside S T         == the set S without the members of T
 --   problem_of l xs S q == the plain problem of the joined formula of the requirements in S and the question q
---   problems_of xs S q == the problems of these formulas, each by itself: plain ones, and for `follows` the negated one of its formula
+--   problems_of xs S q == the problems of these formulas, each by itself: plain ones, and for `follows` the negated one of its
+--                         formula
 --   IsHeld p           == the formula of p has no more occurrences than the program's formulas have
 --   IsSmall p          == the closure of the problem p has no more nodes than are decided and checked
---   CanBeChecked l xs S q == whether a structure meets the requirements in S and the question q can be checked: in all logics but
---                         LTL of paths by each formula, where their closures are small; and by the joined formula, where the
---                         program holds it and its closure is small
---   CanMeet l xs S q   == the requirements in S can be met together where q is asked: their joined formula holds at some state of
---                         some structure of which the logic speaks
+--   CanBeChecked l xs S q == whether a structure meets the requirements in S and the question q can be checked: in all logics
+--                         but LTL of paths by each formula, where their closures are small; and by the joined formula, where
+--                         the program holds it and its closure is small
+--   CanMeet l xs S q   == the requirements in S can be met together where q is asked: their joined formula holds at some state
+--                         of some structure of which the logic speaks
 --   AreWellFormed xs   == the formulas of the items xs are such as the program holds
---   CanStayOpen n p    == the problem p may be left open where the decision game may have n positions: its formula is longer than
---                         those that the program holds, or it stays undecided
+--   CanStayOpen n p    == the problem p may be left open where the decision game may have n positions: its formula is longer
+--                         than those that the program holds, or it stays undecided
 --   numbers_in S xs    == the numbers of the requirements in S, ascending
 use Rattle.std.specs.Prelude.{ℕ, ◌≢◌, ◌≤◌, ◌<◌, ◌⊎◌, ◌+◌, ◌==◌, ◌&&◌, Bool, true, false, not, if◌then◌else◌, List, [], ◌∷◌, ◌++◌, map, Option, None, Some, slice_get}
 use Rattle.std.specs.List.{AllByRecursion}

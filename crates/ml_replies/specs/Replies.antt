@@ -1,33 +1,34 @@
 -- Answers to questions about requirements, as plain values.
 --
--- A specification has a logic l and items xs. A question q is asked of the requirements in a set S: of all of them, or of the rest
--- that no conflict before it names. n is the limit, how many positions the decision game of a problem may have.
+-- A specification has a logic l and items xs. A question q is asked of the requirements in a set S: of all of them, or of the
+-- rest that no conflict before it names. n is the limit, how many positions the decision game of a problem may have.
 --
 --   Without         == what is known without a requirement: a structure with a state meets the others, or that stays open
 --   Part            == a requirement, by the number of its item, with what is known without it
---   Core            == requirements that can't be met together, by a list that tells of each item whether it is among them; a part
---                      for each of them; and a refutation
+--   Core            == requirements that can't be met together, by a list that tells of each item whether it is among them; a
+--                      part for each of them; and a refutation
 --   Reply           == an answer: a structure with a state, requirements that can't be met, or open
 --   Replied         == a question with its answer
 --   IsMet l xs S q m s == the structure m, of which l speaks, meets the requirements in S and the question q at its state s
 --   IsShown l xs S q m s == so it does, and that can be checked
---   FailsByCheck l xs S q m s == the structure m, at its state s, fails to do so, and that is found where what can be checked is: the
---                      logic doesn't speak of m; or a formula fails there, by itself where that is enough, or the joined one
+--   FailsByCheck l xs S q m s == the structure m, at its state s, fails to do so, and that is found where what can be checked
+--                      is: the logic doesn't speak of m; or a formula fails there, by itself where that is enough, or the
+--                      joined one
 --   MeetsAs l xs S q m s r == r says which of both it is, or that it is neither
---   IsWithout l xs n S q w == what w says of the requirements in S is so: a structure shows that they can be met, or this may be
---                      left open
+--   IsWithout l xs n S q w == what w says of the requirements in S is so: a structure shows that they can be met, or this may
+--                      be left open
 --   IsCore l xs n S q c == the requirements of c are among those in S, and can't be met together where q is asked, as the
 --                      refutation of their joined formula shows; its parts are these requirements, in order, and what each says
 --                      of the others is so
---   IsReply l xs n S q r == r answers q, asked of the requirements in S: a structure shows that they can be met; or some of them
---                      can't be; or that may be left open
---   IsFollowedBy S r rs OfRest == behind the answer r, where it is a conflict, the answers rs are what OfRest says of the requirements
---                      in S that it doesn't name; and else there is none
+--   IsReply l xs n S q r == r answers q, asked of the requirements in S: a structure shows that they can be met; or some of
+--                      them can't be; or that may be left open
+--   IsFollowedBy S r rs OfRest == behind the answer r, where it is a conflict, the answers rs are what OfRest says of the
+--                      requirements in S that it doesn't name; and else there is none
 --   AreConflicts l xs n S q rs == the first one answers q, asked of the requirements in S; where it is a conflict, the next one
 --                      answers whether the rest can be met, and so on, and else there is no next one
 --   AreBehind l xs n S r rs == the answers rs are those behind the answer r
---   AreReplies l xs n rs == first, where there are requirements, the answers that tell whether they are consistent, with those of
---                      the rest, and then one to each further question, in their order
+--   AreReplies l xs n rs == first, where there are requirements, the answers that tell whether they are consistent, with those
+--                      of the rest, and then one to each further question, in their order
 use Rattle.std.specs.Prelude.{ℕ, ◌≡◌, ◌≢◌, ◌<◌, Bool, true, List, [], ◌∷◌, ◌++◌, length, map, Contains}
 use Rattle.std.specs.List.{AllByRecursion}
 use Rattle.ml_base.specs.Structure.{Structure}

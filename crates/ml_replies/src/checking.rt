@@ -1,7 +1,7 @@
 // Structures checked for requirements and a question.
 //
-// In all logics but LTL of paths a structure is checked for each formula by itself. Where the closure of one is too large, and in LTL
-// of paths, it is checked for the joined formula.
+// In all logics but LTL of paths a structure is checked for each formula by itself. Where the closure of one is too large, and
+// in LTL of paths, it is checked for the joined formula.
 ghost use Rattle.std.specs.Prelude.{◌≡◌, ◌≢◌, ◌<◌, ◌↔◌, length, IfOk, IsTrue};
 ghost use Rattle.std.specs.List.{AllByRecursion};
 ghost use Rattle.ml_front.specs.Logics.{logic_of};
@@ -24,10 +24,10 @@ use std::alloc::Global;
 
 /// Does the structure meet these requirements at the state, where the question is asked?
 ///
-/// The specification is one as `ml_spec::read` gives it. `taken` tells of each item whether it is among the requirements; at other
-/// items it says nothing. `Yes` comes exactly where the structure shows that the requirements can be met where the question is asked,
-/// as `specs/Replies.antt` says; `No` exactly where the logic doesn't speak of the structure or some formula that can be checked
-/// fails; and `Unknown` everywhere else.
+/// The specification is one as `ml_spec::read` gives it. `taken` tells of each item whether it is among the requirements; at
+/// other items it says nothing. `Yes` comes exactly where the structure shows that the requirements can be met where the
+/// question is asked, as `specs/Replies.antt` says; `No` exactly where the logic doesn't speak of the structure or some formula
+/// that can be checked fails; and `Unknown` everywhere else.
 ///
 /// # Errors
 /// `NoMemory` alone.
@@ -65,8 +65,8 @@ pub fn meets(
 /// # Errors
 /// `NoMemory` alone.
 ///
-/// Cost: that of `ml_model_check::holds` for each of them, up to the first one that fails; and where a closure is too large, or in
-/// LTL of paths, for the joined formula.
+/// Cost: that of `ml_model_check::holds` for each of them, up to the first one that fails; and where a closure is too large, or
+/// in LTL of paths, for the joined formula.
 pub fn meets_by(
     alloc: Global,
     specification: &Specification,

@@ -2,8 +2,8 @@
 ghost use Rattle.ml_replies.specs.Laws.{ChecksAreEnough, ConflictsAreApart, FewerAreMet, MetIsMet, NeededOnesAre, NeverBoth};
 ghost use Rattle.ml_replies.specs.Laws.{OneCheck, SomeCheck, SomeReplies, SomeReply, UnmetIsRefuted};
 
-/// In all logics but LTL of paths a joined formula holds at a state of a structure exactly where each of its formulas does: so it is
-/// enough to check these.
+/// In all logics but LTL of paths a joined formula holds at a state of a structure exactly where each of its formulas does: so
+/// it is enough to check these.
 ///
 /// Does nothing when called.
 pub fn checks_are_enough()
@@ -18,8 +18,8 @@ pub fn one_check()
     ensures one { OneCheck }
 {}
 
-/// What an answer says of requirements and structures: where it has a structure, the requirements can be met where the question is
-/// asked; where it is a conflict, its requirements can't be, and without one beside which a structure stands the others can.
+/// What an answer says of requirements and structures: where it has a structure, the requirements can be met where the question
+/// is asked; where it is a conflict, its requirements can't be, and without one beside which a structure stands the others can.
 ///
 /// Does nothing when called.
 pub fn answers_are_right()
@@ -37,16 +37,16 @@ pub fn never_both()
     ensures never_both { NeverBoth }
 {}
 
-/// No two conflicts that are told of all requirements have one in common: so whoever mends each of them and leaves the others alone
-/// has removed them all.
+/// No two conflicts that are told of all requirements have one in common: so whoever mends each of them and leaves the others
+/// alone has removed them all.
 ///
 /// Does nothing when called.
 pub fn conflicts_are_apart()
     ensures { ConflictsAreApart }
 {}
 
-/// Each question has an answer, asked of whichever requirements, and each specification has answers, with each limit of 32 bits: so
-/// answers may always come, but for want of memory.
+/// Each question has an answer, asked of whichever requirements, and each specification has answers, with each limit of 32
+/// bits: so answers may always come, but for want of memory.
 ///
 /// Does nothing when called.
 pub fn some_reply()

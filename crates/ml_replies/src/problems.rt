@@ -10,8 +10,9 @@ use ml_front::{Problem, copy_formula};
 use ml_spec::{Item, Kind, Question, Specification};
 use std::alloc::Global;
 
-/// The problems of what a question asks for and of the requirements, each by itself: plain ones, and for `follows` the negated one of
-/// its formula. First comes the question's, where it has one, and then the requirements', in the order of the specification.
+/// The problems of what a question asks for and of the requirements, each by itself: plain ones, and for `follows` the negated
+/// one of its formula. First comes the question's, where it has one, and then the requirements', in the order of the
+/// specification.
 ///
 /// `taken` tells of each item whether it is among the requirements; at other items it says nothing.
 ///

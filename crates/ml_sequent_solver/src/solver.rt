@@ -141,8 +141,8 @@ impl Solver {
         self.trees.at(tree)
     }
 
-    /// Adds a core of these nodes, which ascend, along an action. Its thread is watched as such where it has an owner; a core for good is
-    /// active for those that are born later.
+    /// Adds a core of these nodes, which ascend, along an action. Its thread is watched as such where it has an owner; a core
+    /// for good is active for those that are born later.
     ///
     /// # Errors
     /// `NoMemory` alone.

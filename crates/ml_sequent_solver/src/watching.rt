@@ -119,7 +119,8 @@ impl Watches {
         }
     }
 
-    /// Adds a core of these nodes, which ascend, along an action, for an owner; its thread, where it has an owner, is watched as such.
+    /// Adds a core of these nodes, which ascend, along an action, for an owner; its thread, where it has an owner, is watched
+    /// as such.
     pub(crate) fn add(
         &mut self,
         t: &Terms,

@@ -4,7 +4,8 @@
 -- lowest number. Where no logic is told nothing else is asked.
 --
 --   IsTextRefused l text r k      == the text is refused as a formula of the logic l, by the rule r of the parser at its byte k
---   IsTextFault l i r at          == so is the text of the item i, the place being where the rest of it from that byte on begins
+--   IsTextFault l i r at          == so is the text of the item i, the place being where the rest of it from that byte on
+--                                    begins
 --   IsItemFault l names i r at    == the item i breaks the rule r at this place of the text, where `names` stand as the names
 --                                    of the items before it
 --   HasItemFault text r at        == some item behind the first one does

@@ -1,8 +1,8 @@
 // Formulas joined: those of some requirements, and what a question asks for.
 //
 // A formula that is joined to others counts one more than its occurrences, for the AND in front of it; so does the first, which
-// has none, and formulas that are joined have one occurrence less than that. So it is known whether they are too long before any
-// of them is copied.
+// has none, and formulas that are joined have one occurrence less than that. So it is known whether they are too long before
+// any of them is copied.
 ghost use Rattle.std.specs.Prelude.{◌≡◌, ◌≤◌, ◌<◌, ◌+◌, [], ◌∷◌, ◌++◌, false, length, IfOk, IfSome, MatchOption};
 ghost use Rattle.ml_text.specs.Limits.{most_occurrences};
 ghost use Rattle.ml_front.specs.Connectives as connectives;
@@ -21,9 +21,9 @@ use ml_front::{AnyFormula, Problem, copy_formula, keeps, negation, occurrences};
 use ml_text::MOST_OCCURRENCES;
 use std::alloc::Global;
 
-/// The plain problem of the joined formula of some requirements and a question: the formulas of the requirements, in the order of
-/// the specification and grouped to the left by AND, and behind them the question's formula, for `follows` its negation. Where
-/// nothing is joined it is `tt`. `None` exactly where it has more than 1,000 occurrences.
+/// The plain problem of the joined formula of some requirements and a question: the formulas of the requirements, in the order
+/// of the specification and grouped to the left by AND, and behind them the question's formula, for `follows` its negation.
+/// Where nothing is joined it is `tt`. `None` exactly where it has more than 1,000 occurrences.
 ///
 /// `taken` tells of each item whether it is among the requirements; at other items it says nothing.
 ///

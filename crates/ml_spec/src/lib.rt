@@ -10,9 +10,9 @@
 // The calls to know: `read` gives the `Specification` of a text, or tells at which line and column it breaks which rule first;
 // `joined` gives the problem of some requirements and a question together, where it isn't too long for one formula.
 //
-// What a specification is stands in `specs/Specification.antt`, which rules a text may break and where in `specs/Faults.antt`, and
-// what is joined in `specs/Joined.antt` and `specs/Questions.antt`. `laws` says that each text is one specification or has one
-// refusal, and never both.
+// What a specification is stands in `specs/Specification.antt`, which rules a text may break and where in `specs/Faults.antt`,
+// and what is joined in `specs/Joined.antt` and `specs/Questions.antt`. `laws` says that each text is one specification or has
+// one refusal, and never both.
 //
 // The parts that `read` is made of are public too: `uncommented` takes the comments out, with a blank for each byte, and
 // `next_item` gives one item of such a text after the other. `split_word`, `kind_named`, `split_name`, `is_name` and

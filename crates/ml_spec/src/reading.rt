@@ -1,7 +1,7 @@
 // Reading a specification from its text.
 //
-// `told_logic` reads the first item, and `add_items` the others, one after the other, with the names that were seen. Each answers
-// the first fault of what it reads; what lies behind a fault is not read.
+// `told_logic` reads the first item, and `add_items` the others, one after the other, with the names that were seen. Each
+// answers the first fault of what it reads; what lies behind a fault is not read.
 ghost use Rattle.std.specs.Prelude.{◌≡◌, ◌≤◌, [], ℕ, List, codes, length, IfOk, IfErr, IsErrOf, MatchOption, OnOk};
 ghost use Rattle.ml_front.specs.Logics.{logic_word};
 ghost use Rattle.ml_front.specs.declared.logic.Logic as declared;

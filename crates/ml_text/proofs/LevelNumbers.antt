@@ -4,7 +4,8 @@
 --   level_of top n           == the level of a number, if `top` is the tightest of all
 --   GroupsConnectives g s    == the tables g group the connectives of the sort s as they must
 --   tighter_above            == the level next to that of a connective has a greater number
---   left_below, right_below  == the numbers that tables give the operands of a connective are no greater than those of their levels
+--   left_below, right_below  == the numbers that tables give the operands of a connective are no greater than those of their
+--                               levels
 --   joined_is                == the level of the number of a connective is that of the connective
 --   left_is, right_is        == the levels of the numbers that tables give its operands are those of its operands
 --   loosened                 == what is read at the level of a number is read at those of lesser ones

@@ -1,10 +1,10 @@
 -- Grammars of the kind that the logics have, over any signs and any trees, and what their texts stand for.
 --
 -- A grammar has operands, and operators between them. Operators have levels, their precedence: a greater level binds
--- tighter. All operators of one level group to the same side, their associativity. An operand is written in one of several forms; a form is read from
--- left to right, sign by sign, and may hold operands itself (the operand behind a negation, what stands between
--- parentheses). So a form is given as an automaton: what it does at a sign, and what it does behind an operand that it
--- holds. A grammar may have several sorts of operands, each with its own forms and operators (formulas and programs).
+-- tighter. All operators of one level group to the same side, their associativity. An operand is written in one of several
+-- forms; a form is read from left to right, sign by sign, and may hold operands itself (the operand behind a negation, what
+-- stands between parentheses). So a form is given as an automaton: what it does at a sign, and what it does behind an operand
+-- that it holds. A grammar may have several sorts of operands, each with its own forms and operators (formulas and programs).
 -- An operand that is held reaches as far right as its level lets it: what follows it is no operator that it could take.
 -- Everything here is a relation; no order of reading is said. A logic's own grammar stands in its crate, in its own
 -- productions, and is proved to be one of these.

@@ -4,7 +4,8 @@
 -- group to the right, or and and to the left. A text is read at a level: of operands joined by a connective, of what the
 -- connectives join, or of what binds tighter still.
 --
---   Level          == operands joined by a connective or by tighter ones; an operand of the connectives; what binds tighter still
+--   Level          == operands joined by a connective or by tighter ones; an operand of the connectives; what binds tighter
+--                     still
 --   tighter o      == the level next to that of o
 --   groups_left o  == does o group to the left?
 --   left_level o   == the level of what stands to the left of o

@@ -13,7 +13,8 @@ use crate::token::{Placed, WordStart};
 use ml_base::NoMemory;
 use std::alloc::Global;
 
-/// The notation of a logic whose texts are read by `read`: its signs, the forms of its operands, its operators, and how a tree is made.
+/// The notation of a logic whose texts are read by `read`: its signs, the forms of its operands, its operators, and how a tree
+/// is made.
 ///
 /// A value of the logic has what is to be known of the whole text before it is read, such as which parentheses are
 /// marked. The ghost member `tables` says what the logic is: its grammar as tables, and what its signs count.

@@ -4,7 +4,8 @@
 --   ComesTo P W s        == s comes of what is shown where P is true and wrong where W is
 --   FitsItems xs r       == a core tells of each item whether it is among its requirements
 --   IsJudgable xs a      == what is stated answers a question of the items xs, and fits them
---   IsJudgedTo l xs ps first == of these answers none is wrong, and `first` is the line of the first one that isn't shown, if there is one
+--   IsJudgedTo l xs ps first == of these answers none is wrong, and `first` is the line of the first one that isn't shown, if
+--                               there is one
 use Rattle.std.specs.Prelude.{ℕ, ◌≡◌, ⊤, List, Option, None, Some, length}
 use Rattle.std.specs.List.{AllByRecursion}
 use Rattle.ml_front.specs.declared.logic.Logic.{Logic}

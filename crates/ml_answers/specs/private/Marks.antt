@@ -2,16 +2,18 @@
 --
 --   is_named, is_needed, is_unsettled m == does the mark m name an item? Behind `because`? Behind `perhaps:`?
 --   names_by p xs ms     == the names of the items xs whose marks ms pass the test p, in their order
---   AreMarks S n xs ms   == ms marks each of the items xs, the first of which has the number n, and those that it names are requirements
---                           in S
+--   AreMarks S n xs ms   == ms marks each of the items xs, the first of which has the number n, and those that it names are
+--                           requirements in S
 --   or_dash ws           == the words, or `-` where there is none
 --   perhaps ws           == `perhaps:` and the words; nothing where there is none
---   MarkedBy S wants xs ms ws == the words are the names that the marks ms give the items xs; one at least, where `wants` says so
+--   MarkedBy S wants xs ms ws == the words are the names that the marks ms give the items xs; one at least, where `wants` says
+--                                so
 --   heads, is_over ws    == does this word come first? Are the words over, or does `perhaps:` come next?
 --   mark_at may w a b    == the mark of an item that may be marked, or not, and has the name w, before the words a and b
 --   scan S n xs a b      == the marks of all items, and what is left of a and b
 --   behind_perhaps ws    == the words behind `perhaps:`
---   split_words wants ws == the words for needed ones, up to `perhaps:` at least, and those behind it; none where one is wanting
+--   split_words wants ws == the words for needed ones, up to `perhaps:` at least, and those behind it; none where one is
+--                           wanting
 use Rattle.std.specs.Prelude.{ℕ, ◌≡◌, ◌+◌, ◌++◌, ⊤, Bool, true, false, not, ◌&&◌, if◌then◌else◌, List, [], ◌∷◌, Option, None, Some, codes, drop}
 use Rattle.std.specs.List.{list_any}
 use Rattle.std.specs.Str.{bytes_eq}

@@ -11,8 +11,8 @@
 --   ArePartsOf n ms ps  == the parts ps are those of the items that ms names, the first item of which has the number n
 --   ArePartsReadTo xs ms at n ps rest == what is known behind the parts ps of the first n marks
 --   IsMadeOf told r     == the answer r is one of which the line before told this
---   IsReadTo xs at stated rest d == what is left at `at` are the answers that are stated, with their bodies, and behind them what is left
---                          at `rest`, where d is due
+--   IsReadTo xs at stated rest d == what is left at `at` are the answers that are stated, with their bodies, and behind them
+--                          what is left at `rest`, where d is due
 --   IsReadUpTo xs at stated rest qs == so it is where the questions qs are due
 --   IsFaultBehind xs k text f == f tells a fault behind good answers
 --   AreReadBehind xs at stated == the same, with the title before them

@@ -1,8 +1,8 @@
--- The document that is written of answers. It is one of those of which `ml_answers` speaks: its refutations have the text that is
--- written of them.
+-- The document that is written of answers. It is one of those of which `ml_answers` speaks: its refutations have the text that
+-- is written of them.
 --
---   part_text xs p     == the line `without` of a requirement, and the text of the structure that stands without it; nothing where that
---                         stays open
+--   part_text xs p     == the line `without` of a requirement, and the text of the structure that stands without it; nothing
+--                         where that stays open
 --   body_text xs r     == the text behind the line of the answer r
 --   block_text xs r    == that line, and this text
 --   document_text xs rs == the document of the answers rs

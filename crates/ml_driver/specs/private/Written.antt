@@ -1,8 +1,8 @@
 -- What is said once an output is written. Private contracts cite this.
 --
---   IsDelivered c text b a f g s d i y == the answer to the command c on the text was delivered to a sink that had taken b and has
---                               taken a, with the status s, and d, i and y are what is given back: written, as far as the sink
---                               takes it; or memory was wanting, and nothing was taken
+--   IsDelivered c text b a f g s d i y == the answer to the command c on the text was delivered to a sink that had taken b and
+--                               has taken a, with the status s, and d, i and y are what is given back: written, as far as the
+--                               sink takes it; or memory was wanting, and nothing was taken
 --   IsSaidIf b a out x s y u == the whole output out was taken, and the status s and what it says, x, are told as they are, by
 --                               u and y; or its writing failed, and nothing is said
 use Rattle.std.specs.Prelude.{ℕ, ◌≡◌, ◌⊎◌, List, Option, None, Some}

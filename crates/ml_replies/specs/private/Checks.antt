@@ -1,8 +1,8 @@
 -- What is known while a structure is checked. Private contracts and proofs cite this.
 --
 --   OneAs p m s r    == r says whether the problem p holds at the state s of m, or that its closure is too large
---   EachAs ps m s r  == r says whether all of the problems ps hold there, whose closures are small; or that some small one fails; or
---                       that not all are small, and of those that are none fails
+--   EachAs ps m s r  == r says whether all of the problems ps hold there, whose closures are small; or that some small one
+--                       fails; or that not all are small, and of those that are none fails
 --   SoFarAs ps m s r == so it says, and none failed so far
 --   JoinedAs p m s r == r says whether p holds there, or that p isn't held or not small
 use Rattle.std.specs.Prelude.{ℕ, List, Contains}
