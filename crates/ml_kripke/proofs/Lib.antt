@@ -2,6 +2,8 @@
 pub mod Range
 -- the labels of each state in a row
 pub mod LabelRows
+-- a search among the labels of a state
+pub mod Labels
 -- the rows of labels in ascending order
 pub mod RowOrder
 -- ordered lists make the structure that was asked for

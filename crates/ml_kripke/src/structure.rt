@@ -135,12 +135,13 @@ impl Structure {
 
     /// Is the proposition true at the state?
     ///
-    /// Cost: linear in the labels of the state.
+    /// Cost: logarithmic in the labels of the state.
     pub fn has_label(&self, state: u32, name: &Name) -> bool
         requires { state < self.now.states }
         ensures { result ≡ lists self.now state name.now }
     {
-        self.labels_of(state).contains(name)
+        self.keeps();
+        self.labels_of(state).binary_search(name).is_ok()
     }
 
     /// How many edges there are.
