@@ -32,6 +32,8 @@ pub mod TaskAnswers
 pub mod AskedAnswers
 -- what `check-machine` answers of what is due for `realize` and `make`
 pub mod CheckedOutcomes
+-- what `check-answers` answers of what is due for `ask files`
+pub mod AskedAreChecked
 -- what is due for `path`, beside what is due for `check-model`
 pub mod PathsBeside
 -- each structure has a quotient

@@ -39,6 +39,11 @@
 --   IsLargeTask text == the text is one of a task, and the word automaton of its formula is too large to be checked with
 --   RealizeIsChecked, MakeIsChecked == so `check-machine` answers `holds` of the document of a machine, and of that of an
 --                       environment; but of this it says that it is too large, if that is so
+--   AskIsChecked     == what is due for `ask files`, put behind its file of requirements, which ends with an LF, is answered
+--                       `right` by `check-answers`; or the first line that is open is told, and so it is where `ask` leaves the
+--                       file undecided
+--   RightIsAsked     == of a text that `check-answers` answers `right`, what stands behind the file of requirements is due for
+--                       `ask files`, with whichever limit
 --   PathsShowWhatHolds, PathsShowWhatFails == where neither `path` nor `check-model` leaves it open, `path` finds a path
 --                       exactly where `check-model` answers `holds`, if the document has the sense of its path problem, and
 --                       `fails`, if it has the other one
@@ -58,7 +63,7 @@ use Rattle.ml_task.specs.TaskText.{IsTaskText}
 use Rattle.ml_word_automaton.specs.WordAutomaton.{start_block}
 use Rattle.ml_gen.specs.FamilyRanges.{is_in_range}
 use Rattle.ml_gen.specs.declared.family.Family.{Family}
-use Rattle.ml_driver.specs.declared.command.Command.TheVariants.{Decide, Valid, Find, Prove, CheckModel, CheckRefutation, Quotient, SolveGame, CheckGame, Path, CheckMachine, Determinise, Automaton, Make, Ask, Realize, Gen, Bench}
+use Rattle.ml_driver.specs.declared.command.Command.TheVariants.{Decide, Valid, Find, Prove, CheckModel, CheckRefutation, Quotient, SolveGame, CheckGame, Path, CheckMachine, CheckAnswers, Determinise, Automaton, Make, Ask, Realize, Gen, Bench}
 use Rattle.ml_driver.specs.declared.command.Command.{Command}
 use Rattle.ml_bisim.specs.Quotient.{class_of}
 use Rattle.ml_model_check.specs.Checked.{IsCheckedAs, IsDocument}
@@ -74,6 +79,7 @@ use Rattle.ml_parity.specs.Game.{size}
 use Rattle.ml_parity.specs.Solution.{winner_at}
 use Rattle.ml_trace.specs.WordAutomata.{IsAcceptedFrom, IsDetAcceptedFrom, IsWordLasso, WordLasso}
 use Rattle.ml_translate.specs.Output.{TextAccepts}
+use Rattle.ml_ask_text.specs.declared.told.Form.TheVariants.{Files}
 use Rattle.ml_driver.specs.Automata.{IsWrittenFor}
 use Rattle.ml_driver.specs.CheckedGames.{finding_said}
 use Rattle.ml_driver.specs.Games.{IsSolved}
@@ -81,18 +87,19 @@ use Rattle.ml_driver.specs.declared.engine.Engine.{Engine}
 use Rattle.ml_driver.specs.declared.engine.Engine.TheVariants.{Measures}
 use Rattle.ml_decide.specs.Limits.{IsClosed, StaysOpen}
 use Rattle.ml_decide.specs.declared.cause.Cause.{Cause}
-use Rattle.ml_driver.specs.declared.status.Status.TheVariants.{Yes, No, Undecided}
+use Rattle.ml_driver.specs.declared.status.Status.TheVariants.{Yes, No, Undecided, Text}
 use Rattle.ml_driver.specs.Decision.{IsAnswered, IsProblem, Refuted, Satisfied}
 use Rattle.ml_driver.specs.declared.question.Question.{Question}
 use Rattle.ml_driver.specs.declared.status.Status.{Status}
 use Rattle.ml_driver.specs.Quotients.{IsReduced}
-use Rattle.ml_driver.specs.Run.{IsDue, IsWhole}
+use Rattle.ml_driver.specs.Run.{IsDue, IsWhole, IsWithin}
 use Rattle.ml_driver.specs.Said.{said_text}
 use Rattle.ml_driver.specs.declared.said.Said.TheVariants as said
 use Rattle.ml_driver.specs.declared.said.Size.TheVariants.{Closure}
 use Rattle.ml_driver.specs.Texts.{StandsFor}
 use Rattle.ml_driver.specs.Words.{command_of}
 use Rattle.ml_lines.specs.Lines.{Word}
+use Rattle.ml_lines.specs.Reading.{left_of}
 
 abbrev pub searches : Option Command → Bool
 searches (Some (Find l n)) = true
@@ -221,6 +228,27 @@ RealizeIsChecked = IsCheckedToWork Realize
 
 abbrev pub MakeIsChecked : Type 0
 MakeIsChecked = IsCheckedToWork Make
+
+-- what `check-answers` answers of answers of which no line is wrong
+abbrev pub IsFoundRight : List ℕ → Type 0
+IsFoundRight text = IsDue (Some CheckAnswers) text Yes (said_text said.Right)
+
+abbrev pub IsFoundOpen : List ℕ → Type 0
+IsFoundOpen text = (line : ℕ) × IsDue (Some CheckAnswers) text Undecided (said_text (said.OpenLine line))
+
+abbrev pub AskIsChecked : Type 0
+AskIsChecked = (n : ℕ) (text : List ℕ) (s : Status) (out : List ℕ)
+    → left_of text ≡ []
+    → IsWithin CheckAnswers (text ++ out)
+    → s ≢ Text
+    → IsDue (Some (Ask Files n)) text s out
+    → ((s ≢ Undecided) × IsFoundRight (text ++ out)) ⊎ IsFoundOpen (text ++ out)
+
+abbrev pub RightIsAsked : Type 0
+RightIsAsked = (text out : List ℕ)
+    → IsDue (Some CheckAnswers) text Yes out
+    → (file : List ℕ) × (answers : List ℕ) × (text ≡ file ++ answers)
+    × ((n : ℕ) → (s : Status) × IsDue (Some (Ask Files n)) file s answers)
 
 -- where the sense of the document and that of its path problem are so, a path is found exactly where the check has this status
 abbrev pub IsFoundBeside : (Bool → Bool → Type 0) → Status → Type 0

@@ -73,14 +73,7 @@ pub(crate) fn migrate(alloc: Global, text: &[u8]) -> Result<Output, NoMemory>
             bytes: document,
             said: None,
         }),
-        Err(DocRefusal::Fault(fault)) => {
-            let said = Said::RefusedDocument(fault);
-            Ok(Output {
-                status: Status::Text,
-                bytes: said.line(alloc)?,
-                said: Some(said),
-            })
-        }
+        Err(DocRefusal::Fault(fault)) => Output::refused(alloc, Said::RefusedDocument(fault)),
         Err(DocRefusal::NoMemory) => Err(NoMemory),
     }
 }

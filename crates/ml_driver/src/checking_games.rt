@@ -5,7 +5,7 @@ ghost use Rattle.ml_driver.specs.Run.{IsAnswer};
 ghost use Rattle.ml_driver.specs.Said.{IsSaid, IsTold, never};
 
 use crate::refusing::game_refused;
-use crate::{Command, Output, Said, Status};
+use crate::{Command, Output, Said};
 use ml_base::NoMemory;
 use ml_pgsolver::{SolutionFinding, check_solution};
 use std::alloc::Global;
@@ -18,11 +18,7 @@ pub(crate) fn check_game(alloc: Global, text: &[u8]) -> Result<Output, NoMemory>
     match check_solution(alloc, text) {
         Ok(finding) => finding_said(alloc, finding),
         Err(refusal) => match game_refused(refusal) {
-            Some(said) => Ok(Output {
-                status: Status::Text,
-                bytes: said.line(alloc)?,
-                said: Some(said),
-            }),
+            Some(said) => Output::refused(alloc, said),
             None => Err(NoMemory),
         },
     }

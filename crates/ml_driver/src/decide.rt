@@ -29,11 +29,7 @@ pub(crate) fn decide(alloc: Global, question: Question, text: &[u8]) -> Result<O
             answer(alloc, question, text, &problem)
         }
         Err(refusal) => match formula_refused(refusal) {
-            Some(said) => Ok(Output {
-                status: Status::Text,
-                bytes: said.line(alloc)?,
-                said: Some(said),
-            }),
+            Some(said) => Output::refused(alloc, said),
             None => Err(NoMemory),
         },
     }

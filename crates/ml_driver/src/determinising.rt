@@ -21,11 +21,7 @@ pub(crate) fn determinise_text(alloc: Global, limit: u32, text: &[u8]) -> Result
         Ok(automaton) => automaton,
         Err(refusal) => {
             return match automaton_refused(refusal) {
-                Some(said) => Ok(Output {
-                    status: Status::Text,
-                    bytes: said.line(alloc)?,
-                    said: Some(said),
-                }),
+                Some(said) => Output::refused(alloc, said),
                 None => Err(NoMemory),
             };
         }

@@ -1,14 +1,15 @@
 // What holds of what is due by its definition alone: the functions do nothing, their contracts are the theorems.
 ghost use Rattle.std.specs.Prelude.{◌≡◌, ◌+◌, ◌^◌};
+ghost use Rattle.ml_answers.specs.declared.finding.TheConstants.{LONGEST_ANSWERS, LONGEST_SPECIFICATION};
 ghost use Rattle.ml_machine_check.specs.Checked as machines;
 ghost use Rattle.ml_paths.specs.Paths as paths;
 ghost use Rattle.ml_realize.specs.TaskGame.{most_nodes};
 ghost use Rattle.ml_translate.specs.Translation as translation;
 ghost use Rattle.ml_task.specs.declared.limits.TheConstants.{LONGEST_TASK_TEXT};
 ghost use Rattle.ml_driver.specs.declared.command.TheConstants.{DEFAULT_LIMIT, GREATEST_LIMIT, LONGEST_DOCUMENT, LONGEST_NUMBER, LONGEST_TEXT};
-ghost use Rattle.ml_driver.specs.Laws.{AnswersAreExact, DecideIsChecked, DecidedAreChecked, FindIsChecked, FindsAsDecided, MakeIsChecked, MakesAsRealized, OneAutomatonDue};
+ghost use Rattle.ml_driver.specs.Laws.{AnswersAreExact, AskIsChecked, DecideIsChecked, DecidedAreChecked, FindIsChecked, FindsAsDecided, MakeIsChecked, MakesAsRealized, OneAutomatonDue};
 ghost use Rattle.ml_driver.specs.Laws.{OneAutomatonWritten, OneCheckDue, OneDue, OneMeasure, OneQuotientDue, OneSolutionDue, OneUnlessOpen, ProveIsChecked, ProvesAsDecided};
-ghost use Rattle.ml_driver.specs.Laws.{PathsShowWhatFails, PathsShowWhatHolds, QuotientsAreCheckedAlike, QuotientsAreRead, RealizeIsChecked, RefutedAreAccepted, SameWinners, SolutionsAreAccepted, SomeDue, SomeDueForWords};
+ghost use Rattle.ml_driver.specs.Laws.{PathsShowWhatFails, PathsShowWhatHolds, QuotientsAreCheckedAlike, QuotientsAreRead, RealizeIsChecked, RefutedAreAccepted, RightIsAsked, SameWinners, SolutionsAreAccepted, SomeDue, SomeDueForWords};
 ghost use Rattle.ml_driver.specs.Laws.{ValidIsChecked, WrittenAcceptsTheSame, WrittenHoldsTheSame, WrittenIsTranslated};
 
 /// For each command but `find`, `prove`, `make` and `ask`, for words that are none, and for each input exactly one status is
@@ -61,6 +62,14 @@ pub fn made_are_checked()
     ensures made { MakeIsChecked }
 {}
 
+/// What is due for `ask files`, put behind its file of requirements, is answered `right` by `check-answers`, or with the first
+/// line that is open; this comes always where `ask` itself leaves the file undecided. The file ends with an LF, and both
+/// together are no longer than what `check-answers` takes. What is answered `right` is so due, with whichever limit.
+pub fn answers_are_checked()
+    ensures asked { AskIsChecked }
+    ensures right { RightIsAsked }
+{}
+
 /// Where neither leaves it open, `path` finds a path of a document exactly where `check-model` answers `holds`, if the
 /// document has the sense of its path problem: so for LTL, on structures and on words, for `E f` in the plain sense, and for
 /// `A f` in the negated one. It finds one exactly where `check-model` answers `fails`, if the document has the other sense.
@@ -80,6 +89,8 @@ pub fn limits()
     ensures translated { translation.most_nodes ≡ 65536 }
     ensures paths { paths.most_nodes ≡ 65536 }
     ensures machines { machines.most_nodes ≡ 65536 }
+    ensures answers { LONGEST_ANSWERS ≡ 134217728 }
+    ensures specification { LONGEST_SPECIFICATION ≡ 1048576 }
     ensures document { LONGEST_DOCUMENT + 1 ≡ 2 ^ 63 }
     ensures usual { DEFAULT_LIMIT ≡ 50000 }
     ensures greatest { GREATEST_LIMIT ≡ 200000 }

@@ -30,4 +30,13 @@ impl Output {
             said: Some(said),
         })
     }
+    // why the input is refused
+    pub(crate) fn refused(alloc: Global, said: Said) -> Result<Output, NoMemory>
+        requires { Status.Text ≡ status_said said }
+        ensures status { IfOk result (λ output. output.status ≡ Status.Text) }
+        ensures output { IfOk result (λ output. output.bytes.items ≡ said_text said) }
+        ensures told { (text : Status → Bool) → IfOk result (λ output. IsTold text output.status output.bytes.items output.said) }
+    {
+        Output::line(alloc, said)
+    }
 }

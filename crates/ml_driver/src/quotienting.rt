@@ -22,14 +22,7 @@ pub(crate) fn quotient_document(alloc: Global, text: &[u8]) -> Result<Output, No
 {
     match read_document(alloc, text) {
         Ok(shown) => answer(alloc, text, &shown),
-        Err(DocRefusal::Fault(fault)) => {
-            let said = Said::RefusedDocument(fault);
-            Ok(Output {
-                status: Status::Text,
-                bytes: said.line(alloc)?,
-                said: Some(said),
-            })
-        }
+        Err(DocRefusal::Fault(fault)) => Output::refused(alloc, Said::RefusedDocument(fault)),
         Err(DocRefusal::NoMemory) => Err(NoMemory),
     }
 }

@@ -33,14 +33,7 @@ pub(crate) fn answer_task(
 {
     match read(alloc, text) {
         Ok(task) => answer(alloc, way, &task, limit),
-        Err(DocRefusal::Fault(fault)) => {
-            let said = Said::RefusedDocument(fault);
-            Ok(Output {
-                status: Status::Text,
-                bytes: said.line(alloc)?,
-                said: Some(said),
-            })
-        }
+        Err(DocRefusal::Fault(fault)) => Output::refused(alloc, Said::RefusedDocument(fault)),
         Err(DocRefusal::NoMemory) => Err(NoMemory),
     }
 }

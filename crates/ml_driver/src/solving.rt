@@ -28,11 +28,7 @@ pub(crate) fn solve_game(alloc: Global, engine: Engine, text: &[u8]) -> Result<O
             })
         }
         Err(refusal) => match game_refused(refusal) {
-            Some(said) => Ok(Output {
-                status: Status::Text,
-                bytes: said.line(alloc)?,
-                said: Some(said),
-            }),
+            Some(said) => Output::refused(alloc, said),
             None => Err(NoMemory),
         },
     }

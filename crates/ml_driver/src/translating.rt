@@ -20,11 +20,7 @@ pub(crate) fn translate_text(alloc: Global, limit: u32, text: &[u8]) -> Result<O
     match parse(alloc, text) {
         Ok(formula) => answer(alloc, limit, text, &formula),
         Err(refusal) => match formula_refused(refusal) {
-            Some(said) => Ok(Output {
-                status: Status::Text,
-                bytes: said.line(alloc)?,
-                said: Some(said),
-            }),
+            Some(said) => Output::refused(alloc, said),
             None => Err(NoMemory),
         },
     }
