@@ -22,13 +22,13 @@ use Rattle.ml_ask_text.specs.declared.told.Verdict.TheVariants.{AsMeant, Against
 use Rattle.ml_lines.specs.Reading.{left_of}
 use Rattle.ml_replies.specs.Replies.{Replied, Reply, LeftOpen, Met, Unmet}
 use Rattle.ml_spec.specs.declared.specification.Item.{Item}
-use Rattle.ml_driver.specs.Asked.{requirements_told, status_of, IsAsked}
+use Rattle.ml_driver.specs.Asked.{requirements_told, status_of}
 use Rattle.ml_driver.specs.CheckedAnswers.{said_of, AreAnswersTold}
 use Rattle.ml_driver.specs.Codes.{code_of}
-use Rattle.ml_driver.specs.Laws.{AskIsChecked, IsFoundOpen, IsFoundRight, RightIsAsked}
+use Rattle.ml_driver.specs.Laws.{AskIsChecked, IsFileWithAnswers, IsFoundOpen, IsFoundRight, RightIsAsked}
 use Rattle.ml_driver.specs.Run.{IsDue, IsWithin}
 use Rattle.ml_driver.specs.Said.{said_text, status_said}
-use Rattle.ml_driver.specs.declared.command.Command.TheVariants.{Ask, CheckAnswers}
+use Rattle.ml_driver.specs.declared.command.Command.TheVariants.{CheckAnswers}
 use Rattle.ml_driver.specs.declared.status.Status.{Status}
 use Rattle.ml_driver.specs.declared.status.Status.TheVariants.{Text, Undecided, Yes}
 
@@ -48,7 +48,7 @@ not_undecided xs rs are = by_lines (list_any (is_against xs) rs) (list_any is_le
     by_lines : (against left : Bool)
         → left ≡ false
         → status_of (if against then Against else if left then Open else AsMeant) ≢ Undecided
-    by_lines true open closed is = absurd (omega (arith, ap code_of is))
+    by_lines true left closed is = absurd (omega (arith, ap code_of is))
     by_lines false true closed is = absurd (true≢false closed)
     by_lines false false closed is = absurd (omega (arith, ap code_of is))
 
@@ -89,31 +89,36 @@ pub right_is_asked : RightIsAsked
 right_is_asked text out (inr long) = absurd (omega (arith, ap code_of long.1.0))
 right_is_asked text out (inl (within, told)) = by_finding told.finding told.is_found told.is_said.0
   where
-    abbrev IsAsked : Type 0
-    IsAsked = (file : List ℕ) × (answers : List ℕ) × (text ≡ file ++ answers)
-        × ((n : ℕ) → (s : Status) × IsDue (Some (Ask Files n)) file s answers)
-
-    by_finding : (x : AnswersFinding) → IsFound text x → Yes ≡ status_said (said_of x) → IsAsked
+    by_finding : (x : AnswersFinding) → IsFound text x → Yes ≡ status_said (said_of x) → IsFileWithAnswers text
     by_finding found.Right is yes =
         let right = right_is_true text is in
         let xs = right.1.0 in
         let rs = right.1.1.0 in
-        let of = right.1.1.1.0 in
-        (of.spec, of.document, of.are_both, λ n.
-        (status_of (verdict_of xs rs), inl (of.is_short, record {
-          told = Answered (verdict_of xs rs) of.document;
-          is_told = record {
-            logic = right.0;
-            items = xs;
-            replies = rs;
-            is_specification = of.is_specification;
-            are_replies = right.1.1.1.1 n;
-            is_verdict = refl;
-            is_written = of.is_document;
-          };
-          status_is = refl;
-          is_written = refl;
-        })))
+        let of = right.1.1.1.0 in (
+          of.spec,
+          of.document,
+          of.are_both,
+          λ n. (
+            status_of (verdict_of xs rs),
+            inl (
+              of.is_short,
+              record {
+                told = Answered (verdict_of xs rs) of.document;
+                is_told = record {
+                  logic = right.0;
+                  items = xs;
+                  replies = rs;
+                  is_specification = of.is_specification;
+                  are_replies = right.1.1.1.1 n;
+                  is_verdict = refl;
+                  is_written = of.is_document;
+                };
+                status_is = refl;
+                is_written = refl;
+              },
+            ),
+          ),
+        )
     by_finding (found.WrongAt line) is yes = absurd (omega (arith, ap code_of yes))
     by_finding (found.OpenAt line) is yes = absurd (omega (arith, ap code_of yes))
     by_finding found.TooLong is yes = absurd (omega (arith, ap code_of yes))

@@ -42,7 +42,7 @@
 --   AskIsChecked     == what is due for `ask files`, put behind its file of requirements, which ends with an LF, is answered
 --                       `right` by `check-answers`; or the first line that is open is told, and so it is where `ask` leaves the
 --                       file undecided
---   RightIsAsked     == of a text that `check-answers` answers `right`, what stands behind the file of requirements is due for
+--   RightIsAsked     == a text that `check-answers` answers `right` is a file of requirements, and behind it what is due for
 --                       `ask files`, with whichever limit
 --   PathsShowWhatHolds, PathsShowWhatFails == where neither `path` nor `check-model` leaves it open, `path` finds a path
 --                       exactly where `check-model` answers `holds`, if the document has the sense of its path problem, and
@@ -244,11 +244,13 @@ AskIsChecked = (n : ℕ) (text : List ℕ) (s : Status) (out : List ℕ)
     → IsDue (Some (Ask Files n)) text s out
     → ((s ≢ Undecided) × IsFoundRight (text ++ out)) ⊎ IsFoundOpen (text ++ out)
 
-abbrev pub RightIsAsked : Type 0
-RightIsAsked = (text out : List ℕ)
-    → IsDue (Some CheckAnswers) text Yes out
-    → (file : List ℕ) × (answers : List ℕ) × (text ≡ file ++ answers)
+-- a file of requirements, and behind it what is due for `ask files`, with whichever limit
+abbrev pub IsFileWithAnswers : List ℕ → Type 0
+IsFileWithAnswers text = (file : List ℕ) × (answers : List ℕ) × (text ≡ file ++ answers)
     × ((n : ℕ) → (s : Status) × IsDue (Some (Ask Files n)) file s answers)
+
+abbrev pub RightIsAsked : Type 0
+RightIsAsked = (text out : List ℕ) → IsDue (Some CheckAnswers) text Yes out → IsFileWithAnswers text
 
 -- where the sense of the document and that of its path problem are so, a path is found exactly where the check has this status
 abbrev pub IsFoundBeside : (Bool → Bool → Type 0) → Status → Type 0
