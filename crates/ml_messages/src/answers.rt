@@ -7,12 +7,7 @@ use std::alloc::{AllocError, Global};
 /// Why the answer in this line isn't shown.
 pub(crate) fn wrong_answer(alloc: Global, input: &[u8], line: usize) -> Result<String, AllocError> {
     let answer = line_of(input, line).unwrap_or(b"");
-    told(
-        alloc,
-        answer,
-        line,
-        of_wrong_answer(has_word(answer, b"because")),
-    )
+    told(alloc, answer, line, of_wrong_answer(has_refutation(answer)))
 }
 
 /// Why the answer in this line stays open.
@@ -22,9 +17,12 @@ pub(crate) fn open_answer(alloc: Global, input: &[u8], line: usize) -> Result<St
 }
 
 fn of_open_answer(answer: &[u8]) -> &'static str {
-    if has_word(answer, b"open") {
+    if answer.ends_with(b" open") && !has_refutation(answer) {
         "it is left open"
-    } else if has_word(answer, b"perhaps:") {
+    } else if answer
+        .split(|byte| *byte == b' ')
+        .any(|word| word == b"perhaps:")
+    {
         "whether the requirements behind `perhaps:` are needed is left open"
     } else {
         "it can't be checked, since a closure has more than 4,096 nodes or a joined formula more than 1,000 occurrences"
@@ -36,6 +34,14 @@ fn told(alloc: Global, answer: &[u8], line: usize, cause: &str) -> Result<String
     format!(in alloc; "line {line}: {answer}: {cause}")
 }
 
-fn has_word(line: &[u8], word: &[u8]) -> bool {
-    line.split(|byte| *byte == b' ').any(|found| found == word)
+// questions and requirements may be called `because` and `no`: so it is the word right behind the answer
+fn has_refutation(answer: &[u8]) -> bool {
+    let mut is_behind = false;
+    for word in answer.split(|byte| *byte == b' ') {
+        if is_behind && word == b"because" {
+            return true;
+        }
+        is_behind = word == b"yes" || word == b"no";
+    }
+    false
 }
