@@ -22,18 +22,24 @@ fn words_of(alloc: Global, line: &str) -> Result<Vec<String>, NoMemory> {
     Ok(words)
 }
 
-fn answer_in(alloc: Global, words: &[String], source: &mut MemSource) -> Result<Answer, NoMemory> {
-    let mut sink = MemSink::new(alloc, 4096, Vec::new(alloc), ROOM)?;
-    let status = run(alloc, words, source, &mut sink).code();
+/// What the program answers to these words over a source and a sink.
+pub(crate) fn answer_over(
+    alloc: Global,
+    words: &str,
+    source: &mut MemSource,
+    sink: &mut MemSink,
+) -> Result<Answer, NoMemory> {
+    let words = words_of(alloc, words)?;
+    let status = run(alloc, &words, source, sink).code();
     let output = Vec::from_slice(alloc, sink.taken())?;
     Ok(Answer { status, output })
 }
 
 /// What the program answers to these words on an input.
 pub(crate) fn answer_to(alloc: Global, words: &str, input: &[u8]) -> Result<Answer, NoMemory> {
-    let words = words_of(alloc, words)?;
     let mut source = MemSource::new(Vec::from_slice(alloc, input)?, 4096, Vec::new(alloc));
-    answer_in(alloc, &words, &mut source)
+    let mut sink = MemSink::new(alloc, 4096, Vec::new(alloc), ROOM)?;
+    answer_over(alloc, words, &mut source, &mut sink)
 }
 
 /// The document with an answer that was written, and the command that checks it.

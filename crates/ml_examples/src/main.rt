@@ -7,11 +7,12 @@
 // be found good; one that `migrate` or `quotient` writes has to be found as the one that it is written of.
 //
 // The command lines of pages in `data/docs` are run too, and those are printed that print something else than their page
-// says.
+// says. At last each read and each write of a call fails in turn.
 //
 //   answers       what the program answers, and what is said of a document by the command that checks it
 //   command_line  a command line of a page, taken apart
 //   failure       why the rows were not all run
+//   faults        a call whose reads and writes fail in turn
 //   manual        what the manual page has to have
 //   pages         the command lines of a page, run
 //   row           a row, its lines, and whether an answer is as it says
@@ -20,11 +21,13 @@
 mod answers;
 mod command_line;
 mod failure;
+mod faults;
 mod manual;
 mod pages;
 mod row;
 
 use crate::failure::Failure;
+use crate::faults::run_faults;
 use crate::manual::read_manual;
 use crate::pages::run_page;
 use crate::row::{Counts, Row, finish, read_line};
@@ -33,7 +36,7 @@ use std::fs;
 use std::io::Print;
 use std::rt::Files;
 
-const FILES: [&str; 49] = [
+const FILES: [&str; 50] = [
     "examples",
     "specifications",
     "patterns",
@@ -82,6 +85,7 @@ const FILES: [&str; 49] = [
     "small_tasks_made",
     "literature_tasks",
     "requirements",
+    "answers",
     "asked_specifications",
 ];
 
@@ -131,5 +135,6 @@ fn main(rt: HostRuntime) -> Result<(), Failure> {
     for page in PAGES {
         run_page(&rt, page)?;
     }
-    read_manual(&rt)
+    read_manual(&rt)?;
+    run_faults(&rt)
 }
