@@ -5,6 +5,9 @@ use ml_spec::SpecRule;
 /// How many bytes the text of a specification has at most.
 pub const LONGEST_SPECIFICATION: usize = 1_048_576;
 
+/// How many bytes a specification has at most where a document of answers stands behind it, both together.
+pub const LONGEST_ANSWERS: usize = 134_217_728;
+
 /// What is found of a text: a specification, with a document of answers behind it.
 #[derive(Clone, Copy, PartialEq, Eq)]
 pub enum AnswersFinding {

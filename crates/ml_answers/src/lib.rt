@@ -30,5 +30,5 @@ mod stated;
 mod words;
 
 pub use check::check_answers;
-pub use finding::{AnswersFinding, LONGEST_SPECIFICATION};
+pub use finding::{AnswersFinding, LONGEST_ANSWERS, LONGEST_SPECIFICATION};
 pub use rule::AnswersRule;
