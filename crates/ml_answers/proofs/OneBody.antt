@@ -389,6 +389,8 @@ module _ (xs : List Item) (S : ℕ → Bool) (q : Question) where
           let d = only.0 in
           let made = only.2 in
           let body : IsBody xs (Unmet d) t = subst (λ p. IsBody xs p t) only.1 x.1 in
+          let core : Unmet d ≡ as_core (d.refutation, d.parts) =
+          λ i. Unmet (record { taken = made.taken i; parts = d.parts; refutation = d.refutation }) in
           (
             (d.refutation, d.parts),
             record {
@@ -398,7 +400,7 @@ module _ (xs : List Item) (S : ℕ → Bool) (q : Question) where
               is_first = body.is_first;
               is_second = (made.parts, body.is_second);
             },
-            only.1 ∙ (λ i. Unmet (record { taken = made.taken i; parts = d.parts; refutation = d.refutation })),
+            only.1 ∙ core,
           )
 
       core_fault : (k : ℕ) (t : List ℕ) (e : DocFault) → BodyFault ws k t e → CoreFault k t e

@@ -129,24 +129,24 @@ module _ (l : Logic) (xs : List Item) (is : IsSpecified l xs) where
 
 -- what is found of a document, by its kinds
 data View (spec text : List ℕ) (x : AnswersFinding) : Type 0 where
-  too_long : longest_specification < length spec → x ≡ TooLong → View spec text x
-  refused : length spec ≤ longest_specification
+  is_too_long : longest_specification < length spec → x ≡ TooLong → View spec text x
+  is_refused : length spec ≤ longest_specification
       → (line column : ℕ) (r : SpecRule) → IsRefused spec line column r → x ≡ Refused line column r → View spec text x
-  bad : length spec ≤ longest_specification
+  is_unreadable : length spec ≤ longest_specification
       → (l : Logic) (xs : List Item) → IsSpecification spec l xs
       → (f : DocFault) → IsAnswersFault xs (1 + line_count spec) text f → x ≡ Unreadable f → View spec text x
-  checked : length spec ≤ longest_specification
+  is_checked : length spec ≤ longest_specification
       → (l : Logic) (xs : List Item) → IsSpecification spec l xs
       → IsCheckedAs l xs (1 + line_count spec) text x → View spec text x
 
 view : (spec text : List ℕ) (x : AnswersFinding) → IsFoundIn spec text x → View spec text x
-view spec text TooLong found = too_long found refl
-view spec text (Refused line column r) found = refused found.0 line column r found.1 refl
-view spec text (Unreadable f) (short, (l, xs, is, found)) = bad short l xs is f found refl
-view spec text Right (short, (l, xs, is, found)) = checked short l xs is found
-view spec text (OpenAt line) (short, (l, xs, is, found)) = checked short l xs is found
-view spec text (WrongAt line) (short, (l, xs, is, found)) = checked short l xs is found
-view spec text (NoDocument line column) (short, (l, xs, is, found)) = checked short l xs is found
+view spec text TooLong found = is_too_long found refl
+view spec text (Refused line column r) found = is_refused found.0 line column r found.1 refl
+view spec text (Unreadable f) (short, (l, xs, is, found)) = is_unreadable short l xs is f found refl
+view spec text Right (short, (l, xs, is, found)) = is_checked short l xs is found
+view spec text (OpenAt line) (short, (l, xs, is, found)) = is_checked short l xs is found
+view spec text (WrongAt line) (short, (l, xs, is, found)) = is_checked short l xs is found
+view spec text (NoDocument line column) (short, (l, xs, is, found)) = is_checked short l xs is found
 
 module _ (spec text : List ℕ) where
   -- of two specifications with this text
@@ -181,38 +181,39 @@ module _ (spec text : List ℕ) where
       checked_or_bad l xs (specified spec l xs is) (1 + line_count spec) text x f (checked_in l k xs ys x same c) bad
 
   one_view : (x y : AnswersFinding) → View spec text x → View spec text y → x ≡ y
-  one_view x y (too_long a p) (too_long b q) = p ∙ sym q
-  one_view x y (too_long a p) (refused b line column r is q) = absurd (omega (arith, a, b))
-  one_view x y (too_long a p) (bad b l xs is f found q) = absurd (omega (arith, a, b))
-  one_view x y (too_long a p) (checked b l xs is found) = absurd (omega (arith, a, b))
-  one_view x y (refused a line column r is p) (too_long b q) = absurd (omega (arith, a, b))
-  one_view x y (refused a line column r is p) (refused b row place s also q) =
+  one_view x y (is_too_long a p) (is_too_long b q) = p ∙ sym q
+  one_view x y (is_too_long a p) (is_refused b line column r is q) = absurd (omega (arith, a, b))
+  one_view x y (is_too_long a p) (is_unreadable b l xs is f found q) = absurd (omega (arith, a, b))
+  one_view x y (is_too_long a p) (is_checked b l xs is found) = absurd (omega (arith, a, b))
+  one_view x y (is_refused a line column r is p) (is_too_long b q) = absurd (omega (arith, a, b))
+  one_view x y (is_refused a line column r is p) (is_refused b row place s also q) =
       let same = one_refusal spec line column r row place s is also in
-      p ∙ (λ i. Refused (same.0 i) (same.1 i) (same.2 i)) ∙ sym q
-  one_view x y (refused a line column r is p) (bad b l xs also f found q) =
+      let told : Refused line column r ≡ Refused row place s = λ i. Refused (same.0 i) (same.1 i) (same.2 i) in
+      p ∙ told ∙ sym q
+  one_view x y (is_refused a line column r is p) (is_unreadable b l xs also f found q) =
       absurd (never_both spec l xs line column r also is)
-  one_view x y (refused a line column r is p) (checked b l xs also found) =
+  one_view x y (is_refused a line column r is p) (is_checked b l xs also found) =
       absurd (never_both spec l xs line column r also is)
-  one_view x y (bad a l xs is f found p) (too_long b q) = absurd (omega (arith, a, b))
-  one_view x y (bad a l xs is f found p) (refused b line column r also q) =
+  one_view x y (is_unreadable a l xs is f found p) (is_too_long b q) = absurd (omega (arith, a, b))
+  one_view x y (is_unreadable a l xs is f found p) (is_refused b line column r also q) =
       absurd (never_both spec l xs line column r is also)
-  one_view x y (bad a l xs is f found p) (bad b k ys also g other q) =
+  one_view x y (is_unreadable a l xs is f found p) (is_unreadable b k ys also g other q) =
       p ∙ ap Unreadable (faults_same l k xs ys f g is (one_specification spec l k xs ys is also) found other) ∙ sym q
-  one_view x y (bad a l xs is f found p) (checked b k ys also other) =
+  one_view x y (is_unreadable a l xs is f found p) (is_checked b k ys also other) =
       absurd (never_two l k xs ys y f is (one_specification spec l k xs ys is also) other found)
-  one_view x y (checked a l xs is found) (too_long b q) = absurd (omega (arith, a, b))
-  one_view x y (checked a l xs is found) (refused b line column r also q) =
+  one_view x y (is_checked a l xs is found) (is_too_long b q) = absurd (omega (arith, a, b))
+  one_view x y (is_checked a l xs is found) (is_refused b line column r also q) =
       absurd (never_both spec l xs line column r is also)
-  one_view x y (checked a l xs is found) (bad b k ys also g other q) =
+  one_view x y (is_checked a l xs is found) (is_unreadable b k ys also g other q) =
       absurd (never_two k l ys xs x g also (one_specification spec k l ys xs also is) found other)
-  one_view x y (checked a l xs is found) (checked b k ys also other) =
+  one_view x y (is_checked a l xs is found) (is_checked b k ys also other) =
       one_checked l xs (specified spec l xs is) (1 + line_count spec) text x y found
       (checked_in l k xs ys y (one_specification spec l k xs ys is also) other)
 
 none_found : (text : List ℕ) (x y : AnswersFinding) → IsFoundFrom None text x → IsFoundFrom None text y → x ≡ y
 none_found text (NoDocument k c) (NoDocument j d) a b =
-    let line = a.0 ∙ sym b.0 in
-    let column = a.1 ∙ sym b.1 in
+    let line : k ≡ j = a.0 ∙ sym b.0 in
+    let column : c ≡ d = a.1 ∙ sym b.1 in
     λ i. NoDocument (line i) (column i)
 none_found text Right y a b = absurd a
 none_found text (OpenAt k) y a b = absurd a

@@ -26,20 +26,20 @@ module _ (P : Placed → Type 0) where
   abbrev NoneOf : List Placed → Type 0
   NoneOf ps = AllByRecursion (λ p. ¬ (P p)) ps
 
-  firsts_same : (bs cs : List Placed) (a b : Placed) (as ds : List Placed)
+  firsts_same : (bs cs : List Placed) (a b : Placed) (us vs : List Placed)
       → NoneOf bs
       → NoneOf cs
       → P a
       → P b
-      → bs ++ a ∷ as ≡ cs ++ b ∷ ds
+      → bs ++ a ∷ us ≡ cs ++ b ∷ vs
       → a ≡ b
-  firsts_same [] [] a b as ds none no is so e = head_same a b as ds e
-  firsts_same [] (c ∷ cs) a b as ds none no is so e =
-      absurd (no.0 (subst P (head_same a c as (cs ++ b ∷ ds) e) is))
-  firsts_same (x ∷ bs) [] a b as ds none no is so e =
-      absurd (none.0 (subst P (sym (head_same x b (bs ++ a ∷ as) ds e)) so))
-  firsts_same (x ∷ bs) (c ∷ cs) a b as ds none no is so e =
-      firsts_same bs cs a b as ds none.1 no.1 is so (tail_same x c (bs ++ a ∷ as) (cs ++ b ∷ ds) e)
+  firsts_same [] [] a b us vs none free is so e = head_same a b us vs e
+  firsts_same [] (c ∷ cs) a b us vs none free is so e =
+      absurd (free.0 (subst P (head_same a c us (cs ++ b ∷ vs) e) is))
+  firsts_same (x ∷ bs) [] a b us vs none free is so e =
+      absurd (none.0 (subst P (sym (head_same x b (bs ++ a ∷ us) vs e)) so))
+  firsts_same (x ∷ bs) (c ∷ cs) a b us vs none free is so e =
+      firsts_same bs cs a b us vs none.1 free.1 is so (tail_same x c (bs ++ a ∷ us) (cs ++ b ∷ vs) e)
 
   pub first_once : (ps : List Placed) (k j : ℕ) → IsFirst P ps k → IsFirst P ps j → k ≡ j
   first_once ps k j x y =

@@ -123,16 +123,16 @@ once_line ws rules plain keeps = record {
 
 -- ---- two parts
 
-module _ (A B : Type 0) (P : A → List ℕ → Type 0) (Some : List ℕ → Type 0) (Q : B → List ℕ → Type 0)
+module _ (A B : Type 0) (P : A → List ℕ → Type 0) (Fronts : List ℕ → Type 0) (Q : B → List ℕ → Type 0)
     (F G : ℕ → List ℕ → DocFault → Type 0)
-    (some : (t : List ℕ) → Some t → (a : A) × P a t)
+    (some : (t : List ℕ) → Fronts t → (a : A) × P a t)
     (front : Once A P F)
     (back : Once B Q G) where
   abbrev pub Both : A × B → List ℕ → Type 0
   Both c t = IsThen (P c.0) (Q c.1) t
 
   abbrev pub EitherFault : ℕ → List ℕ → DocFault → Type 0
-  EitherFault k t e = F k t e ⊎ IsBehind Some G k t e
+  EitherFault k t e = F k t e ⊎ IsBehind Fronts G k t e
 
   -- a text with a front, and the rest of it
   front_of : (c : A × B) (f r : List ℕ) (x : Both c f) → f ++ r ≡ x.first ++ (x.second ++ r)
@@ -146,15 +146,14 @@ module _ (A B : Type 0) (P : A → List ℕ → Type 0) (Some : List ℕ → Typ
       let rest : x.second ++ r ≡ y.second ++ s =
       append_cancel_left x.first (x.second ++ r) (y.second ++ s)
       (whole ∙ ap (λ u. u ++ (y.second ++ s)) (sym one.1)) in
-      let other = back.one c.1 d.1 x.second y.second r s x.is_second y.is_second rest in (
-        (λ i. (one.0 i, other.0 i)),
-        x.are_both ∙ (λ i. one.1 i ++ other.1 i) ∙ sym y.are_both,
-      )
+      let other = back.one c.1 d.1 x.second y.second r s x.is_second y.is_second rest in
+      let parts : x.first ++ x.second ≡ y.first ++ y.second = λ i. one.1 i ++ other.1 i in
+      ((λ i. (one.0 i, other.0 i)), x.are_both ∙ parts ∙ sym y.are_both)
 
   -- what is behind the front of a fault is behind this front
   same_rest : (a : A) (f r : List ℕ) (k : ℕ) (e : DocFault)
       → P a f
-      → (b : IsBehind Some G k (f ++ r) e)
+      → (b : IsBehind Fronts G k (f ++ r) e)
       → G (k + line_count f) r e
   same_rest a f r k e x b =
       let got = some b.front b.is_front in
@@ -170,9 +169,9 @@ module _ (A B : Type 0) (P : A → List ℕ → Type 0) (Some : List ℕ → Typ
   both_never c f r k e x (inr bad) =
       back.never c.1 x.second r (k + line_count x.first) e x.is_second
       (same_rest c.0 x.first (x.second ++ r) k e x.is_first
-        (subst (λ t. IsBehind Some G k t e) (front_of c f r x) bad))
+        (subst (λ t. IsBehind Fronts G k t e) (front_of c f r x) bad))
 
-  front_never : (k : ℕ) (t : List ℕ) (e d : DocFault) → F k t e → IsBehind Some G k t d → ⊥
+  front_never : (k : ℕ) (t : List ℕ) (e d : DocFault) → F k t e → IsBehind Fronts G k t d → ⊥
   front_never k t e d x y =
       let got = some y.front y.is_front in
       front.never got.0 y.front y.rest k e got.1 (subst (λ u. F k u e) y.are_both x)
@@ -184,7 +183,7 @@ module _ (A B : Type 0) (P : A → List ℕ → Type 0) (Some : List ℕ → Typ
   both_fault k t e d (inr x) (inr y) =
       let got = some y.front y.is_front in
       back.fault (k + line_count y.front) y.rest e d
-      (same_rest got.0 y.front y.rest k e got.1 (subst (λ u. IsBehind Some G k u e) y.are_both x))
+      (same_rest got.0 y.front y.rest k e got.1 (subst (λ u. IsBehind Fronts G k u e) y.are_both x))
       y.is_fault
 
   pub once_then : Once (A × B) Both EitherFault

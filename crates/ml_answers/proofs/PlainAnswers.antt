@@ -15,7 +15,6 @@ use Rattle.std.specs.List.{list_all, AllByRecursion}
 use Rattle.std.proofs.lemmas.Bool.{and_from, and_parts, false≢true, or_left}
 use Rattle.std.proofs.lemmas.Option.{none-some}
 use Rattle.ml_base.specs.Name.{longest_name}
-use Rattle.ml_text.specs.Bytes.{is_digit, is_letter}
 use Rattle.ml_lines.specs.Lines.{Line, Word}
 use Rattle.ml_lines.specs.Reading.{is_word, AreWords}
 use Rattle.ml_lines.proofs.PlainWords.{plain_line, ArePlainWords, Plain}
@@ -46,6 +45,13 @@ IsGood w = Plain w × (is_word w ≡ true)
 
 abbrev pub AreGood : List Word → Type 0
 AreGood ws = AllByRecursion IsGood ws
+
+-- as in names of items
+abbrev is_letter : ℕ → Bool
+is_letter b = (nat_le 97 b && nat_le b 122) || (nat_le 65 b && nat_le b 90)
+
+abbrev is_digit : ℕ → Bool
+is_digit b = nat_le 48 b && nat_le b 57
 
 name_bytes : (w : Word) → is_name w ≡ true → list_all is_name_byte w ≡ true
 name_bytes [] e = absurd (false≢true e)

@@ -61,17 +61,13 @@ end_line line (inl here) = by line here.1
     by (v ∷ vs) is = λ i. is.0 i ∷ is.1 i
 end_line line (inr later) = absurd later
 
-entry_other : (form : Form) → AreOther (entry_kind form ∷ [])
-entry_other InFull = (refl, tt)
-entry_other (ByTables qs ks) = (refl, tt)
+entry_other : (form : Form) → SlotsOther (entry_kind form).slots
+entry_other InFull = refl
+entry_other (ByTables qs ks) = refl
 
--- of an item, and of the heights
-item_other : (k : Known) (es : List Entry) (q : List ℕ) → AreOther (item_kind k.form ∷ [])
-item_other k es q = by k.form
-  where
-    by : (form : Form) → AreOther (item_kind form ∷ [])
-    by InFull = (refl, tt)
-    by (ByTables qs ks) = (refl, tt)
+item_other : (form : Form) → SlotsOther (item_kind form).slots
+item_other InFull = refl
+item_other (ByTables qs ks) = refl
 
 -- ---- places
 
@@ -131,12 +127,12 @@ place_step (AtEntries n form) line early good =
       entry_early (record { names = n; form = form; wanted = value (word line 1) }) [],
     )
 place_step (AtEntry k es) line early good =
-    inr (kinds_other (kinds (AtEntry k es)) line (entry_other k.form) good.0, after_entry_early k.form k es line)
+    inr (kinds_other (kinds (AtEntry k es)) line (entry_other k.form, tt) good.0, after_entry_early k.form k es line)
 place_step (AtSequent k es) line early good = inr (kinds_other (kinds (AtSequent k es)) line (refl, tt) good.0, tt)
 place_step (AtLive k es q) line early good = inr (kinds_other (kinds (AtLive k es q)) line (refl, tt) good.0, tt)
 place_step (AtItem k es q traces) line early good =
     inr (
-      kinds_other (kinds (AtItem k es q traces)) line ((item_other k es q).0, (refl, tt)) good.0,
+      kinds_other (kinds (AtItem k es q traces)) line (item_other k.form, (refl, tt)) good.0,
       early_if (bytes_eq (word line 0) (codes "heights"))
         (AtDecision k es (record { sequent = q; traces = traces; heights = values (drop 1 line) }) [])
         (AtItem k es q (with_item traces (record { state = state_of line; stack = stack_of k.form line }))) tt tt,
