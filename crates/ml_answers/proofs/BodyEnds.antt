@@ -4,8 +4,7 @@
 --   not_last        == a line whose first word is shorter or longer isn't `end`
 --   body_front      == a text of such lines is what is cut off a text that it begins
 --   model_front     == so is the text of a structure
-use Rattle.std.proofs.Common.{◌≡◌, ◌≢◌, ℕ, ◌+◌, ◌⊎◌, ◌==◌, Bool, false, cond, List, [], ◌∷◌, ◌++◌, Option, None, Some, codes, length, map, take, take_at, drop, position, inl, inr, refl, sym, ap, subst, ◌∙◌, arith}
-use Rattle.std.specs.Prelude.{⊤}
+use Rattle.std.proofs.Common.{◌≡◌, ◌≢◌, ℕ, ◌+◌, ◌⊎◌, ◌==◌, false, cond, List, [], ◌∷◌, ◌++◌, Option, None, Some, codes, length, map, take, take_at, drop, position, inl, inr, refl, sym, ap, subst, ◌∙◌, arith}
 use Rattle.std.specs.List.{enumerate_from, join_with_byte, AllByRecursion}
 use Rattle.std.specs.Str.{bytes_eq}
 use Rattle.std.proofs.lemmas.Bool.{false≢true}
@@ -82,9 +81,9 @@ module _ (text : List ℕ) (i : ℕ) (there : position is_line_end text ≡ Some
       record {
         place = at;
         is_found =
-          passed
-          ∙ ap (λ b. cond b (Some at) (line_from (codes "end") (at + length (take i text) + 1) [] (more ++ rest)))
-          (word_same (take i text) (codes "end") same);
+            passed
+            ∙ ap (λ b. cond b (Some at) (line_from (codes "end") (at + length (take i text) + 1) [] (more ++ rest)))
+            (word_same (take i text) (codes "end") same);
         is_behind = omega (arith, size, three, ap length none_behind);
       }
 
@@ -94,11 +93,11 @@ module _ (text : List ℕ) (i : ℕ) (there : position is_line_end text ≡ Some
   goes_on other later = record {
     place = later.place;
     is_found =
-      passed
-      ∙ ap
-      (λ b. cond b (Some at) (line_from (codes "end") (at + length (take i text) + 1) [] (drop (i + 1) text ++ rest)))
-      (other_word (take i text) (codes "end") (λ e. other (sym first_words ∙ ap words_of e)))
-      ∙ later.is_found;
+        passed
+        ∙ ap
+        (λ b. cond b (Some at) (line_from (codes "end") (at + length (take i text) + 1) [] (drop (i + 1) text ++ rest)))
+        (other_word (take i text) (codes "end") (λ e. other (sym first_words ∙ ap words_of e)))
+        ∙ later.is_found;
     is_behind = omega (arith, size, later.is_behind);
   }
 
@@ -122,9 +121,9 @@ found_end (line ∷ lines) text rest at are ended none =
     by (Some i) there (inr (other, ended)) later =
         goes_on text i there rest at line lines are none other
         (later (drop (i + 1) text) (at + length (take i text) + 1)
-          (later_lines text i there rest at line lines are none)
-          ended
-          (later_none text i there rest at line lines are none))
+        (later_lines text i there rest at line lines are none)
+        ended
+        (later_none text i there rest at line lines are none))
 
 pub body_front : (text rest : List ℕ) → IsEnded (lines_of text) → left_of text ≡ [] → up_to_end (text ++ rest) ≡ text
 body_front text rest ended none =
@@ -160,10 +159,10 @@ model_ended m s =
       inr (
         not_last (codes "start") (number s ∷ []) refl,
         ended_by (state_lines 0 m.labels ++ map edge_line m.edges)
-          (all_both (state_lines 0 m.labels) (map edge_line m.edges)
-          (all_mapped (λ (labelled : ℕ × List (List ℕ)). state_line labelled.0 labelled.1) (enumerate_from 0 m.labels)
+            (all_both (state_lines 0 m.labels) (map edge_line m.edges)
+            (all_mapped (λ (labelled : ℕ × List (List ℕ)). state_line labelled.0 labelled.1) (enumerate_from 0 m.labels)
             (λ labelled. not_last (codes "state") (number labelled.0 ∷ labelled.1) refl))
-          (all_mapped edge_line m.edges
+            (all_mapped edge_line m.edges
             (λ e. not_last (codes "edge") (number e.source ∷ e.action ∷ number e.target ∷ []) refl))),
       ),
     )

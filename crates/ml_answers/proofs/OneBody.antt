@@ -5,7 +5,7 @@
 --   IsOfLine         == the answer may stand where q is asked of the requirements in S, and this is its line
 --   one_marks        == words behind `because` are those of one list of marks
 --   body_once        == so there is one body, of one answer, behind a line
-use Rattle.std.proofs.Common.{◌≡◌, ℕ, ◌+◌, ◌⊎◌, ◌==◌, Bool, true, false, not, List, [], ◌∷◌, ◌++◌, Option, Some, codes, length, map, inl, inr, refl, sym, ap, subst, ◌∙◌}
+use Rattle.std.proofs.Common.{◌≡◌, ℕ, ◌+◌, ◌⊎◌, ◌==◌, Bool, true, false, not, List, [], ◌∷◌, ◌++◌, Some, codes, length, map, inl, inr, refl, sym, ap, subst, ◌∙◌}
 use Rattle.std.proofs.lemmas.Bool.{false≢true}
 use Rattle.std.proofs.lemmas.List.{append_cancel_left}
 use Rattle.std.specs.List.{list_any}
@@ -52,13 +52,13 @@ model_is a t is = (a.0, a.1, is.0, is.1, is.2)
 pub once_model : Once (Structure × ℕ) IsModelAs IsModelFault
 once_model = record {
   one = λ a b f g r s x y both.
-    let same : f ≡ g =
-    sym (model_front f r (model_is a f x)) ∙ ap up_to_end both ∙ model_front g s (model_is b g y) in
-    let models = one_text a.0 b.0 a.1 b.1 x.0 y.0 (sym x.2 ∙ same ∙ y.2) in
-    ((λ i. (models.0 i, models.1 i)), same);
+      let same : f ≡ g =
+      sym (model_front f r (model_is a f x)) ∙ ap up_to_end both ∙ model_front g s (model_is b g y) in
+      let models = one_text a.0 b.0 a.1 b.1 x.0 y.0 (sym x.2 ∙ same ∙ y.2) in
+      ((λ i. (models.0 i, models.1 i)), same);
   never = λ a f r k e x bad.
-    model_faults.fault_or_model f k e (model_is a f x)
-    (subst (λ t. model.IsFaultOf t k e) (model_front f r (model_is a f x)) bad);
+      model_faults.fault_or_model f k e (model_is a f x)
+      (subst (λ t. model.IsFaultOf t k e) (model_front f r (model_is a f x)) bad);
   fault = λ k t e d x y. model_faults.one_fault (up_to_end t) k e d x y;
 }
 
@@ -68,15 +68,14 @@ refutation_is a t is = (a, is.0, is.1)
 pub once_refutation : Once Refutation IsRefutationOf IsRefutationFault
 once_refutation = record {
   one = λ a b f g r s x y both.
-    let same : f ≡ g =
-    sym (refutation_front f r (refutation_is a f x)) ∙ ap up_to_end both ∙ refutation_front g s (refutation_is b g y) in
-    (
-      refutation_texts.one_refutation Two f a b x.0 y.0 x.1 (subst (λ t. refutation.IsTextOf Two t b) (sym same) y.1),
-      same,
-    );
+      let same : f ≡ g =
+      sym (refutation_front f r (refutation_is a f x)) ∙ ap up_to_end both ∙ refutation_front g s (refutation_is b g y) in (
+        refutation_texts.one_refutation Two f a b x.0 y.0 x.1 (subst (λ t. refutation.IsTextOf Two t b) (sym same) y.1),
+        same,
+      );
   never = λ a f r k e x bad.
-    refutation_texts.fault_or_readable Two f k e ((refutation_texts.readable_is_refutation Two f).1 (refutation_is a f x))
-    (subst (λ t. refutation.IsFaultOf Two t k e) (refutation_front f r (refutation_is a f x)) bad);
+      refutation_texts.fault_or_readable Two f k e ((refutation_texts.readable_is_refutation Two f).1 (refutation_is a f x))
+      (subst (λ t. refutation.IsFaultOf Two t k e) (refutation_front f r (refutation_is a f x)) bad);
   fault = λ k t e d x y. refutation_texts.one_fault Two (up_to_end t) k e d x y;
 }
 
@@ -91,9 +90,9 @@ PartsFault xs n ms k t e = (ps : List Part) × ArePartsOf n ms ps × ArePartsFau
 parts_none : (xs : List Item) (n : ℕ) → Once (List Part) (PartsText xs n []) (PartsFault xs n [])
 parts_none xs n = record {
   one = λ ps qs f g r s x y both.
-    let no : f ≡ [] = subst (λ zs. ArePartsText xs zs f) x.0 x.1 in
-    let none : g ≡ [] = subst (λ zs. ArePartsText xs zs g) y.0 y.1 in
-    (x.0 ∙ sym y.0, no ∙ sym none);
+      let no : f ≡ [] = subst (λ zs. ArePartsText xs zs f) x.0 x.1 in
+      let none : g ≡ [] = subst (λ zs. ArePartsText xs zs g) y.0 y.1 in
+      (x.0 ∙ sym y.0, no ∙ sym none);
   never = λ ps f r k e x bad. subst (λ zs. ArePartsFault xs zs k (f ++ r) e) bad.1 bad.2;
   fault = λ k t e d x y. absurd (subst (λ zs. ArePartsFault xs zs k t e) x.1 x.2);
 }
@@ -114,14 +113,16 @@ module _ (xs : List Item) (named : AreNamed xs) (n : ℕ) (ms : List Mark)
 
   some_model : (t : List ℕ) → HasModelLine t → (a : Structure × ℕ) × ModelLine a t
   some_model t x =
-      let m = x.is_second in
-      ((m.0, m.1), record {
-        first = x.first;
-        second = x.second;
-        are_both = x.are_both;
-        is_first = x.is_first;
-        is_second = (m.2, m.3, m.4);
-      })
+      let m = x.is_second in (
+        (m.0, m.1),
+        record {
+          first = x.first;
+          second = x.second;
+          are_both = x.are_both;
+          is_first = x.is_first;
+          is_second = (m.2, m.3, m.4);
+        },
+      )
 
   abbrev MetText : (Structure × ℕ) × List Part → List ℕ → Type 0
   MetText a t = IsThen (ModelLine a.0) (PartsText xs (n + 1) ms a.1) t
@@ -142,8 +143,7 @@ module _ (xs : List Item) (named : AreNamed xs) (n : ℕ) (ms : List Mark)
       by StillOpen e = absurd (false≢true (sym (ap is_met e) ∙ x.0.1))
       by (StillMet m s) e =
           let text = x.1 in
-          let part = subst (λ w. IsWithoutText xs p.requirement w text.first) e text.is_first in
-          (
+          let part = subst (λ w. IsWithoutText xs p.requirement w text.first) e text.is_first in (
             ((m, s), ps),
             record {
               first = text.first;
@@ -164,21 +164,21 @@ module _ (xs : List Item) (named : AreNamed xs) (n : ℕ) (ms : List Mark)
       split (inl here) = inl here
       split (inr b) =
           inr (behind_as (IsThen (IsLine (without_line xs n)) IsModelText) HasModelLine (ArePartsFault xs ps)
-            (PartsFault xs (n + 1) ms) k t e (λ u is. is) (λ j u f. (ps, parts.2, f))
-            (behind_both (IsLine (without_line xs n)) IsModelText (ArePartsFault xs ps) k t e b))
+          (PartsFault xs (n + 1) ms) k t e (λ u is. is) (λ j u f. (ps, parts.2, f))
+          (behind_both (IsLine (without_line xs n)) IsModelText (ArePartsFault xs ps) k t e b))
 
       by : (w : Without) → p.without ≡ w → MetFault k t e
       by StillOpen is = absurd (false≢true (sym (ap is_met is) ∙ parts.1))
       by (StillMet m s) is =
           split (subst (λ j. IsPartFault xs j (StillMet m s) (ArePartsFault xs ps) k t e) parts.0
-            (subst (λ w. IsPartFault xs p.requirement w (ArePartsFault xs ps) k t e) is bad))
+          (subst (λ w. IsPartFault xs p.requirement w (ArePartsFault xs ps) k t e) is bad))
 
   needed_once : Once (List Part) (PartsText xs n (Needed ∷ ms)) (PartsFault xs n (Needed ∷ ms))
   needed_once =
       once_as ((Structure × ℕ) × List Part) (List Part) MetText (PartsText xs n (Needed ∷ ms)) MetFault
       (PartsFault xs n (Needed ∷ ms)) with_met met_turn met_faults
       (once_then (Structure × ℕ) (List Part) ModelLine HasModelLine (PartsText xs (n + 1) ms) (IsWithoutFault xs n)
-        (PartsFault xs (n + 1) ms) some_model model_line_once later)
+      (PartsFault xs (n + 1) ms) some_model model_line_once later)
 
   -- ---- a part that stays open
 
@@ -196,8 +196,7 @@ module _ (xs : List Item) (named : AreNamed xs) (n : ℕ) (ms : List Mark)
       by StillOpen e =
           let text = x.1 in
           let none : text.first ≡ [] = subst (λ w. IsWithoutText xs p.requirement w text.first) e text.is_first in
-          let rest : text.second ≡ t = sym (text.are_both ∙ ap (λ u. u ++ text.second) none) in
-          (
+          let rest : text.second ≡ t = sym (text.are_both ∙ ap (λ u. u ++ text.second) none) in (
             ps,
             (x.0.2, subst (ArePartsText xs ps) rest text.is_second),
             (λ i. record { requirement = x.0.0 i; without = e i } ∷ ps),
@@ -327,7 +326,7 @@ module _ (xs : List Item) (S : ℕ → Bool) (q : Question) where
       open_once : Once Reply (BodyText ws) (BodyFault ws)
       open_once = record {
         one = λ r p f g u v x y both.
-          (only_open r x.0 ∙ sym (only_open p y.0), open_text r f x ∙ sym (open_text p g y));
+            (only_open r x.0 ∙ sym (only_open p y.0), open_text r f x ∙ sym (open_text p g y));
         never = λ r f u k e x bad. no_fault k (f ++ u) e bad;
         fault = λ k t e d x y. absurd (no_fault k t e x);
       }
@@ -365,7 +364,7 @@ module _ (xs : List Item) (S : ℕ → Bool) (q : Question) where
           let made = core_marks S xs q d of.fits in
           subst (IsMadeBy S 0 xs d.taken d.parts)
           (one_marks S (is_of_conflict q) xs (names_of c) made.0 (core_marks S xs q c is.fits).0 differ named
-            (subst (MarkedBy S (is_of_conflict q) xs made.0) (same_names d of) (marked d of)) (marked c is))
+          (subst (MarkedBy S (is_of_conflict q) xs made.0) (same_names d of) (marked d of)) (marked c is))
           made.1
 
       only_unmet : (r : Reply) → IsOfLine xs S q ws r
@@ -390,8 +389,7 @@ module _ (xs : List Item) (S : ℕ → Bool) (q : Question) where
           let made = only.2 in
           let body : IsBody xs (Unmet d) t = subst (λ p. IsBody xs p t) only.1 x.1 in
           let core : Unmet d ≡ as_core (d.refutation, d.parts) =
-          λ i. Unmet (record { taken = made.taken i; parts = d.parts; refutation = d.refutation }) in
-          (
+          λ i. Unmet (record { taken = made.taken i; parts = d.parts; refutation = d.refutation }) in (
             (d.refutation, d.parts),
             record {
               first = body.first;
@@ -412,13 +410,13 @@ module _ (xs : List Item) (S : ℕ → Bool) (q : Question) where
           by d made (inl here) = inl here
           by d made (inr b) =
               inr (behind_as (IsRefutationText Two) (IsRefutationText Two) (ArePartsFault xs d.parts)
-                (PartsFault xs 0 the_marks) k t e (λ u is. is) (λ j u f. (d.parts, made.parts, f)) b)
+              (PartsFault xs 0 the_marks) k t e (λ u is. is) (λ j u f. (d.parts, made.parts, f)) b)
 
       unmet_once : Once Reply (BodyText ws) (BodyFault ws)
       unmet_once =
           once_as (Refutation × List Part) Reply CoreText (BodyText ws) CoreFault (BodyFault ws) as_core core_text core_fault
           (once_then Refutation (List Part) IsRefutationOf (IsRefutationText Two) (PartsText xs 0 the_marks) IsRefutationFault
-            (PartsFault xs 0 the_marks) (λ t x. (x.0, (x.1, x.2))) once_refutation (parts_once xs named 0 the_marks))
+          (PartsFault xs 0 the_marks) (λ t x. (x.0, (x.1, x.2))) once_refutation (parts_once xs named 0 the_marks))
 
     pub body_once : AreNamed xs → Differ xs → (r : Reply) → IsOfLine xs S q ws r → Once Reply (BodyText ws) (BodyFault ws)
     body_once named differ (Met m s) is = met_once m s is

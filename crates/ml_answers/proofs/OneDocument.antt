@@ -15,7 +15,6 @@ use Rattle.std.proofs.lemmas.List.{append-nil, append_assoc, append_cancel_left}
 use Rattle.ml_base.specs.declared.doc_fault.DocFault.{DocFault}
 use Rattle.ml_lines.specs.Lines.{line_text}
 use Rattle.ml_lines.proofs.Unique.{IsPlain}
-use Rattle.ml_lists.proofs.Documents.{kept_not_broken}
 use Rattle.ml_spec.specs.Questions.{IsQuestion}
 use Rattle.ml_spec.specs.declared.question.Question.{Question}
 use Rattle.ml_spec.specs.declared.specification.Item.{Item}
@@ -24,12 +23,12 @@ use Rattle.ml_answers.specs.Checked.{AreTexts}
 use Rattle.ml_answers.specs.Documents.{last_line, title_line, AreBlocks, IsBlock}
 use Rattle.ml_answers.specs.Due as due
 use Rattle.ml_answers.specs.Due.{asked_of, begun, Due, LeadTo, MayStandFirst}
-use Rattle.ml_answers.specs.Rules.{fixed_rules, IsBehind, IsDueFault, IsEndFault, IsFirstDueFault, IsLineFault, IsMore}
-use Rattle.ml_answers.specs.Texts.{line_count, next_line, one_text, IsLine}
+use Rattle.ml_answers.specs.Rules.{fixed_rules, IsDueFault, IsEndFault, IsFirstDueFault, IsLineFault}
+use Rattle.ml_answers.specs.Texts.{line_count, one_text}
 use Rattle.ml_answers.proofs.Judgable.{begun_are, behind_are, tail_are}
 use Rattle.ml_answers.proofs.Marking.{AreNamed, Differ}
 use Rattle.ml_answers.proofs.OneBlock.{answer_fault, answer_never, block_as, first_same}
-use Rattle.ml_answers.proofs.OnlyOnce.{fault_same, line_next, once_line}
+use Rattle.ml_answers.proofs.OnlyOnce.{fault_same, once_line}
 
 -- ---- the last line
 
@@ -47,17 +46,17 @@ end_never k t e is (inl bad) =
     end_front k t [] e is (subst (λ u. IsLineFault (fixed_rules last_line) k u e) (sym (append-nil t)) bad)
 end_never k t e is (inr b) =
     b.is_fault.0 (append_cancel_left b.front b.rest []
-      (sym b.are_both ∙ is ∙ sym b.is_front ∙ sym (append-nil b.front)))
+    (sym b.are_both ∙ is ∙ sym b.is_front ∙ sym (append-nil b.front)))
 
 end_fault : (k : ℕ) (t : List ℕ) (e d : DocFault) → IsEndFault k t e → IsEndFault k t d → e ≡ d
 end_fault k t e d (inl x) (inl y) =
     (once_line last_line (fixed_rules last_line) last_plain (refl, tt)).fault k t e d x y
 end_fault k t e d (inl x) (inr y) =
     absurd (end_front k y.front y.rest e y.is_front
-      (subst (λ u. IsLineFault (fixed_rules last_line) k u e) y.are_both x))
+    (subst (λ u. IsLineFault (fixed_rules last_line) k u e) y.are_both x))
 end_fault k t e d (inr x) (inl y) =
     absurd (end_front k x.front x.rest d x.is_front
-      (subst (λ u. IsLineFault (fixed_rules last_line) k u d) x.are_both y))
+    (subst (λ u. IsLineFault (fixed_rules last_line) k u d) x.are_both y))
 end_fault k t e d (inr x) (inr y) =
     fault_same e d
     (x.is_fault.1 ∙ ap (λ u. k + line_count u) (x.is_front ∙ sym y.is_front) ∙ sym y.is_fault.1)
@@ -159,10 +158,10 @@ module _ (xs : List Item) (named : AreNamed xs) (differ : Differ xs) where
   runs_same d [] [] [] [] e f u v are x y both = (refl, refl, sym x.lead ∙ y.lead)
   runs_same d [] (p ∷ ps) [] (w ∷ us) e f u v are x y both =
       absurd (none_first d.rest d.questions u p w (one_text us ++ v) are (subst (λ z. Ends z u) (sym x.lead) x.ends) y.lead.0
-        y.are_texts.0 (both ∙ append_assoc w (one_text us) v))
+      y.are_texts.0 (both ∙ append_assoc w (one_text us) v))
   runs_same d (r ∷ rs) [] (t ∷ ts) [] e f u v are x y both =
       absurd (none_first d.rest d.questions v r t (one_text ts ++ u) are (subst (λ z. Ends z v) (sym y.lead) y.ends) x.lead.0
-        x.are_texts.0 (sym both ∙ append_assoc t (one_text ts) u))
+      x.are_texts.0 (sym both ∙ append_assoc t (one_text ts) u))
   runs_same d (r ∷ rs) (p ∷ ps) (t ∷ ts) (w ∷ us) e f u v are x y both =
       let whole : t ++ (one_text ts ++ u) ≡ w ++ (one_text us ++ v) =
       sym (append_assoc t (one_text ts) u) ∙ both ∙ append_assoc w (one_text us) v in
@@ -196,8 +195,7 @@ module _ (xs : List Item) (named : AreNamed xs) (differ : Differ xs) where
   readings_same text rs ps ts us e f u v x y =
       let both : one_text ts ++ u ≡ one_text us ++ v =
       append_cancel_left (line_text title_line) (one_text ts ++ u) (one_text us ++ v) (sym x.is_text ∙ y.is_text) in
-      let same = runs_same (begun xs) rs ps ts us e f u v (begun_are xs) x.run y.run both in
-      (
+      let same = runs_same (begun xs) rs ps ts us e f u v (begun_are xs) x.run y.run both in (
         same,
         append_cancel_left (one_text ts) u v (both ∙ ap (λ zs. one_text zs ++ v) (sym same.1)),
       )

@@ -5,9 +5,7 @@
 --   checked_or_bad == and none where something comes of its answers
 --   View           == what is found behind a specification, by its kinds
 --   one_finding    == so one thing is found of a text
-use Rattle.std.proofs.Common.{◌≡◌, ℕ, ◌+◌, ◌<◌, ◌≤◌, ◌⊎◌, Bool, List, [], ◌∷◌, ◌++◌, Option, None, Some, codes, drop, length, take, inl, inr, refl, sym, ap, subst, ◌∙◌, arith}
-use Rattle.std.specs.List.{AllByRecursion}
-use Rattle.std.proofs.lemmas.List.{append_assoc}
+use Rattle.std.proofs.Common.{◌≡◌, ℕ, ◌+◌, ◌<◌, ◌≤◌, List, ◌++◌, Option, None, Some, codes, drop, length, take, inl, inr, refl, sym, ap, subst, ◌∙◌, arith}
 use Rattle.ml_base.specs.declared.doc_fault.DocFault.{DocFault}
 use Rattle.ml_front.specs.declared.logic.Logic.{Logic}
 use Rattle.ml_lines.specs.Lines.{line_text}
@@ -19,8 +17,8 @@ use Rattle.ml_spec.specs.declared.rule.SpecRule.{SpecRule}
 use Rattle.ml_spec.specs.declared.specification.Item.{Item}
 use Rattle.ml_replies.specs.Meeting.{everything}
 use Rattle.ml_replies.specs.Replies.{Replied}
-use Rattle.ml_answers.specs.Checked.{lines_from, longest_specification, placed, AreTexts, IsCheckedAs, IsFoundFrom, IsFoundIn, IsVerdict}
-use Rattle.ml_answers.specs.Documents.{last_line, title_line, AreBlocks}
+use Rattle.ml_answers.specs.Checked.{lines_from, longest_specification, placed, IsCheckedAs, IsFoundFrom, IsFoundIn, IsVerdict}
+use Rattle.ml_answers.specs.Documents.{last_line, title_line}
 use Rattle.ml_answers.specs.Due.{begun, Due}
 use Rattle.ml_answers.specs.Laws.{OneFinding}
 use Rattle.ml_answers.specs.Rules.{IsAnswersFault, IsDueFault}
@@ -28,7 +26,7 @@ use Rattle.ml_answers.specs.Texts.{first_line, line_count, one_text}
 use Rattle.ml_answers.specs.declared.finding.AnswersFinding.{AnswersFinding}
 use Rattle.ml_answers.specs.declared.finding.AnswersFinding.TheVariants.{NoDocument, OpenAt, Refused, Right, TooLong, Unreadable, WrongAt}
 use Rattle.ml_answers.proofs.Judgable.{begun_are, lead_judgable}
-use Rattle.ml_answers.proofs.Marking.{items_differ, AreNamed, Differ}
+use Rattle.ml_answers.proofs.Marking.{items_differ, Differ}
 use Rattle.ml_answers.proofs.OneDocument.{due_fault, lead_asked, none_due, readings_same, texts_of, Reading}
 use Rattle.ml_answers.proofs.OneVerdict.{one_verdict, placed_asked}
 
@@ -54,10 +52,10 @@ module _ (l : Logic) (xs : List Item) (is : IsSpecified l xs) where
       (line_text last_line) (line_text last_line) (checked_reading k text x c) (checked_reading k text y d) in
       one_verdict l xs is (placed everything c.replies (lines_from (k + 1) c.texts))
       (placed_asked xs everything c.replies (lines_from (k + 1) c.texts)
-        (lead_judgable xs (begun xs) c.are_all.0 c.replies c.are_all.1 (begun_are xs)))
+      (lead_judgable xs (begun xs) c.are_all.0 c.replies c.are_all.1 (begun_are xs)))
       x y c.is_verdict
       (subst (λ rs. IsVerdict l xs (placed everything rs (lines_from (k + 1) c.texts)) y) (sym same.0.0)
-        (subst (λ ts. IsVerdict l xs (placed everything d.replies (lines_from (k + 1) ts)) y) (sym same.0.1) d.is_verdict))
+      (subst (λ ts. IsVerdict l xs (placed everything d.replies (lines_from (k + 1) ts)) y) (sym same.0.1) d.is_verdict))
 
   -- ---- faults
 
@@ -84,9 +82,9 @@ module _ (l : Logic) (xs : List Item) (is : IsSpecified l xs) where
         rest = c.rest;
         reading = record {
           is_text =
-            b.are_both
-            ∙ ap (λ u. u ++ b.rest) b.is_front
-            ∙ ap (λ u. line_text title_line ++ u) (c.are_both ∙ ap (λ u. u ++ c.rest) ts.2);
+              b.are_both
+              ∙ ap (λ u. u ++ b.rest) b.is_front
+              ∙ ap (λ u. line_text title_line ++ u) (c.are_both ∙ ap (λ u. u ++ c.rest) ts.2);
           run = record {
             lead = lead;
             are_texts = ts.1;
@@ -107,8 +105,8 @@ module _ (l : Logic) (xs : List Item) (is : IsSpecified l xs) where
       due_fault xs is.are_named differ b.due (from + line_count (one_text b.texts)) b.rest e f
       (lead_asked xs is.are_named differ (begun xs) b.due b.replies b.reading.run.lead (begun_are xs))
       (subst (λ d. IsDueFault xs d (from + line_count (one_text b.texts)) b.rest e) same.0.2
-        (subst (λ ts. IsDueFault xs a.due (from + line_count (one_text ts)) b.rest e) same.0.1
-          (subst (λ u. IsDueFault xs a.due (from + line_count (one_text a.texts)) u e) same.1 a.bad)))
+      (subst (λ ts. IsDueFault xs a.due (from + line_count (one_text ts)) b.rest e) same.0.1
+      (subst (λ u. IsDueFault xs a.due (from + line_count (one_text a.texts)) u e) same.1 a.bad)))
       b.bad
 
   checked_or_bad : (k : ℕ) (text : List ℕ) (x : AnswersFinding) (e : DocFault)

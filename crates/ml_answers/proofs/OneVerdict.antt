@@ -13,7 +13,7 @@ use Rattle.ml_spec.specs.declared.specification.Item.{Item}
 use Rattle.ml_replies.proofs.OneCheck.{one_check}
 use Rattle.ml_replies.specs.Replies.{Replied}
 use Rattle.ml_answers.specs.Checked.{placed, IsFirst, IsShownAt, IsVerdict, IsWrongAt, Placed}
-use Rattle.ml_answers.specs.Due.{asked_of, rest_behind}
+use Rattle.ml_answers.specs.Due.{rest_behind}
 use Rattle.ml_answers.specs.declared.finding.AnswersFinding.{AnswersFinding}
 use Rattle.ml_answers.specs.declared.finding.AnswersFinding.TheVariants.{NoDocument, OpenAt, Refused, Right, TooLong, Unreadable, WrongAt}
 use Rattle.ml_answers.proofs.BodyEnds.{head_same, tail_same}
@@ -46,7 +46,7 @@ module _ (P : Placed → Type 0) where
       x.is_line
       ∙ ap (λ p. p.line)
       (firsts_same x.before y.before x.first y.first x.after y.after x.none_before y.none_before x.is_so y.is_so
-        (sym x.are_all ∙ y.are_all))
+      (sym x.are_all ∙ y.are_all))
       ∙ sym y.is_line
 
 -- what holds of all answers holds of one of them

@@ -15,7 +15,6 @@ use Rattle.std.proofs.lemmas.List.{append_assoc, append_cancel_left}
 use Rattle.ml_base.specs.declared.doc_fault.DocFault.{DocFault}
 use Rattle.ml_lines.specs.Lines.{Line, next}
 use Rattle.ml_lines.specs.Lines as lines
-use Rattle.ml_lines.specs.Reading.{words_of}
 use Rattle.ml_lines.proofs.LineFronts.{line_front}
 use Rattle.ml_lines.proofs.Unique.{body, no_end_in, IsPlain}
 use Rattle.ml_lines.proofs.Words.{line_text-words}
@@ -72,7 +71,7 @@ behind_both P Q F k t e b =
       front = b.front ++ c.front;
       rest = c.rest;
       are_both =
-        b.are_both ∙ ap (λ u. b.front ++ u) c.are_both ∙ sym (append_assoc b.front c.front c.rest);
+          b.are_both ∙ ap (λ u. b.front ++ u) c.are_both ∙ sym (append_assoc b.front c.front c.rest);
       is_front = record {
         first = b.front;
         second = c.front;
@@ -92,10 +91,10 @@ module _ (A B : Type 0) (P : A → List ℕ → Type 0) (Q : B → List ℕ → 
   pub once_as : Once A P F → Once B Q G
   once_as once = record {
     one = λ b c f g r s x y both.
-      let u = turn b f x in
-      let v = turn c g y in
-      let same = once.one u.0 v.0 f g r s u.1 v.1 both in
-      (u.2 ∙ ap from same.0 ∙ sym v.2, same.1);
+        let u = turn b f x in
+        let v = turn c g y in
+        let same = once.one u.0 v.0 f g r s u.1 v.1 both in
+        (u.2 ∙ ap from same.0 ∙ sym v.2, same.1);
     never = λ b f r k e x bad. let u = turn b f x in once.never u.0 f r k e u.1 (faults k (f ++ r) e bad);
     fault = λ k t e d x y. once.fault k t e d (faults k t e x) (faults k t d y);
   }
@@ -112,13 +111,13 @@ pub once_line : (ws : Line) (rules : List (Rule Line))
     → Once (List ℕ) (IsLineAs ws) (IsLineFault rules)
 once_line ws rules plain keeps = record {
   one = λ u v f g r s x y both.
-    let same : f ≡ g = x.1 ∙ sym y.1 in
-    (x.0 ∙ same ∙ sym y.0, same);
+      let same : f ≡ g = x.1 ∙ sym y.1 in
+      (x.0 ∙ same ∙ sym y.0, same);
   never = λ u f r k e x bad.
-    kept_not_broken (next_line (f ++ r)) rules e.rule
-    (subst (KeepsAll rules) (sym (line_next ws f r plain x.1)) keeps) bad.1;
+      kept_not_broken (next_line (f ++ r)) rules e.rule
+      (subst (KeepsAll rules) (sym (line_next ws f r plain x.1)) keeps) bad.1;
   fault = λ k t e d x y.
-    fault_same e d (x.0 ∙ sym y.0) (one_broken (next_line t) rules e.rule d.rule x.1 y.1);
+      fault_same e d (x.0 ∙ sym y.0) (one_broken (next_line t) rules e.rule d.rule x.1 y.1);
 }
 
 -- ---- two parts
@@ -169,7 +168,7 @@ module _ (A B : Type 0) (P : A → List ℕ → Type 0) (Fronts : List ℕ → T
   both_never c f r k e x (inr bad) =
       back.never c.1 x.second r (k + line_count x.first) e x.is_second
       (same_rest c.0 x.first (x.second ++ r) k e x.is_first
-        (subst (λ t. IsBehind Fronts G k t e) (front_of c f r x) bad))
+      (subst (λ t. IsBehind Fronts G k t e) (front_of c f r x) bad))
 
   front_never : (k : ℕ) (t : List ℕ) (e d : DocFault) → F k t e → IsBehind Fronts G k t d → ⊥
   front_never k t e d x y =
@@ -221,4 +220,4 @@ module _ (B : Type 0) (Q : B → List ℕ → Type 0) (G : ℕ → List ℕ → 
   once_behind_line =
       once_as (List ℕ × B) B with_line BehindLine LineFault LineFault (λ c. c.1) line_turn (λ k t e bad. bad)
       (once_then (List ℕ) B (IsLineAs ws) (IsLine ws) Q (IsLineFault rules) G (λ t is. (t, (refl, is)))
-        (once_line ws rules plain keeps) back)
+      (once_line ws rules plain keeps) back)

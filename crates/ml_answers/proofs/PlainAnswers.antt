@@ -9,8 +9,7 @@
 --   without_plain     == the line `without` is plain, whichever item it names
 --   answer_plain      == so is the line of an answer
 --   answer_keeps      == and it breaks no rule
-use Rattle.std.proofs.Common.{◌≡◌, ℕ, zero, suc, ◌+◌, ◌||◌, ◌&&◌, ◌==◌, nat_le, Bool, true, false, not, List, [], ◌∷◌, ◌++◌, Option, None, Some, codes, length, slice_get, inl, inr, refl, sym, ap, subst, ◌∙◌}
-use Rattle.std.specs.Prelude.{⊤}
+use Rattle.std.proofs.Common.{◌≡◌, ℕ, zero, suc, ◌+◌, ◌||◌, ◌&&◌, ◌==◌, nat_le, Bool, true, false, not, List, [], ◌∷◌, ◌++◌, Option, None, Some, codes, length, slice_get, inl, inr, refl, sym, subst}
 use Rattle.std.specs.List.{list_all, AllByRecursion}
 use Rattle.std.proofs.lemmas.Bool.{and_from, and_parts, false≢true, or_left}
 use Rattle.std.proofs.lemmas.Option.{none-some}
@@ -62,7 +61,7 @@ name_bytes (b ∷ bs) e =
     let first : is_name_byte b ≡ true =
     or_left (((is_letter b || is_digit b) || (b == 95)) || (b == 45)) (b == 46)
     (or_left ((is_letter b || is_digit b) || (b == 95)) (b == 45)
-      (or_left (is_letter b || is_digit b) (b == 95) (or_left (is_letter b) (is_digit b) bytes.0))) in
+    (or_left (is_letter b || is_digit b) (b == 95) (or_left (is_letter b) (is_digit b) bytes.0))) in
     and_from (is_name_byte b) (list_all is_name_byte bs) first bytes.1
 
 name_word : (w : Word) → is_name w ≡ true → is_word w ≡ true
@@ -149,8 +148,8 @@ module _ (xs : List Item) (named : AreNamed xs) where
       let us = names_by is_unsettled xs made.0 in
       subst AreGood (sym (parts_words S xs made.0 c.parts made.1.are_marks made.1.parts))
       (both_good (or_dash ns) (perhaps us)
-        (dash_good ns (names_good ns (names_named is_needed xs made.0 named)))
-        (perhaps_good us (names_good us (names_named is_unsettled xs made.0 named))))
+      (dash_good ns (names_good ns (names_named is_needed xs made.0 named)))
+      (perhaps_good us (names_good us (names_named is_unsettled xs made.0 named))))
 
   pub reply_good : (S : ℕ → Bool) (q : Question) (wants : Bool) (r : Reply) → Fits xs S q r → AreGood (reply_words xs wants r)
   reply_good S q wants (Met m s) fits = (yes_good wants, tt)

@@ -4,23 +4,23 @@
 --   place_step       == the line `end` of a refutation stands at its end, and only there
 --   runs_ended       == so it is the last of its lines
 --   refutation_front == its text is what is cut off a text that it begins
-use Rattle.std.proofs.Common.{◌≡◌, ◌≢◌, ℕ, ◌<◌, ◌⊎◌, ◌==◌, nat_lt, Bool, true, false, cond, List, [], ◌∷◌, ◌++◌, codes, length, drop, inl, inr, refl, sym, ap, subst, ◌∙◌, arith}
+use Rattle.std.proofs.Common.{◌≡◌, ◌≢◌, ℕ, ◌⊎◌, ◌==◌, nat_lt, Bool, true, false, cond, List, [], ◌∷◌, ◌++◌, codes, length, drop, inl, inr, refl, sym, ap, subst, ◌∙◌, arith}
 use Rattle.std.specs.Prelude.{⊤}
 use Rattle.std.specs.Str.{bytes_eq}
 use Rattle.std.proofs.lemmas.Bool.{false≢true}
 use Rattle.ml_base.specs.declared.version.Version.TheVariants.{Two}
 use Rattle.ml_lines.specs.Lines.{Line}
-use Rattle.ml_lines.specs.Reading.{left_of, lines_of, value, word}
+use Rattle.ml_lines.specs.Reading.{lines_of, value, word}
 use Rattle.ml_lines.proofs.Fronts.{have_words, HaveWords}
 use Rattle.ml_lists.specs.Documents.{IsGood}
 use Rattle.ml_lists.specs.Readings.{Runs}
 use Rattle.ml_refutation.specs.Refutation.{Decision, Entry, Refutation, Split}
 use Rattle.ml_refutation_text.specs.BodyRules.{Place, AtNames, AtSequents, AtTableSequent, AtStacks, AtTableStack, AtEntries, AtEntry}
 use Rattle.ml_refutation_text.specs.BodyRules.{AtSequent, AtLive, AtItem, AtDecision, AtEnd, AtNothing}
-use Rattle.ml_refutation_text.specs.BodyRules.{after, after_entry, at_entry, at_sequent_table, at_stack_table, body, closed, entry_kind, item_kind, kinds, leaf_of, sequent_of, stack_of, state_of, values, whole, with_item}
+use Rattle.ml_refutation_text.specs.BodyRules.{after, after_entry, at_entry, at_sequent_table, at_stack_table, body, closed, entry_kind, item_kind, kinds, leaf_of, stack_of, state_of, values, whole, with_item}
 use Rattle.ml_refutation_text.specs.BodyRules.{Around, Begun, ByTables, Form, InFull, InLeft, InRight, Known}
 use Rattle.ml_refutation_text.specs.Laws.{IsRefutationText}
-use Rattle.ml_refutation_text.specs.LineKinds.{AGuess, ANumber, AnySize, Fixed, InSlots, IsOfKind, IsOfKinds, Kind, Slot}
+use Rattle.ml_refutation_text.specs.LineKinds.{AGuess, ANumber, AnySize, Fixed, InSlots, IsOfKinds, Kind, Slot}
 use Rattle.ml_answers.specs.Documents.{last_line}
 use Rattle.ml_answers.specs.Texts.{up_to_end}
 use Rattle.ml_answers.proofs.BodyEnds.{body_front, head_same, IsEnded}
@@ -134,16 +134,16 @@ place_step (AtItem k es q traces) line early good =
     inr (
       kinds_other (kinds (AtItem k es q traces)) line (item_other k.form, (refl, tt)) good.0,
       early_if (bytes_eq (word line 0) (codes "heights"))
-        (AtDecision k es (record { sequent = q; traces = traces; heights = values (drop 1 line) }) [])
-        (AtItem k es q (with_item traces (record { state = state_of line; stack = stack_of k.form line }))) tt tt,
+          (AtDecision k es (record { sequent = q; traces = traces; heights = values (drop 1 line) }) [])
+          (AtItem k es q (with_item traces (record { state = state_of line; stack = stack_of k.form line }))) tt tt,
     )
 place_step (AtDecision k es b around) line early good =
     inr (
       kinds_other (kinds (AtDecision k es b around)) line
-        (refl, (refl, (refl, (refl, (refl, (refl, (refl, tt))))))) good.0,
+          (refl, (refl, (refl, (refl, (refl, (refl, (refl, tt))))))) good.0,
       early_if (bytes_eq (word line 0) (codes "split"))
-        (AtDecision k es b (InLeft (value (word line 1)) ∷ around))
-        (closed k es b around (leaf_of line)) tt (closed_early k es b around (leaf_of line)),
+          (AtDecision k es b (InLeft (value (word line 1)) ∷ around))
+          (closed k es b around (leaf_of line)) tt (closed_early k es b around (leaf_of line)),
     )
 place_step (AtEnd r) line early good = inl (end_line line good.0, (r, refl))
 place_step (AtNothing r) line early good = absurd early
