@@ -1,6 +1,7 @@
 -- What is read answers questions of the specification.
 --
 --   asking_are      == what the items ask are questions
+--   behind_are, tail_are == what is due behind an answer are questions where those that were due are
 --   lead_judgable   == answers that may stand one by one answer such, and fit the items
 --   are_judgable    == so does what is stated
 use Rattle.std.proofs.Common.{◌≡◌, ℕ, zero, suc, ◌+◌, ◌<◌, Bool, true, false, cond, List, [], ◌∷◌, Option, None, Some, drop, length, map, slice_get, refl, sym, ap, subst, ◌∙◌, arith}
@@ -52,7 +53,7 @@ begun_are xs = go (requirements xs)
 abbrev pub IsJudgableReply : List Item → Replied → Type 0
 IsJudgableReply xs r = IsQuestion xs r.question × FitsItems xs r.reply
 
-behind_are : (xs : List Item) (q : Question) (r : Reply) (qs : List Question)
+pub behind_are : (xs : List Item) (q : Question) (r : Reply) (qs : List Question)
     → AllByRecursion (IsQuestion xs) qs
     → AllByRecursion (IsQuestion xs) (due_behind q r qs)
 behind_are xs (Asks n) r qs are = are
@@ -68,7 +69,7 @@ fits_items xs S q (Met m s) fits = tt
 fits_items xs S q (Unmet c) fits = fits.are_told
 fits_items xs S q LeftOpen fits = tt
 
-tail_are : (xs : List Item) (qs : List Question) → AllByRecursion (IsQuestion xs) qs → AllByRecursion (IsQuestion xs) (drop 1 qs)
+pub tail_are : (xs : List Item) (qs : List Question) → AllByRecursion (IsQuestion xs) qs → AllByRecursion (IsQuestion xs) (drop 1 qs)
 tail_are xs [] are = tt
 tail_are xs (q ∷ qs) are = are.1
 

@@ -38,3 +38,21 @@ pub mod NextAnswer
 pub mod WholeLines
 -- answers that are found right are those of their specification
 pub mod RightIsTrue
+-- bodies at the front of a text
+pub mod BodyEnds
+-- refutations at the front of a text
+pub mod RefutationEnds
+-- what is read of a text in one way only
+pub mod OnlyOnce
+-- words of answers
+pub mod PlainAnswers
+-- bodies of answers are read in one way only
+pub mod OneBody
+-- and answers
+pub mod OneBlock
+-- and documents
+pub mod OneDocument
+-- one thing comes of answers
+pub mod OneVerdict
+-- one thing at most is found of a text
+pub mod OneFinding
