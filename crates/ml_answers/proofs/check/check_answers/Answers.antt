@@ -29,5 +29,5 @@ returns-in-Some c =
 
 pub returns-in-None : goal.returns-in-None
 returns-in-None c =
-    none_found c.args.bytes.now c.line_and_column.result.0 c.line_and_column.result.1 (sym c.in-None.ensures.found)
-    c.line_and_column.ensures.line c.line_and_column.ensures.column
+    none_found c.args.bytes.now c.line_and_column-line.result.0 c.line_and_column-line.result.1 (sym c.in-None.ensures.found)
+    c.line_and_column-line.ensures.line c.line_and_column-line.ensures.column

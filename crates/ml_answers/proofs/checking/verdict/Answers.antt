@@ -45,8 +45,8 @@ returns-in-Some c =
     omega (arith, c.loop-answer-test.false, l.auto.answer-index-end) in
     open_at s.logic s.items.items c.args.stated.now l.answer-index l.rest.items l.unshown l.invariant past c.in-Some.line c.in-Some.is
 
-pub returns-in-None : goal.returns-in-None
-returns-in-None c =
+pub returns : goal.returns
+returns c =
     let s = c.args.specification.now in
     let l = c.loop-answer in
     let past : length c.args.stated.now ≤ l.answer-index =

@@ -17,5 +17,5 @@ returns-in-Some-clause-read c =
     (λ stated read. behind_title c.args.items.now c.args.at c.in-Some.behind stated.items takes read)
     c.read_answers.ensures.read
 
-pub returns-in-None-clause-refused : goal.returns-in-None-clause-refused
-returns-in-None-clause-refused c = absurd (no_title c.args.at c.requires.title c.in-None.ensures)
+pub returns-clause-refused : goal.returns-clause-refused
+returns-clause-refused c = absurd (no_title c.args.at c.requires.title c.in-None.ensures)
