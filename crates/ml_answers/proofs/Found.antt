@@ -1,15 +1,17 @@
 -- What is found of a text.
 --
 --   found_there    == where a line is found, it stands
---   found_start    == and before it stand whole lines
 --   title_there    == so a document begins with its title
+--   both_fit       == two parts of a text fit where the text does
 --   checked_found  == what comes of the answers of a document is found
 --   fault_found    == so is a fault of the document
+--   none_found     == that there is no document is found
+--   found_from     == what is found of both parts is found of the text
 use Rattle.std.proofs.Common.{◌≡◌, ℕ, ◌+◌, ◌-◌, ◌<◌, ◌≤◌, ◌||◌, Bool, true, false, cond, List, [], ◌∷◌, ◌++◌, Option, None, Some, codes, length, take, drop, refl, sym, ap, subst, ◌∙◌, arith}
 use Rattle.std.specs.List.{list_any}
 use Rattle.std.specs.Str.{bytes_eq}
 use Rattle.std.proofs.lemmas.Bool.Decides.{nat_tests}
-use Rattle.std.proofs.lemmas.List.{append_assoc, drop-drop, drop_at, length-append}
+use Rattle.std.proofs.lemmas.List.{append_assoc, drop-drop, drop_at, length-append, length-drop, length-take}
 use Rattle.std.proofs.lemmas.Option.{none-some}
 use Rattle.std.proofs.lemmas.Slice.Eq.{bytes_eq-Decides}
 use Rattle.ml_base.specs.declared.doc_fault.DocFault.{DocFault}
@@ -18,10 +20,12 @@ use Rattle.ml_base.specs.declared.doc_refusal.DocRefusal.TheVariants as refusal
 use Rattle.ml_front.specs.declared.logic.Logic.{Logic}
 use Rattle.ml_lines.specs.Lines.{line_text}
 use Rattle.ml_lines.specs.Reading.{is_line_end}
+use Rattle.ml_lines.proofs.Cuts.{slice_end}
+use Rattle.ml_spec.specs.Places.{column_at, line_at}
 use Rattle.ml_spec.specs.Specification.{IsSpecification}
 use Rattle.ml_spec.specs.declared.specification.Item.{Item}
 use Rattle.ml_replies.specs.Meeting.{everything}
-use Rattle.ml_answers.specs.Checked.{lines_from, longest_specification, placed, IsCheckedAs, IsFoundFrom, IsFoundIn, IsVerdict}
+use Rattle.ml_answers.specs.Checked.{lines_from, longest_specification, placed, IsCheckedAs, IsFound, IsFoundFrom, IsFoundIn, IsVerdict}
 use Rattle.ml_answers.specs.Documents.{title_line}
 use Rattle.ml_answers.specs.Rules.{IsAnswersFault}
 use Rattle.ml_answers.specs.Texts.{first_line, line_count, line_from, IsLine, IsThen}
@@ -103,6 +107,20 @@ title_there text at e =
       is_second = tt;
     }
 
+pub both_fit : (text : List ℕ) (at n : ℕ)
+    → at ≤ length text
+    → length text < n
+    → length (take at text) + length (take (length text - at) (drop at text)) < n
+both_fit text at n within fits =
+    omega (
+      arith,
+      within,
+      fits,
+      length-take at text,
+      ap length (sym (slice_end text at)),
+      length-drop at text,
+    )
+
 -- ---- what is found
 
 pub checked_found : (spec : List ℕ) (l : Logic) (xs : List Item) (at : Rest) (stated : List Stated) (x : AnswersFinding)
@@ -146,6 +164,14 @@ pub fault_found : (spec : List ℕ) (l : Logic) (xs : List Item) (at : Rest) (fa
     → IsFoundIn spec at.text.now (Unreadable fault)
 fault_found spec l xs at fault short is line tells =
     (short, (l, xs, is, subst (λ k. IsAnswersFault xs k at.text.now fault) line tells))
+
+pub none_found : (text : List ℕ) (line column : ℕ)
+    → first_line (codes "mlsolver answers 1") text ≡ None
+    → line ≡ line_at text (length text)
+    → column ≡ column_at text (length text)
+    → IsFound text (NoDocument line column)
+none_found text line column none is_line is_column =
+    subst (λ o. IsFoundFrom o text (NoDocument line column)) (sym none) (is_line, is_column)
 
 pub found_from : (text : List ℕ) (at : ℕ) (x : AnswersFinding)
     → first_line (codes "mlsolver answers 1") text ≡ Some at

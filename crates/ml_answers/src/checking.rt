@@ -1,5 +1,5 @@
 // What comes of all answers of a document.
-ghost use Rattle.std.specs.Prelude.{ℕ, ◌≡◌, Bool, Some, true, length, replicate, IfOk, MatchOption, OnOk};
+ghost use Rattle.std.specs.Prelude.{ℕ, ◌≡◌, Bool, true, length, replicate, IfOk, OnOk};
 ghost use Rattle.std.specs.List.{AllByRecursion};
 ghost use Rattle.ml_replies.specs.Laws.{OneCheck};
 ghost use Rattle.ml_replies.specs.Meeting.{everything};
@@ -38,19 +38,19 @@ pub(crate) fn verdict(
         (placed everything (replies_of stated.now) (plain.lines_of stated.now))) }
 {
     let mut rest = Vec::from_slice(alloc, all)?;
-    let mut open = None;
+    let mut unshown = None;
     for answer in stated {
         let standing = judge_next(alloc, specification, all, &mut rest, answer)?;
         match standing {
             Standing::Shown => {}
-            Standing::Unsettled => open = first_of(open, answer.line),
+            Standing::Unsettled => unshown = unshown.or(Some(answer.line)),
             Standing::Wrong => return Ok(AnswersFinding::WrongAt(answer.line)),
         }
     }
-    Ok(match open {
-        Some(line) => AnswersFinding::OpenAt(line),
-        None => AnswersFinding::Right,
-    })
+    match unshown {
+        Some(line) => Ok(AnswersFinding::OpenAt(line)),
+        None => Ok(AnswersFinding::Right),
+    }
 }
 
 // what comes of the next answer, where `rest` tells which requirements no conflict before it names; what it names is left out
@@ -93,15 +93,5 @@ fn judge_next(
             answer.question,
             &answer.statement,
         )
-    }
-}
-
-// the first of some lines, where this one comes behind those before
-fn first_of(before: Option<u64>, line: u64) -> Option<u64>
-    ensures { MatchOption before (result ≡ Some line) (λ first. result ≡ Some first) }
-{
-    match before {
-        Some(first) => Some(first),
-        None => Some(line),
     }
 }

@@ -5,7 +5,7 @@ use Rattle.ml_answers.specs.Documents.{IsBody}
 use Rattle.ml_answers.specs.private.Plain.{reply_of}
 use Rattle.ml_answers.specs.private.Reads.{IsMadeOf, Takes}
 use Rattle.ml_answers.proofs.AnswerLines.{made_fits}
-use Rattle.ml_answers.proofs.DocumentRead.{answer_refused, answer_taken}
+use Rattle.ml_answers.proofs.DocumentRead.{answer_refused, answer_taken, shorter}
 use Rattle.ml_answers.proofs.Reading.{if_err_weaker, if_ok_both, if_ok_weaker, next_room, room_behind}
 use Rattle.ml_answers.proofs.document.read_answer.Goals as goal
 
@@ -42,4 +42,12 @@ returns-in-Ok-clause-room c =
     (λ r body.
     room_behind (IsBody c.args.items.now (reply_of r.0)) (IsBody c.args.items.now (reply_of r.0)) c.in-Some.behind r.1 body
       (next_room c.args.at c.in-Some.behind c.in-Some.line.now c.in-Some.ensures c.requires.room))
+    c.read_body.ensures.read
+
+pub returns-in-Ok-clause-shorter : goal.returns-in-Ok-clause-shorter
+returns-in-Ok-clause-shorter c =
+    if_ok_weaker c.read_body.result (λ r. Takes (IsBody c.args.items.now (reply_of r.0)) c.in-Some.behind r.1) _
+    (λ r body.
+    shorter c.in-Some.line.now c.args.at c.in-Some.behind r.1 (IsBody c.args.items.now (reply_of r.0)) c.in-Some.ensures
+      body)
     c.read_body.ensures.read

@@ -30,8 +30,8 @@ returns-in-Err-clause-refused c =
     other_fault xs c.args._start c.args.stated.now.items c.args.at n x c.in-Err.refusal next asks
     c.requires.read (c.in-Err.ensures.refused everything (agree_all xs c.args.all.now c.requires.all))
 
-pub returns-in_ok-push-clause-read : goal.returns-in_ok-push-clause-read
-returns-in_ok-push-clause-read c =
+pub returns-in_ok-push-in-Ok-clause-read : goal.returns-in_ok-push-in-Ok-clause-read
+returns-in_ok-push-in-Ok-clause-read c =
     let xs = c.args.items.now in
     let n = c.args.number in
     let x = c.index-items-number.result in
@@ -40,6 +40,6 @@ returns-in_ok-push-clause-read c =
     let asks : is_requirement x.kind ≡ false = cc in
     let s : Stated = record { line = c.args.at.line; question = Asks n; statement = c.in-Ok.statement } in
     subst (λ st. IsReadUpTo xs c.args._start st c.in-Ok.behind (asking_from (n + 1) (drop (n + 1) xs)))
-    (sym c.in_ok-push.ensures.items)
+    (sym c.in_ok-push-in-Ok.ensures.items)
     (other_more xs c.args._start c.args.stated.now.items c.args.at n x s c.in-Ok.behind next asks c.requires.read refl
       (c.in-Ok.ensures.fits everything (agree_all xs c.args.all.now c.requires.all)) refl c.in-Ok.ensures.read)
