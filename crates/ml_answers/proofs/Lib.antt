@@ -56,3 +56,19 @@ pub mod OneDocument
 pub mod OneVerdict
 -- one thing at most is found of a text
 pub mod OneFinding
+-- fronts of texts
+pub mod TextFronts
+-- what is asked of lines is decided
+pub mod DecidedLines
+-- a text begins with a body, or has a fault
+pub mod SomeBody
+-- a text begins with an answer, or has a fault
+pub mod SomeAnswer
+-- a text is a document, or has a fault
+pub mod SomeDocument
+-- something comes of each answer
+pub mod SomeStanding
+-- something comes of all answers
+pub mod SomeVerdict
+-- of each text something is found
+pub mod SomeFinding

@@ -6,7 +6,8 @@
 use Rattle.std.proofs.Common.{◌≡◌, ℕ, ◌≤◌, List, refl, sym, ap, ◌∙◌, arith}
 use Rattle.ml_answers.specs.declared.finding.AnswersFinding.{AnswersFinding}
 use Rattle.ml_answers.specs.declared.finding.AnswersFinding.TheVariants.{NoDocument, OpenAt, Refused, Right, TooLong, Unreadable, WrongAt}
-use Rattle.ml_answers.proofs.OneFinding.{one_finding, some_finding}
+use Rattle.ml_answers.proofs.OneFinding.{one_finding}
+use Rattle.ml_answers.proofs.SomeFinding.{some_finding}
 use Rattle.ml_driver.specs.CheckedAnswers.{AreAnswersTold, said_of}
 use Rattle.ml_driver.specs.Codes.{code_of}
 use Rattle.ml_driver.specs.Said.{said_text, status_said}
