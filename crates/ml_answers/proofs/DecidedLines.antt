@@ -3,7 +3,7 @@
 --   decided_front  == whether a line begins with these words
 --   decided_kind   == whether it is of the kind that stands there
 --   decided_marks  == whether marks name items by the words behind `because`
-use Rattle.std.proofs.Common.{◌≡◌, ℕ, ◌⊎◌, Bool, true, false, not, List, [], ◌∷◌, ◌++◌, Option, None, Some, codes, inl, inr, refl, sym, ap, subst, ◌∙◌}
+use Rattle.std.proofs.Common.{◌≡◌, ℕ, Bool, true, false, not, List, [], ◌∷◌, ◌++◌, Option, None, Some, codes, inl, inr, refl, sym, ap, subst, ◌∙◌}
 use Rattle.std.proofs.lemmas.Bool.{false≢true}
 use Rattle.std.proofs.lemmas.List.{append_cancel_left}
 use Rattle.ml_lines.specs.Lines.{Line, Word}
@@ -82,7 +82,7 @@ module _ (S : ℕ → Bool) (wants : Bool) (xs : List Item) (words : List Word) 
       inl (
         (scan S 0 xs a b).marks,
         found_marked S wants xs words differ named a b (scan S 0 xs a b).marks
-        (record { are_split = split; is_scan = refl; is_over = over; is_empty = none }),
+            (record { are_split = split; is_scan = refl; is_over = over; is_empty = none }),
       )
   by_scan a b split true over (w ∷ ws) some =
       not_marked a b split (λ yes none. let nothing : w ∷ ws ≡ [] = sym some ∙ none in absurd cc)

@@ -55,7 +55,7 @@ module _ (xs : List Item) (S : ℕ → Bool) (q : Question) (k : ℕ) (text : Li
       reply = r;
       fits = fits;
       taken =
-        taken_then (IsLine (line_of xs (replied q r))) (IsBody xs r) text (line_text line) rest both (ap line_text is) body;
+          taken_then (IsLine (line_of xs (replied q r))) (IsBody xs r) text (line_text line) rest both (ap line_text is) body;
     }
 
     body_fault : (r : Reply) (fault : DocFault)
@@ -104,7 +104,7 @@ module _ (xs : List Item) (S : ℕ → Bool) (q : Question) (k : ℕ) (text : Li
         by : TakenCore xs ms rest ⊎ FaultOfCore xs ms (k + line_count (line_text line)) rest → AnswerOrFault xs S q k text
         by (inl is_core) =
             inl (answer_there (Unmet is_core.core) (fits is_core.core is_core.taken is_core.parts)
-              (line_is is_core.core is_core.parts) is_core.body)
+            (line_is is_core.core is_core.parts) is_core.body)
         by (inr (fault, tells)) =
             let some = some_parts_of 0 ms in
             let c : Core = record { taken = map is_named ms; parts = some.0; refutation = no_entries } in

@@ -5,7 +5,7 @@
 --   some_without     == with the line `without` and a structure behind it
 --   some_parts       == with what stands for the parts of a core with these marks
 --   some_core        == with the body of a core with these marks
-use Rattle.std.proofs.Common.{◌≡◌, ℕ, ◌+◌, ◌⊎◌, Bool, true, false, List, [], ◌∷◌, ◌++◌, codes, map, inl, inr, refl, sym, subst}
+use Rattle.std.proofs.Common.{◌≡◌, ℕ, ◌+◌, ◌⊎◌, true, false, List, [], ◌∷◌, ◌++◌, codes, map, inl, inr, refl, sym, subst}
 use Rattle.ml_base.specs.Structure.{Structure}
 use Rattle.ml_base.specs.declared.doc_fault.DocFault.{DocFault}
 use Rattle.ml_base.specs.declared.version.Version.TheVariants.{Two}
@@ -174,14 +174,14 @@ module _ (xs : List Item) where
         record { requirement = n; without = StillMet m s } ∷ ps,
         (refl, refl, parts),
         taken_then (IsWithoutText xs n (StillMet m s)) (ArePartsText xs ps) text taken.front taken.rest taken.are_both
-        taken.is_front more,
+            taken.is_front more,
       )
   behind_met n k ms text m s taken (inr (fault, tells)) =
       inr (
         fault,
         first_met n k ms text fault
-        (λ ps parts.
-          inr (fault_then (IsLine (without_line xs n)) (IsModel m s) IsModelText (ArePartsFault xs ps) k text fault
+            (λ ps parts.
+            inr (fault_then (IsLine (without_line xs n)) (IsModel m s) IsModelText (ArePartsFault xs ps) k text fault
             (λ t is. (m, s, is.0, is.1, is.2)) taken (tells ps parts))),
       )
 
@@ -223,19 +223,19 @@ module _ (xs : List Item) where
             taken = refl;
             parts = parts;
             body =
-              taken_then (IsRefutationOf r) (ArePartsText xs ps) text taken.front taken.rest taken.are_both taken.is_front more;
+                taken_then (IsRefutationOf r) (ArePartsText xs ps) text taken.front taken.rest taken.are_both taken.is_front more;
           })
       behind r taken (inr (fault, tells)) =
           inr (
             fault,
             λ c parts.
-              inr (record {
-                front = taken.front;
-                rest = taken.rest;
-                are_both = taken.are_both;
-                is_front = (r, taken.is_front.0, taken.is_front.1);
-                is_fault = tells c.parts parts;
-              }),
+                inr (record {
+                  front = taken.front;
+                  rest = taken.rest;
+                  are_both = taken.are_both;
+                  is_front = (r, taken.is_front.0, taken.is_front.1);
+                  is_fault = tells c.parts parts;
+                }),
           )
 
       by : ((r : Refutation) × Taken (IsRefutationOf r) text) ⊎ FaultOf IsRefutationFault k text

@@ -14,14 +14,13 @@ use Rattle.ml_lines.proofs.DecidedWords.{decided_line}
 use Rattle.ml_lists.proofs.Decided.{Decided}
 use Rattle.ml_spec.specs.declared.question.Question.{Question}
 use Rattle.ml_spec.specs.declared.specification.Item.{Item}
-use Rattle.ml_replies.specs.Replies.{Replied, Reply}
+use Rattle.ml_replies.specs.Replies.{Replied}
 use Rattle.ml_answers.specs.Checked.{AreTexts}
-use Rattle.ml_answers.specs.Documents.{last_line, title_line, AreBlocks, IsBlock, IsBody}
+use Rattle.ml_answers.specs.Documents.{last_line, title_line, AreBlocks, IsBlock}
 use Rattle.ml_answers.specs.Due.{asked_of, begun, due_behind, rest_behind, AreAll, Due, LeadTo}
-use Rattle.ml_answers.specs.Due as due
 use Rattle.ml_answers.specs.Lines.{line_of}
 use Rattle.ml_answers.specs.RuleNumbers.{rule_number}
-use Rattle.ml_answers.specs.Rules.{replied, IsAnswerFault, IsAnswersFault, IsBehind, IsDueFault, IsEndFault}
+use Rattle.ml_answers.specs.Rules.{replied, IsAnswersFault, IsBehind, IsDueFault, IsEndFault}
 use Rattle.ml_answers.specs.Texts.{line_count, next_line, one_text, IsLine, IsThen}
 use Rattle.ml_answers.specs.declared.rule.AnswersRule.TheVariants.{OfKind}
 use Rattle.ml_answers.proofs.Marking.{AreNamed, Differ}
@@ -167,9 +166,9 @@ module _ (xs : List Item) (differ : Differ xs) (named : AreNamed xs) where
       none_due = read.none_due;
       are_texts = (is.taken.is_front, read.are_texts);
       is_text =
-        is.taken.are_both
-        ∙ ap (λ t. is.taken.front ++ t) read.is_text
-        ∙ sym (append_assoc is.taken.front (one_text read.texts) (line_text last_line));
+          is.taken.are_both
+          ∙ ap (λ t. is.taken.front ++ t) read.is_text
+          ∙ sym (append_assoc is.taken.front (one_text read.texts) (line_text last_line));
     }
 
     fault_behind : FaultFrom xs later (k + line_count is.taken.front) is.taken.rest → FaultFrom xs now k text
@@ -186,9 +185,9 @@ module _ (xs : List Item) (differ : Differ xs) (named : AreNamed xs) where
             front = is.taken.front ++ b.front;
             rest = b.rest;
             are_both =
-              is.taken.are_both
-              ∙ ap (λ t. is.taken.front ++ t) b.are_both
-              ∙ sym (append_assoc is.taken.front b.front b.rest);
+                is.taken.are_both
+                ∙ ap (λ t. is.taken.front ++ t) b.are_both
+                ∙ sym (append_assoc is.taken.front b.front b.rest);
             is_front = record {
               first = is.taken.front;
               second = b.front;
@@ -218,7 +217,7 @@ module _ (xs : List Item) (differ : Differ xs) (named : AreNamed xs) where
   step n R q qs k text short again (inl is) =
       both_behind R q qs k text is
       (again (rest_behind R q is.reply) (due_behind q is.reply qs) (k + line_count is.taken.front) is.taken.rest
-        (omega (arith, short, shorter xs (replied q is.reply) text is.taken)))
+      (omega (arith, short, shorter xs (replied q is.reply) text is.taken)))
   step n R q qs k text short again (inr (fault, is)) =
       inr (fault_here xs (record { rest = R; questions = q ∷ qs }) k text fault is)
 
@@ -247,9 +246,9 @@ module _ (xs : List Item) (differ : Differ xs) (named : AreNamed xs) where
             are_all = (read.end, read.lead, read.none_due);
             are_texts = read.are_texts;
             is_text =
-              title.are_both
-              ∙ ap (λ t. t ++ title.second) title.is_first
-              ∙ ap (λ t. line_text title_line ++ t) read.is_text;
+                title.are_both
+                ∙ ap (λ t. t ++ title.second) title.is_first
+                ∙ ap (λ t. line_text title_line ++ t) read.is_text;
           })
       by (inr found) =
           inr (

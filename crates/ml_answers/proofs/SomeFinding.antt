@@ -15,7 +15,7 @@ use Rattle.ml_spec.specs.declared.specification.Item.{Item}
 use Rattle.ml_spec.proofs.OneAnswer.{some_reading}
 use Rattle.ml_spec.proofs.Readings.{specified}
 use Rattle.ml_replies.specs.Meeting.{everything}
-use Rattle.ml_answers.specs.Checked.{lines_from, longest_specification, placed, IsCheckedAs, IsFoundBehind, IsFoundFrom, IsFoundIn, IsVerdict}
+use Rattle.ml_answers.specs.Checked.{lines_from, longest_specification, placed, IsCheckedAs, IsFoundFrom, IsFoundIn}
 use Rattle.ml_answers.specs.Documents.{title_line}
 use Rattle.ml_answers.specs.Due.{begun}
 use Rattle.ml_answers.specs.Laws.{SomeFinding}
@@ -49,14 +49,12 @@ module _ (spec text : List ℕ) (short : length spec ≤ longest_specification) 
 
   pub read_found : IsRead xs text → SomeFrom spec text
   read_found read =
+      let items = specified spec l xs is in
+      let well = items_well l (items_behind (uncommented spec)) xs is.are_items in
       let ks = lines_from (1 + line_count spec + 1) read.texts in
-      let all =
-      all_decided l xs (specified spec l xs is) (items_well l (items_behind (uncommented spec)) xs is.are_items) everything
-      read.replies ks read.texts read.are_texts
-      (lead_judgable xs (begun xs) read.are_all.0 read.replies read.are_all.1 (begun_are xs)) in
-      let found =
-      some_verdict l xs (specified spec l xs is) (items_well l (items_behind (uncommented spec)) xs is.are_items)
-      (placed everything read.replies ks) all in
+      let judgable = lead_judgable xs (begun xs) read.are_all.0 read.replies read.are_all.1 (begun_are xs) in
+      let all = all_decided l xs items well everything read.replies ks read.texts read.are_texts judgable in
+      let found = some_verdict l xs items well (placed everything read.replies ks) all in
       checked_is found.0
       (record {
         replies = read.replies;
@@ -71,7 +69,8 @@ module _ (spec text : List ℕ) (short : length spec ≤ longest_specification) 
 
   pub some_behind : IsThen (IsLine title_line) (λ t. Unit {0}) text → SomeFrom spec text
   some_behind title =
-      let items = specified spec l xs is in by (some_document xs (items_differ xs is.are_new) items.are_named (1 + line_count spec) text title)
+      let items = specified spec l xs is in
+      by (some_document xs (items_differ xs is.are_new) items.are_named (1 + line_count spec) text title)
     where
       by : IsRead xs text ⊎ FaultOf (IsAnswersFault xs) (1 + line_count spec) text → SomeFrom spec text
       by (inl read) = read_found read

@@ -1,10 +1,11 @@
 -- Something comes of each answer of a document.
 --
+--   Comes P W         == something comes of what is shown where P is true and wrong where W is
 --   structure_stands  == of a structure
 --   refuted_stands    == of a refutation
 --   parts_stand       == of the parts of a core
 --   reply_stands      == of an answer
-use Rattle.std.proofs.Common.{◌≡◌, ℕ, ◌<◌, ◌≤◌, ◌⊎◌, Bool, List, [], ◌∷◌, inl, inr, arith}
+use Rattle.std.proofs.Common.{ℕ, ◌<◌, ◌≤◌, ◌⊎◌, Bool, List, [], ◌∷◌, inl, inr, arith}
 use Rattle.std.proofs.lemmas.Bool.{cases_lt}
 use Rattle.ml_base.specs.Structure.{Structure}
 use Rattle.ml_front.proofs.Graphs.{graph_is}
@@ -38,7 +39,6 @@ use Rattle.ml_answers.specs.private.Judged.{worse, ComesTo}
 use Rattle.ml_answers.proofs.Judgments.{worse_both}
 use Rattle.ml_answers.proofs.NeverWrong.{never_parts, never_refuted}
 
--- what comes of what is shown where P is true and wrong where W is
 abbrev pub Comes : (P W : Type 0) → Type 0
 Comes P W = (s : Standing) × ComesTo P W s
 
@@ -129,7 +129,7 @@ module _ (l : Logic) (xs : List Item) (q : Question) (specified : IsSpecified l 
       let rest = parts_stand S ps is.second is.is_second in (
         worse here.0 rest.0,
         worse_both (ShownPart S p) (AreShown l xs S q ps) (WrongPart S p) (SomeWrong l xs S q ps) here.0 rest.0
-        (never_part S p) (never_parts one_check l xs q specified question S ps) here.1 rest.1,
+            (never_part S p) (never_parts one_check l xs q specified question S ps) here.1 rest.1,
       )
 
   -- ---- answers
@@ -145,7 +145,7 @@ module _ (l : Logic) (xs : List Item) (q : Question) (specified : IsSpecified l 
       let parts = parts_stand T c.parts is.second is.is_second in (
         worse refuted.0 parts.0,
         worse_both (IsRefuted p c.refutation) (AreShown l xs T q c.parts) (IsNotRefuted p c.refutation)
-        (SomeWrong l xs T q c.parts) refuted.0 parts.0 (never_refuted p c.refutation)
-        (never_parts one_check l xs q specified question T c.parts) refuted.1 parts.1,
+            (SomeWrong l xs T q c.parts) refuted.0 parts.0 (never_refuted p c.refutation)
+            (never_parts one_check l xs q specified question T c.parts) refuted.1 parts.1,
       )
   reply_stands S LeftOpen text is = (Unsettled, (λ no_such. no_such, λ no_such. no_such))

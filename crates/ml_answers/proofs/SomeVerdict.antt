@@ -3,7 +3,7 @@
 --   first_or_none  == of answers of each of which something is decided, one is the first of which it is true, or it is of none
 --   all_decided    == of the answers of a document it is decided whether they are shown, and whether they are wrong
 --   some_verdict   == so one is wrong first, or none is, and one isn't shown first, or all are
-use Rattle.std.proofs.Common.{◌≡◌, ℕ, ◌+◌, ◌⊎◌, Bool, List, [], ◌∷◌, ◌++◌, inl, inr, refl, ap}
+use Rattle.std.proofs.Common.{ℕ, ◌⊎◌, Bool, List, [], ◌∷◌, inl, inr, refl, ap}
 use Rattle.std.specs.List.{AllByRecursion}
 use Rattle.ml_front.specs.declared.logic.Logic.{Logic}
 use Rattle.ml_lists.proofs.Decided.{Decided}
@@ -24,7 +24,7 @@ use Rattle.ml_answers.specs.declared.judging.Standing.TheVariants.{Shown, Unsett
 use Rattle.ml_answers.specs.private.Judged.{ComesTo}
 use Rattle.ml_answers.proofs.Judgable.{IsJudgableReply}
 use Rattle.ml_answers.proofs.NeverWrong.{never_both}
-use Rattle.ml_answers.proofs.SomeStanding.{reply_stands, Comes}
+use Rattle.ml_answers.proofs.SomeStanding.{reply_stands}
 
 -- ---- the first one
 

@@ -47,8 +47,8 @@ line_is_there text w ws is = by (position is_line_end text) refl
         ap line_text words ∙ ap (λ l. l ++ 10 ∷ []) (join_with_byte-slice_split 32 front) in (
           behind,
           text_at text i at
-          ∙ sym (append_assoc front (10 ∷ []) behind)
-          ∙ ap (λ l. l ++ behind) (sym bytes),
+              ∙ sym (append_assoc front (10 ∷ []) behind)
+              ∙ ap (λ l. l ++ behind) (sym bytes),
         )
 
 -- ---- up to `end`
@@ -74,9 +74,9 @@ taken_then P Q text front rest both is behind = record {
   front = front ++ behind.front;
   rest = behind.rest;
   are_both =
-    both
-    ∙ ap (λ t. front ++ t) behind.are_both
-    ∙ sym (append_assoc front behind.front behind.rest);
+      both
+      ∙ ap (λ t. front ++ t) behind.are_both
+      ∙ sym (append_assoc front behind.front behind.rest);
   is_front = record {
     first = front;
     second = behind.front;
@@ -99,9 +99,9 @@ fault_then P Q R F k text fault turn taken is =
       front = both.first;
       rest = both.second ++ taken.rest;
       are_both =
-        taken.are_both
-        ∙ ap (λ t. t ++ taken.rest) both.are_both
-        ∙ append_assoc both.first both.second taken.rest;
+          taken.are_both
+          ∙ ap (λ t. t ++ taken.rest) both.are_both
+          ∙ append_assoc both.first both.second taken.rest;
       is_front = both.is_first;
       is_fault = record {
         front = both.second;
