@@ -11,7 +11,7 @@ use Rattle.std.specs.List.{AllByRecursion}
 use Rattle.std.proofs.lemmas.List.{drop_at, take_at}
 use Rattle.ml_front.specs.declared.logic.Logic.{Logic}
 use Rattle.ml_lines.specs.Lines.{line_text}
-use Rattle.ml_spec.proofs.Readings.{specified}
+use Rattle.ml_spec.proofs.Readings as readings
 use Rattle.ml_spec.specs.Joined.{requirements}
 use Rattle.ml_spec.specs.Questions.{asking, is_in, IsQuestion}
 use Rattle.ml_spec.specs.Specification.{IsSpecified}
@@ -322,7 +322,7 @@ module _ (text : List ℕ) (l : Logic) (xs : List Item) (rs : List Replied) (n :
           (
             line,
             found_open line (
-              none_wrong l xs n (specified is.spec l xs is.is_specification) (placed_from made.texts) answered,
+              none_wrong l xs n (readings.specified is.spec l xs is.is_specification) (placed_from made.texts) answered,
               first,
             ),
           ),

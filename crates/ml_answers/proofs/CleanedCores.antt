@@ -12,10 +12,11 @@
 use Rattle.std.proofs.Common.{◌≡◌, ◌≢◌, ℕ, zero, suc, ◌<◌, Bool, true, false, ◌&&◌, List, [], ◌∷◌, ◌++◌, length, map, refl, sym, ap, subst, ◌∙◌, arith}
 use Rattle.std.specs.List.{AllByRecursion}
 use Rattle.std.proofs.lemmas.Bool.{and_from, and_parts, false≢true}
-use Rattle.ml_decide.specs.Decision.{IsRefutedBy}
 use Rattle.ml_front.specs.Connectives.{joined}
+use Rattle.ml_front.specs.Graphs.{OfGraph}
 use Rattle.ml_front.specs.Problems.{IsSatisfiable}
 use Rattle.ml_front.specs.declared.logic.Logic.{Logic}
+use Rattle.ml_refutation.specs.Acceptance.{IsAccepted}
 use Rattle.ml_spec.specs.Joined.{requirements}
 use Rattle.ml_spec.specs.Questions.{asked_by, chosen, is_in}
 use Rattle.ml_spec.specs.declared.question.Question.{Question}
@@ -111,7 +112,11 @@ module _ (l : Logic) (xs : List Item) (n : ℕ) where
           are_among = λ k e. (core_among c is k e).1;
           is_held = subst IsHeld same is.is_held;
           is_small = subst IsSmall same is.is_small;
-          is_refuted = subst (λ p. IsRefutedBy p c.refutation) same is.is_refuted;
+          is_refuted = record {
+            is_refutation = is.is_refuted.is_refutation;
+            is_accepted = subst (λ p. OfGraph p (λ g. IsAccepted g c.refutation)) same is.is_refuted.is_accepted;
+            is_unsatisfiable = subst (λ p. ¬ (IsSatisfiable p)) same is.is_refuted.is_unsatisfiable;
+          };
           are_parts = cleaned_parts c is;
           are_so = parts_alike U V q c.parts (cleaned_agree xs c.taken) is.are_so;
         }

@@ -12,12 +12,11 @@
 --   title_behind   == so the search finds the title behind a specification
 use Rattle.std.proofs.Common.{◌≡◌, ◌≢◌, ℕ, zero, suc, ◌+◌, ◌-◌, ◌≤◌, ◌==◌, ◌||◌, Bool, true, false, not, cond, List, [], ◌∷◌, ◌++◌, Option, None, Some, codes, length, take, drop, position, refl, sym, ap, subst, ◌∙◌, arith}
 use Rattle.std.specs.Prelude.{reverse}
-use Rattle.std.specs.List.{list_any, prefix_len, suffix_len, AllByRecursion}
+use Rattle.std.specs.List.{before_first, list_any, prefix_len, suffix_len, AllByRecursion}
 use Rattle.std.specs.Str.{bytes_eq}
 use Rattle.std.proofs.lemmas.Bool.{or_parts}
 use Rattle.std.proofs.lemmas.List.{append_assoc, length-append, length-drop, length-reverse, reverse-append}
 use Rattle.std.proofs.lemmas.Slice.Eq.{bytes_eq-Decides}
-use Rattle.ml_text.specs.Bytes.{is_blank}
 use Rattle.ml_lines.specs.Lines.{line_text}
 use Rattle.ml_lines.specs.Reading.{is_line_end, left_of}
 use Rattle.ml_lines.proofs.Cuts.{cut_at, line_at, line_none}
@@ -40,42 +39,46 @@ first_byte (b ∷ bs) = b
 
 -- ---- how an item begins
 
-stops_before : (p : ℕ → Bool) (ys : List ℕ) (b : ℕ) → p b ≡ false → prefix_len p (ys ++ b ∷ []) ≤ length ys
-stops_before p [] b other = let none : cond (p b) (1 + 0) 0 ≡ 0 = ap (λ t. cond t (1 + 0) 0) other in omega (arith, none)
-stops_before p (y ∷ ys) b other = go (p y) (stops_before p ys b other)
-  where
-    go : (t : Bool)
-        → prefix_len p (ys ++ b ∷ []) ≤ length ys
-        → cond t (1 + prefix_len p (ys ++ b ∷ [])) 0 ≤ length (y ∷ ys)
-    go true rest = omega (arith, rest)
-    go false rest = omega arith
+-- p tells of blanks
+module _ (p : ℕ → Bool) where
+  stops_before : (ys : List ℕ) (b : ℕ) → p b ≡ false → prefix_len p (ys ++ b ∷ []) ≤ length ys
+  stops_before [] b other = let none : cond (p b) (1 + 0) 0 ≡ 0 = ap (λ t. cond t (1 + 0) 0) other in omega (arith, none)
+  stops_before (y ∷ ys) b other = go (p y) (stops_before ys b other)
+    where
+      go : (t : Bool)
+          → prefix_len p (ys ++ b ∷ []) ≤ length ys
+          → cond t (1 + prefix_len p (ys ++ b ∷ [])) 0 ≤ length (y ∷ ys)
+      go true rest = omega (arith, rest)
+      go false rest = omega arith
 
-blanks_behind : (b : ℕ) (bs : List ℕ) → is_blank b ≡ false → suffix_len is_blank (b ∷ bs) ≤ length bs
-blanks_behind b bs filled =
-    let turned : reverse (b ∷ bs) ≡ reverse bs ++ b ∷ [] = reverse-append (b ∷ []) bs in
-    subst (λ ys. prefix_len is_blank ys ≤ length bs) (sym turned)
-    (omega (arith, stops_before is_blank (reverse bs) b filled, length-reverse bs))
+  blanks_behind : (b : ℕ) (bs : List ℕ) → p b ≡ false → suffix_len p (b ∷ bs) ≤ length bs
+  blanks_behind b bs other =
+      let turned : reverse (b ∷ bs) ≡ reverse bs ++ b ∷ [] = reverse-append (b ∷ []) bs in
+      subst (λ ys. prefix_len p ys ≤ length bs) (sym turned)
+      (omega (arith, stops_before (reverse bs) b other, length-reverse bs))
 
-word_begins : (b : ℕ) (bs : List ℕ) → is_blank b ≡ false → first_byte (first_word (b ∷ bs)) ≡ b
-word_begins b bs filled =
-    let n = prefix_len (λ c. not (is_blank c)) bs in
-    let more : 1 + n ≡ suc n = omega arith in
-    ap (λ t. first_byte (take (cond (not t) (1 + n) 0) (b ∷ bs))) filled
-    ∙ ap (λ k. first_byte (take k (b ∷ bs))) more
+  word_begins : (b : ℕ) (bs : List ℕ) → p b ≡ false → first_byte (before_first p (b ∷ bs)) ≡ b
+  word_begins b bs other =
+      let n = prefix_len (λ c. not (p c)) bs in
+      let more : 1 + n ≡ suc n = omega arith in
+      ap (λ t. first_byte (take (cond (not t) (1 + n) 0) (b ∷ bs))) other
+      ∙ ap (λ k. first_byte (take k (b ∷ bs))) more
 
-pub first_stays : (b : ℕ) (bs : List ℕ) → is_blank b ≡ false → first_byte (first_word (trimmed (b ∷ bs))) ≡ b
-first_stays b bs filled =
-    let n = length (b ∷ bs) - suffix_len is_blank (b ∷ bs) in
-    let more : n ≡ suc (n - 1) = omega (arith, blanks_behind b bs filled) in
-    ap (λ k. first_byte (first_word (take k (b ∷ bs)))) more
-    ∙ word_begins b (take (n - 1) bs) filled
+  pub first_stays : (b : ℕ) (bs : List ℕ)
+      → p b ≡ false
+      → first_byte (before_first p (take (length (b ∷ bs) - suffix_len p (b ∷ bs)) (b ∷ bs))) ≡ b
+  first_stays b bs other =
+      let n = length (b ∷ bs) - suffix_len p (b ∷ bs) in
+      let more : n ≡ suc (n - 1) = omega (arith, blanks_behind b bs other) in
+      ap (λ k. first_byte (before_first p (take k (b ∷ bs)))) more
+      ∙ word_begins b (take (n - 1) bs) other
 
 -- it begins with another byte than `m`
 abbrev pub IsOther : ItemText → Type 0
 IsOther i = first_byte (first_word i.bytes) ≢ 109
 
 pub no_title : (at : ℕ) (rest : List ℕ) → AllByRecursion IsOther (items_from true at (uncommented_from false (109 ∷ rest))) → ⊥
-no_title at rest all = all.0 (first_stays 109 (up_to_item false (uncommented_from false rest)) refl)
+no_title at rest all = all.0 (first_stays _ 109 (up_to_item false (uncommented_from false rest)) refl)
 
 -- ---- line by line
 
@@ -241,6 +244,14 @@ others_all spec l xs is =
     other_head : (told : TellsLogic (uncommented spec) l) → IsOther told.first
     other_head told same = let wrong : 108 ≡ 109 = sym (ap first_byte told.begins) ∙ same in omega (arith, wrong)
 
+found_at_once : (w rest : List ℕ) (at : ℕ) → IsInLine w → line_from w at [] (w ++ 10 ∷ rest) ≡ Some at
+found_at_once w rest at is =
+    line_passed w w rest at [] is
+    ∙ ap (λ t. cond t (Some at) (line_from w (at + length w + 1) [] rest)) ((bytes_eq-Decides w w).1 refl)
+
+title_bytes : (rest : List ℕ) → line_text title_line ++ rest ≡ title ++ 10 ∷ rest
+title_bytes rest = refl
+
 pub title_behind : (spec rest : List ℕ) (l : Logic) (xs : List Item)
     → left_of spec ≡ []
     → IsSpecification spec l xs
@@ -252,5 +263,6 @@ title_behind spec rest l xs whole is =
     ap (λ t. first_line title (t ++ (line_text title_line ++ rest))) made.is_text
     ∙ lines_passed made.lines (line_text title_line ++ rest) 0 0 made.are_lines
     (subst (λ t. AllByRecursion IsOther (items_from true 0 (uncommented_from false t))) made.is_text (others_all spec l xs is))
-    ∙ line_passed title title rest (0 + length text) [] refl
+    ∙ ap (line_from title (0 + length text) []) (title_bytes rest)
+    ∙ found_at_once title rest (0 + length text) refl
     ∙ ap Some size
