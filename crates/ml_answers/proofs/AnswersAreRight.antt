@@ -270,7 +270,7 @@ module _ (text : List ℕ) (l : Logic) (xs : List Item) (rs : List Replied) (n :
       ap (drop (length is.spec)) is.are_both ∙ drop_at is.spec is.document (length is.spec) refl in
       found_from text (length is.spec) x there
       (subst (λ t. IsFoundIn t (drop (length is.spec) text) x) (sym front)
-        (subst (λ t. IsFoundIn is.spec t x) (sym behind) found))
+      (subst (λ t. IsFoundIn is.spec t x) (sym behind) found))
 
   abbrev placed_from : List (List ℕ) → List Placed
   placed_from texts = placed everything (map (cleaned xs) rs) (lines_from (1 + line_count is.spec + 1) texts)
@@ -287,11 +287,11 @@ module _ (text : List ℕ) (l : Logic) (xs : List Item) (rs : List Replied) (n :
           are_all = (on.last, on.leads, on.is_over);
           are_texts = made.are_texts;
           is_text =
-            document_is
-            ∙ ap (λ t. line_text title_line ++ t)
-            (both.are_both
-            ∙ ap (λ t. t ++ both.second) made.is_one
-            ∙ ap (λ t. one_text made.texts ++ t) both.is_second);
+              document_is
+              ∙ ap (λ t. line_text title_line ++ t)
+              (both.are_both
+              ∙ ap (λ t. t ++ both.second) made.is_one
+              ∙ ap (λ t. one_text made.texts ++ t) both.is_second);
           is_verdict = verdict;
         }
 

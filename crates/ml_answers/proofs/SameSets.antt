@@ -137,7 +137,7 @@ module _ (l : Logic) (xs : List Item) (R : ℕ → Bool) (among : List Bool) (q 
   comes_all s of all is =
       subst (λ S. ComesTo (IsShownBy l xs S q r) (checked.IsWrong l xs S q r) s) (sym (asked_all R q of))
       (judged_same l xs everything among q r s
-        (λ k low. sym (ap (λ bs. is_in bs k) all ∙ get_or-replicate (length xs) k true false low)) is)
+      (λ k low. sym (ap (λ bs. is_in bs k) all ∙ get_or-replicate (length xs) k true false low)) is)
 
   pub comes_rest : (s : Standing)
       → is_of_conflict q ≡ true

@@ -63,7 +63,7 @@ module _ (l : Logic) (xs : List Item) (n : ℕ) where
       leads = (
         (is, fits),
         subst (λ p. LeadTo xs (record { rest = rest_behind R p r.reply; questions = due_behind p r.reply qs }) rs on.last)
-          (sym is) on.leads,
+            (sym is) on.leads,
       );
       is_over = on.is_over;
       are_answered = placed_on;
@@ -99,7 +99,7 @@ module _ (l : Logic) (xs : List Item) (n : ℕ) where
       (reply_cleaned l xs n everything (asked_of R q) q agree r.reply are.0)
       (fits_cleaned l xs n everything (asked_of R q) q agree r.reply are.0)
       (other_on R q (map (λ o. o.question) rs) (cleaned_reply xs r.reply) (map (cleaned xs) rs) of.0.1
-        (others_go R rs of.1 are.1))
+      (others_go R rs of.1 are.1))
 
   -- ---- conflicts
 
@@ -120,9 +120,9 @@ module _ (l : Logic) (xs : List Item) (n : ℕ) where
         → AgreeOn xs R T
         → AreBehind l xs n R r cs
         → ((S U : ℕ → Bool)
-          → AgreeOn xs S U
-          → AreConflicts l xs n S Rest cs
-          → GoesOn U (Rest ∷ qs) (map (cleaned xs) (cs ++ others)))
+        → AgreeOn xs S U
+        → AreConflicts l xs n S Rest cs
+        → GoesOn U (Rest ∷ qs) (map (cleaned xs) (cs ++ others)))
         → GoesOn (rest_behind T q (cleaned_reply xs r)) (due_behind q (cleaned_reply xs r) qs) (map (cleaned xs) (cs ++ others))
     conflict_on R T q r cs of agree behind again = by q r of behind
       where

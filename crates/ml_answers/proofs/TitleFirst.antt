@@ -138,16 +138,16 @@ items_behind_line starts at (b ∷ bs) rest is all =
     by : (t : Bool)
         → AllByRecursion IsOther
         (cond t
-          (record { at = at; bytes = trimmed (b ∷ up_to_item false (bs ++ 10 ∷ rest)) } ∷ items_from false (at + 1) (bs ++ 10 ∷ rest))
-          (items_from (b == 10) (at + 1) (bs ++ 10 ∷ rest)))
+        (record { at = at; bytes = trimmed (b ∷ up_to_item false (bs ++ 10 ∷ rest)) } ∷ items_from false (at + 1) (bs ++ 10 ∷ rest))
+        (items_from (b == 10) (at + 1) (bs ++ 10 ∷ rest)))
         → (AllByRecursion IsOther (items_from false (at + 1) (bs ++ 10 ∷ rest))
-          → (k : ℕ) × AllByRecursion IsOther (items_from true k rest))
+        → (k : ℕ) × AllByRecursion IsOther (items_from true k rest))
         → (k : ℕ) × AllByRecursion IsOther (items_from true k rest)
     by true all behind = behind all.1
     by false all behind =
         behind
         (subst (λ t. AllByRecursion IsOther (items_from t (at + 1) (bs ++ 10 ∷ rest)))
-          (or_parts (is_line_end b) (list_any is_line_end bs) is).0 all)
+        (or_parts (is_line_end b) (list_any is_line_end bs) is).0 all)
 
 -- ---- whole lines
 
@@ -208,8 +208,8 @@ lines_passed (line ∷ lines) document at place are all =
     go true same rest =
         absurd
         (no_title place (drop 1 (title ++ 10 ∷ of_lines lines))
-          (subst (λ v. AllByRecursion IsOther (items_from true place (uncommented_from false (v ++ 10 ∷ of_lines lines))))
-            ((bytes_eq-Decides line title).0 same) all))
+        (subst (λ v. AllByRecursion IsOther (items_from true place (uncommented_from false (v ++ 10 ∷ of_lines lines))))
+        ((bytes_eq-Decides line title).0 same) all))
     go false differs rest =
         let size : at + length line + 1 + length (of_lines lines) ≡ at + length (line ++ 10 ∷ of_lines lines) =
         omega (arith, length-append line (10 ∷ of_lines lines)) in
