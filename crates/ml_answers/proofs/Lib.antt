@@ -72,3 +72,13 @@ pub mod SomeStanding
 pub mod SomeVerdict
 -- of each text something is found
 pub mod SomeFinding
+-- the first line that is a title stands behind the specification
+pub mod TitleFirst
+-- sets that agree on the requirements among the items
+pub mod AlikeRequirements
+-- answers whose conflicts name requirements alone
+pub mod CleanedCores
+-- such answers may stand in a document
+pub mod StandingAnswers
+-- the answers of a specification are found right
+pub mod AnswersAreRight

@@ -1,7 +1,7 @@
 -- Requirements that are told by flags, and by a set that agrees with them on the items.
 --
 --   chosen_same     == the same items are chosen
---   shown_same, fails_same == so a structure meets the same
+--   shown_same, fails_same == where their requirements are the same, a structure meets the same
 --   comes_same      == the same comes of what is shown and wrong in the same cases
 --   judged_same     == so the same comes of an answer
 use Rattle.std.proofs.Common.{◌≡◌, ◌≢◌, ℕ, zero, suc, ◌+◌, ◌<◌, ◌≤◌, ◌⊎◌, Bool, true, false, not, ◌&&◌, cond, replicate, List, [], ◌∷◌, ◌++◌, Contains, length, map, inl, inr, refl, sym, ap, subst, ◌∙◌, arith}
@@ -52,12 +52,13 @@ chosen_same xs S among agrees =
 
 -- ---- structures
 
-module _ (l : Logic) (xs : List Item) (S T : ℕ → Bool) (q : Question) (m : Structure) (s : ℕ) (same : chosen S xs ≡ chosen T xs) where
+module _ (l : Logic) (xs : List Item) (S T : ℕ → Bool) (q : Question) (m : Structure) (s : ℕ)
+    (same : requirements (chosen S xs) ≡ requirements (chosen T xs)) where
   all_same : problem_of l xs S q ≡ problem_of l xs T q
-  all_same = ap (λ ys. plain (joined l (requirements ys ++ asked_by xs q))) same
+  all_same = ap (λ fs. plain (joined l (fs ++ asked_by xs q))) same
 
   each_same : problems_of xs S q ≡ problems_of xs T q
-  each_same = ap (λ ys. problems_asked xs q ++ map plain (requirements ys)) same
+  each_same = ap (λ fs. problems_asked xs q ++ map plain fs) same
 
   checked_same : CanBeChecked l xs S q → CanBeChecked l xs T q
   checked_same (by_each ne small) = by_each ne (subst (AllByRecursion IsSmall) each_same small)
@@ -101,7 +102,7 @@ pub judged_same : (l : Logic) (xs : List Item) (S : ℕ → Bool) (among : List 
 judged_same l xs S among q LeftOpen s agrees is = is
 judged_same l xs S among q (Unmet c) s agrees is = is
 judged_same l xs S among q (Met m t) s agrees is =
-    let same = chosen_same xs S among agrees in
+    let same = ap requirements (chosen_same xs S among agrees) in
     comes_same (IsShown l xs (is_in among) q m t) (IsShown l xs S q m t) (FailsByCheck l xs (is_in among) q m t)
     (FailsByCheck l xs S q m t) s
     (shown_same l xs (is_in among) S q m t (sym same))
@@ -136,7 +137,7 @@ module _ (l : Logic) (xs : List Item) (R : ℕ → Bool) (among : List Bool) (q 
   comes_all s of all is =
       subst (λ S. ComesTo (IsShownBy l xs S q r) (checked.IsWrong l xs S q r) s) (sym (asked_all R q of))
       (judged_same l xs everything among q r s
-        (λ k low. sym (ap (λ bs. is_in bs k) all ∙ get_or-replicate (length xs) k true false low)) is)
+      (λ k low. sym (ap (λ bs. is_in bs k) all ∙ get_or-replicate (length xs) k true false low)) is)
 
   pub comes_rest : (s : Standing)
       → is_of_conflict q ≡ true
