@@ -86,9 +86,9 @@ module _ (P Q : List ℕ → Type 0) (at rest : Rest) where
   takes_both mid one other = record {
     front = one.front ++ other.front;
     are_both =
-      one.are_both
-      ∙ ap (λ t. one.front ++ t) other.are_both
-      ∙ sym (append_assoc one.front other.front rest.text.now);
+        one.are_both
+        ∙ ap (λ t. one.front ++ t) other.are_both
+        ∙ sym (append_assoc one.front other.front rest.text.now);
     is_front = record {
       first = one.front;
       second = other.front;
@@ -138,9 +138,9 @@ next_is at rest end some behind line =
       takes = record {
         front = front ++ 10 ∷ [];
         are_both =
-          text_at text end some
-          ∙ ap (λ t. front ++ 10 ∷ t) (sym behind)
-          ∙ sym (append_assoc front (10 ∷ []) rest.text.now);
+            text_at text end some
+            ∙ ap (λ t. front ++ 10 ∷ t) (sym behind)
+            ∙ sym (append_assoc front (10 ∷ []) rest.text.now);
         is_front = ap (λ l. l ++ 10 ∷ []) (sym (join_with_byte-slice_split 32 front));
         is_line = omega (arith, line, none, count_append front (10 ∷ []));
       };
