@@ -79,7 +79,7 @@ module _ (xs : List Item) (q : Question) (line : Line) where
       → ¬ (IsAnswerLine xs q line)
   not_answer a is none = λ other.
       none (subst (IsAnswer (wants_structure xs q))
-        (append_cancel_left (question_words xs q) other.answer a (sym other.is_line ∙ is)) other.is_answer)
+      (append_cancel_left (question_words xs q) other.answer a (sym other.is_line ∙ is)) other.is_answer)
 
   by_words : (a : Line) (words : AnswerWords)
       → IsAnswerOf (wants_structure xs q) a words
@@ -118,12 +118,14 @@ module _ (xs : List Item) (q : Question) (line : Line) where
         let made = core_marks S xs q c fits in
         let names = because_words xs c.parts ++ perhaps_words xs c.parts in
         let same = behind (yes_or_no (not (wants_structure xs q)) ∷ codes "because" ∷ names) e in
-        let words : names ≡ ws = cc in
-        (made.0, record {
-          are_marks = made.1.are_marks;
-          are_words = sym words ∙ parts_words S xs made.0 c.parts made.1.are_marks made.1.parts;
-          some_named = λ want. by made.0 c.parts (fits.some_named want) made.1.parts;
-        })
+        let words : names ≡ ws = cc in (
+          made.0,
+          record {
+            are_marks = made.1.are_marks;
+            are_words = sym words ∙ parts_words S xs made.0 c.parts made.1.are_marks made.1.parts;
+            some_named = λ want. by made.0 c.parts (fits.some_named want) made.1.parts;
+          },
+        )
       where
         by : (ms : List Mark) (ps : List Part) → ps ≢ [] → ArePartsOf 0 ms ps → list_any is_named ms ≡ true
         by ms [] some parts = absurd (some refl)
@@ -158,8 +160,8 @@ made_fits xs S q line (told.Names ms) (Unmet c) is made =
     let marked = is.2 in (
       core_fits S xs q ms.items c marked.are_marks marked.some_named made.0 made.1,
       is.1
-      ∙ ap (λ ws. question_words xs q ++ yes_or_no (not (wants_structure xs q)) ∷ codes "because" ∷ ws)
-      (marked.are_words ∙ sym (parts_words S xs ms.items c.parts marked.are_marks made.1)),
+          ∙ ap (λ ws. question_words xs q ++ yes_or_no (not (wants_structure xs q)) ∷ codes "because" ∷ ws)
+          (marked.are_words ∙ sym (parts_words S xs ms.items c.parts marked.are_marks made.1)),
     )
 made_fits xs S q line (told.Names ms) LeftOpen is made = absurd made
 made_fits xs S q line told.LeftOpen (Met m s) is made = absurd made

@@ -1,12 +1,15 @@
 -- Documents of answers, read answer by answer.
 --
 --   answer_taken, answer_refused, line_refused, line_missing == one answer
+--   shorter                 == less is left behind it
 --   read_begin, read_more   == what is read, with another answer behind it
 --   read_fault              == a fault behind it
---   conflict_first, conflict_more, conflict_last, conflict_fault == lines of conflicts
---   other_begin, other_skip, other_more, other_fault == the further questions
---   read_whole, end_fault   == `end`
---   behind_title, fault_behind_title == the title
+--   InConflicts             == where a line of a conflict is due
+--   agree_all               == flags that are all set agree with all requirements
+--   conflict_none, conflict_first, conflict_more, conflict_last, conflict_fault == lines of conflicts
+--   other_begin, other_skip, other_more, other_end, other_fault == the further questions
+--   end_missing, end_followed, end_taken, read_whole, end_fault == `end`
+--   title_taken, no_title, behind_title, fault_behind_title == the title
 use Rattle.std.proofs.Common.{◌≡◌, ◌≢◌, ℕ, suc, ◌+◌, ◌<◌, ◌≤◌, ◌⊎◌, ◌&&◌, ◌||◌, Bool, true, false, not, cond, List, [], ◌∷◌, ◌++◌, codes, length, map, drop, filter, get_or, replicate, inl, inr, refl, sym, ap, subst, ◌∙◌, arith}
 use Rattle.std.specs.Prelude.{⊤}
 use Rattle.std.specs.List.{join_with_byte, list_any}
@@ -57,8 +60,8 @@ module _ (xs : List Item) (S : ℕ → Bool) (q : Question) (at : declared.Rest)
   line_missing e is none =
       fault_as (IsLineFault (answer_rules xs S q)) (IsAnswerFault xs S q) at e (λ fault it. inl it)
       (told_here (answer_rules xs S q) at e (rule_number OfKind) is
-        (not_of_kind xs q (next_line at.text.now) S
-          (λ kind. let line : [] ≡ question_words xs q ++ kind.answer = sym none ∙ kind.is_line in absurd cc)))
+      (not_of_kind xs q (next_line at.text.now) S
+      (λ kind. let line : [] ≡ question_words xs q ++ kind.answer = sym none ∙ kind.is_line in absurd cc)))
 
   pub line_refused : (line : List ℕ) (mid : declared.Rest) (e : DocRefusal) (n : ℕ)
       → IsNext at line mid
@@ -68,7 +71,7 @@ module _ (xs : List Item) (S : ℕ → Bool) (q : Question) (at : declared.Rest)
   line_refused line mid e n next is broken =
       fault_as (IsLineFault (answer_rules xs S q)) (IsAnswerFault xs S q) at e (λ fault it. inl it)
       (told_here (answer_rules xs S q) at e n is
-        (subst (λ ws. IsFirstBroken (answer_rules xs S q) ws n) (sym next.has_words) broken))
+      (subst (λ ws. IsFirstBroken (answer_rules xs S q) ws n) (sym next.has_words) broken))
 
   pub answer_taken : (line : List ℕ) (mid rest : declared.Rest) (t : ToldLine) (r : Reply)
       → IsNext at line mid
@@ -92,7 +95,7 @@ module _ (xs : List Item) (S : ℕ → Bool) (q : Question) (at : declared.Rest)
       fault_as (IsBehind (IsLine (line_of xs (replied q made.0))) (IsBodyFault xs made.0)) (IsAnswerFault xs S q) at e
       (λ fault it. inr (made.0, fits.0, it))
       (fault_behind (IsLine (line_of xs (replied q made.0))) (IsBodyFault xs made.0) at mid e
-        (subst (λ ws. Takes (IsLine ws) at mid) fits.1 next.takes) (tells made.0 made.1))
+      (subst (λ ws. Takes (IsLine ws) at mid) fits.1 next.takes) (tells made.0 made.1))
 
 -- a line has an LF
 some_line : (ws : Line) → 0 < length (line_text ws)
@@ -177,13 +180,13 @@ module _ (xs : List Item) (at : declared.Rest) (stated : List Stated) (rest : de
       record {
         texts = is.texts ++ takes.front ∷ [];
         are_texts =
-          subst (λ rs. AreTexts xs rs (is.texts ++ takes.front ∷ [])) (sym replies)
-          (texts_more xs (replies_of stated) is.texts (replied_of s) takes.front is.are_texts takes.is_front);
+            subst (λ rs. AreTexts xs rs (is.texts ++ takes.front ∷ [])) (sym replies)
+            (texts_more xs (replies_of stated) is.texts (replied_of s) takes.front is.are_texts takes.is_front);
         are_both =
-          is.are_both
-          ∙ ap (λ t. one_text is.texts ++ t) takes.are_both
-          ∙ sym (append_assoc (one_text is.texts) takes.front end.text.now)
-          ∙ ap (λ t. t ++ end.text.now) (sym (one_text_more is.texts takes.front));
+            is.are_both
+            ∙ ap (λ t. one_text is.texts ++ t) takes.are_both
+            ∙ sym (append_assoc (one_text is.texts) takes.front end.text.now)
+            ∙ ap (λ t. t ++ end.text.now) (sym (one_text_more is.texts takes.front));
         is_line = omega (
           arith,
           is.is_line,
@@ -192,13 +195,13 @@ module _ (xs : List Item) (at : declared.Rest) (stated : List Stated) (rest : de
           count_append (one_text is.texts) takes.front,
         );
         are_lines =
-          map-append (λ a. a.line) stated (s ∷ [])
-          ∙ ap (λ ks. ks ++ s.line ∷ []) is.are_lines
-          ∙ ap (λ n. lines_from at.line is.texts ++ n ∷ []) (line ∙ is.is_line)
-          ∙ sym (lines_more at.line is.texts takes.front);
+            map-append (λ a. a.line) stated (s ∷ [])
+            ∙ ap (λ ks. ks ++ s.line ∷ []) is.are_lines
+            ∙ ap (λ n. lines_from at.line is.texts ++ n ∷ []) (line ∙ is.is_line)
+            ∙ sym (lines_more at.line is.texts takes.front);
         lead =
-          subst (λ rs. LeadTo xs (begun xs) rs (due.behind d (replied_of s))) (sym replies)
-          (lead_more xs (begun xs) d (replies_of stated) (replied_of s) is.lead may);
+            subst (λ rs. LeadTo xs (begun xs) rs (due.behind d (replied_of s))) (sym replies)
+            (lead_more xs (begun xs) d (replies_of stated) (replied_of s) is.lead may);
       }
 
   pub read_fault : (e : DocRefusal) → TellsFault (IsDueFault xs d) rest e → TellsFault (IsFaultBehind xs) at e
@@ -238,7 +241,7 @@ some_requirements (x ∷ xs) some = go (is_requirement x.kind) some (some_requir
     go : (b : Bool)
         → (b || list_any (λ x. is_requirement x.kind) xs) ≡ true
         → (list_any (λ x. is_requirement x.kind) xs ≡ true
-          → (f : AnyFormula) × (fs : List AnyFormula) × (requirements xs ≡ f ∷ fs))
+        → (f : AnyFormula) × (fs : List AnyFormula) × (requirements xs ≡ f ∷ fs))
         → (f : AnyFormula) × (fs : List AnyFormula)
         × (map (λ x. x.formula) (cond b (x ∷ filter (λ x. is_requirement x.kind) xs) (filter (λ x. is_requirement x.kind) xs))
         ≡ f ∷ fs)
@@ -266,9 +269,9 @@ pub conflict_none : (xs : List Item) (at : declared.Rest)
 conflict_none xs at none = record {
   among = everything;
   is_read =
-    subst (IsReadTo xs at [] at)
-    (ap (λ fs. record { rest = everything; questions = with_consistency fs (asking xs) }) (no_requirements xs none))
-    (read_begin xs at);
+      subst (IsReadTo xs at [] at)
+      (ap (λ fs. record { rest = everything; questions = with_consistency fs (asking xs) }) (no_requirements xs none))
+      (read_begin xs at);
 }
 
 pub conflict_first : (xs : List Item) (at : declared.Rest) (all : List Bool)
@@ -282,9 +285,9 @@ conflict_first xs at all some is told room =
     record {
       left = everything;
       is_read =
-        subst (IsReadTo xs at [] at)
-        (ap (λ fs. record { rest = everything; questions = with_consistency fs (asking xs) }) fs.2)
-        (read_begin xs at);
+          subst (IsReadTo xs at [] at)
+          (ap (λ fs. record { rest = everything; questions = with_consistency fs (asking xs) }) fs.2)
+          (read_begin xs at);
       agrees = agree_all xs all is;
       of_conflict = refl;
       told = told;
@@ -301,8 +304,8 @@ module _ (xs : List Item) (at : declared.Rest) (stated : List Stated) (rest : de
   conflict_fault e tells =
       read_fault xs at stated rest (record { rest = is.left; questions = q ∷ asking xs }) is.is_read e
       (fault_as (IsAnswerFault xs is.left q) (IsDueFault xs (record { rest = is.left; questions = q ∷ asking xs })) rest e
-        (λ fault it. subst (λ S. IsAnswerFault xs S q rest.line rest.text.now fault) (sym (asked_left q is.of_conflict)) it)
-        tells)
+      (λ fault it. subst (λ S. IsAnswerFault xs S q rest.line rest.text.now fault) (sym (asked_left q is.of_conflict)) it)
+      tells)
 
   -- what is due behind an answer
   behind_conflict : (q : Question) (r : Reply)
@@ -344,11 +347,13 @@ module _ (xs : List Item) (at : declared.Rest) (stated : List Stated) (rest : de
     more =
         subst (λ r. IsReadTo xs at (stated ++ s ∷ []) end (due.behind (record { rest = is.left; questions = q ∷ asking xs }) r))
         same
-        (read_more xs at stated rest (record { rest = is.left; questions = q ∷ asking xs }) is.is_read s end
-          (is_question, subst (λ S. Fits xs S q (plain.reply_of s.statement)) (sym (asked_left q is.of_conflict))
-            (fits is.left is.agrees))
-          line
-          (subst (λ r. Takes (IsBlock xs r) rest end) (sym same) takes))
+        (read_more xs at stated rest (record { rest = is.left; questions = q ∷ asking xs }) is.is_read s end (
+          is_question,
+          subst (λ S. Fits xs S q (plain.reply_of s.statement)) (sym (asked_left q is.of_conflict))
+              (fits is.left is.agrees),
+        )
+        line
+        (subst (λ r. Takes (IsBlock xs r) rest end) (sym same) takes))
 
     pub conflict_more : (later : List Bool)
         → IsConflict true (plain.reply_of s.statement)
@@ -359,8 +364,8 @@ module _ (xs : List Item) (at : declared.Rest) (stated : List Stated) (rest : de
     conflict_more later conflict told now room = record {
       left = rest_behind is.left Rest (plain.reply_of s.statement);
       is_read =
-        subst (IsReadTo xs at (stated ++ s ∷ []) end)
-        (behind_conflict q (plain.reply_of s.statement) is.of_conflict conflict) more;
+          subst (IsReadTo xs at (stated ++ s ∷ []) end)
+          (behind_conflict q (plain.reply_of s.statement) is.of_conflict conflict) more;
       agrees = left_agrees (plain.reply_of s.statement) now;
       of_conflict = refl;
       told = told ∙ is.told;
@@ -380,8 +385,8 @@ module _ (xs : List Item) (at : declared.Rest) (stated : List Stated) (rest : de
     conflict_last conflict = record {
       among = is.left;
       is_read =
-        subst (IsReadTo xs at (stated ++ s ∷ []) end)
-        (behind_other q (plain.reply_of s.statement) is.of_conflict conflict) more;
+          subst (IsReadTo xs at (stated ++ s ∷ []) end)
+          (behind_other q (plain.reply_of s.statement) is.of_conflict conflict) more;
     }
 
 -- ---- the further questions
@@ -429,8 +434,8 @@ module _ (xs : List Item) (at : declared.Rest) (stated : List Stated) (rest : de
       read_fault xs at stated rest
       (record { rest = read.among; questions = Asks n ∷ asking_from (n + 1) (drop (n + 1) xs) }) read.is_read e
       (fault_as (IsAnswerFault xs everything (Asks n))
-        (IsDueFault xs (record { rest = read.among; questions = Asks n ∷ asking_from (n + 1) (drop (n + 1) xs) })) rest e
-        (λ fault it. it) tells)
+      (IsDueFault xs (record { rest = read.among; questions = Asks n ∷ asking_from (n + 1) (drop (n + 1) xs) })) rest e
+      (λ fault it. it) tells)
 
   pub other_more : (x : Item) (s : Stated) (end : declared.Rest)
       → drop n xs ≡ x ∷ drop (n + 1) xs
@@ -449,8 +454,8 @@ module _ (xs : List Item) (at : declared.Rest) (stated : List Stated) (rest : de
       record {
         among = read.among;
         is_read =
-          subst (λ r. IsReadTo xs at (stated ++ s ∷ []) end (due.behind d r)) same
-          (read_more xs at stated rest d read.is_read s end (is_question, fits) line
+            subst (λ r. IsReadTo xs at (stated ++ s ∷ []) end (due.behind d r)) same
+            (read_more xs at stated rest d read.is_read s end (is_question, fits) line
             (subst (λ r. Takes (IsBlock xs r) rest end) (sym same) takes));
       }
 
@@ -484,7 +489,7 @@ module _ (at : declared.Rest) (e : DocRefusal) where
   end_followed mid takes is more =
       fault_as (IsBehind (IsLine last_line) IsMore) IsEndFault at e (λ fault it. inr it)
       (fault_behind (IsLine last_line) IsMore at mid e takes
-        (subst (TellsFault IsMore mid) (sym is) (more, refl, refl)))
+      (subst (TellsFault IsMore mid) (sym is) (more, refl, refl)))
 
 pub end_taken : (at mid : declared.Rest)
     → Takes (IsLine last_line) at mid
@@ -552,9 +557,9 @@ behind_title xs at mid stated takes read =
       are_all = read.are_all;
       are_texts = read.are_texts;
       is_text =
-        takes.are_both
-        ∙ ap (λ t. t ++ mid.text.now) takes.is_front
-        ∙ ap (λ t. line_text title_line ++ t) read.is_text;
+          takes.are_both
+          ∙ ap (λ t. t ++ mid.text.now) takes.is_front
+          ∙ ap (λ t. line_text title_line ++ t) read.is_text;
       are_lines = read.are_lines ∙ ap (λ k. lines_from k read.texts) line;
     }
 
@@ -573,7 +578,7 @@ fault_behind_title xs at mid (refusal.Fault fault) takes tells = (
     are_both = takes.are_both;
     is_front = takes.is_front;
     is_fault =
-      subst (λ k. IsBehind (AreBlocks xs tells.replies) (IsDueFault xs tells.due) k mid.text.now fault) takes.is_line
-      tells.is_fault;
+        subst (λ k. IsBehind (AreBlocks xs tells.replies) (IsDueFault xs tells.due) k mid.text.now fault) takes.is_line
+        tells.is_fault;
   },
 )

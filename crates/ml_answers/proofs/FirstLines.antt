@@ -75,8 +75,8 @@ line_passed w (b ∷ bs) rest at seen is =
     let parts = or_parts (is_line_end b) (list_any is_line_end bs) is in
     ap
     (λ t. cond t
-      (cond (bytes_eq seen w) (Some at) (line_from w (at + length seen + 1) [] (bs ++ 10 ∷ rest)))
-      (line_from w at (seen ++ b ∷ []) (bs ++ 10 ∷ rest)))
+    (cond (bytes_eq seen w) (Some at) (line_from w (at + length seen + 1) [] (bs ++ 10 ∷ rest)))
+    (line_from w at (seen ++ b ∷ []) (bs ++ 10 ∷ rest)))
     parts.0
     ∙ line_passed w bs rest at (seen ++ b ∷ []) parts.1
     ∙ ap (λ s. cond (bytes_eq s w) (Some at) (line_from w (at + length s + 1) [] rest)) (append_assoc seen (b ∷ []) bs)
@@ -87,8 +87,8 @@ no_line w (b ∷ bs) at seen is =
     let parts = or_parts (is_line_end b) (list_any is_line_end bs) is in
     ap
     (λ t. cond t
-      (cond (bytes_eq seen w) (Some at) (line_from w (at + length seen + 1) [] bs))
-      (line_from w at (seen ++ b ∷ []) bs))
+    (cond (bytes_eq seen w) (Some at) (line_from w (at + length seen + 1) [] bs))
+    (line_from w at (seen ++ b ∷ []) bs))
     parts.0
     ∙ no_line w bs at (seen ++ b ∷ []) parts.1
 

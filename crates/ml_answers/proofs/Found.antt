@@ -66,9 +66,9 @@ found_there w (b ∷ bs) at seen k e = go (is_line_end b) refl (bytes_eq seen w)
           is_behind = omega (arith, here);
           rest = bs;
           is_line =
-            ap (λ n. drop n (seen ++ b ∷ bs)) none
-            ∙ ap (λ c. seen ++ c ∷ bs) is_lf
-            ∙ ap (λ v. v ++ 10 ∷ bs) ((bytes_eq-Decides seen w).0 same);
+              ap (λ n. drop n (seen ++ b ∷ bs)) none
+              ∙ ap (λ c. seen ++ c ∷ bs) is_lf
+              ∙ ap (λ v. v ++ 10 ∷ bs) ((bytes_eq-Decides seen w).0 same);
         }
     go true lf false other rest e =
         let later = rest (at + length seen + 1) [] k e in
@@ -80,10 +80,10 @@ found_there w (b ∷ bs) at seen k e = go (is_line_end b) refl (bytes_eq seen w)
           is_behind = omega (arith, later.is_behind);
           rest = later.rest;
           is_line =
-            ap (λ n. drop n (seen ++ b ∷ bs)) skip
-            ∙ sym (drop-drop (k - (at + length seen + 1)) (length seen + 1) (seen ++ b ∷ bs))
-            ∙ ap (drop (k - (at + length seen + 1))) front
-            ∙ later.is_line;
+              ap (λ n. drop n (seen ++ b ∷ bs)) skip
+              ∙ sym (drop-drop (k - (at + length seen + 1)) (length seen + 1) (seen ++ b ∷ bs))
+              ∙ ap (drop (k - (at + length seen + 1))) front
+              ∙ later.is_line;
         }
     go false lf u is rest e =
         let later = rest at (seen ++ b ∷ []) k e in
@@ -142,9 +142,10 @@ checked_found spec l xs at stated x short is line read verdict = by x verdict
       are_texts = read.are_texts;
       is_text = read.is_text;
       is_verdict =
-        subst (λ ks. IsVerdict l xs (placed everything (replies_of stated) ks) x)
-        (read.are_lines ∙ ap (λ k. lines_from (k + 1) read.texts) line) verdict;
+          subst (λ ks. IsVerdict l xs (placed everything (replies_of stated) ks) x)
+          (read.are_lines ∙ ap (λ k. lines_from (k + 1) read.texts) line) verdict;
     }
+
     by : (x : AnswersFinding)
         → IsVerdict l xs (placed everything (replies_of stated) (plain.lines_of stated)) x
         → IsFoundIn spec at.text.now x

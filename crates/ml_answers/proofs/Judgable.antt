@@ -28,7 +28,7 @@ asking_there ys n [] items = tt
 asking_there ys n (x ∷ xs) items =
     go (is_requirement x.kind) refl
     (asking_there ys (n + 1) xs
-      (λ j. let same : n + suc j ≡ n + 1 + j = omega arith in subst (λ k. slice_get ys k ≡ slice_get xs j) same (items (suc j))))
+    (λ j. let same : n + suc j ≡ n + 1 + j = omega arith in subst (λ k. slice_get ys k ≡ slice_get xs j) same (items (suc j))))
   where
     go : (b : Bool)
         → is_requirement x.kind ≡ b
@@ -88,7 +88,7 @@ lead_judgable xs d e [] lead are = tt
 lead_judgable xs d e (r ∷ rs) lead are = (
   first_judgable xs d.rest d.questions r lead.0 are,
   lead_judgable xs (due.behind d r) e rs lead.1
-    (behind_are xs r.question r.reply (drop 1 d.questions) (tail_are xs d.questions are)),
+      (behind_are xs r.question r.reply (drop 1 d.questions) (tail_are xs d.questions are)),
 )
 
 all_stated : (xs : List Item) (stated : List Stated)

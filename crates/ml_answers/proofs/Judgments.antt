@@ -40,6 +40,7 @@ worse_both P Q W V s t never no_other one other = by s t one other
     neither : (W → ⊥) → (V → ⊥) → W ⊎ V → ⊥
     neither no_w no_v (inl w) = no_w w
     neither no_w no_v (inr v) = no_v v
+
     by : (s t : Standing) → ComesTo P W s → ComesTo Q V t → ComesTo (P × Q) (W ⊎ V) (worse s t)
     by Wrong t one other = inl one
     by Shown Wrong one other = inr other
@@ -116,7 +117,7 @@ module _ (l : Logic) (xs : List Item) (S : ℕ → Bool) (q : Question) where
       (more_wrong ps p)
       (wrong_more ps p)
       (worse_both (AreShown l xs S q ps) (IsShownWithout l xs (without S p.requirement) q p.without) (SomeWrong l xs S q ps)
-        (IsWrongWithout l xs (without S p.requirement) q p.without) s t (never ps) (last_never p never) one other)
+      (IsWrongWithout l xs (without S p.requirement) q p.without) s t (never ps) (last_never p never) one other)
 
 -- ---- all answers
 

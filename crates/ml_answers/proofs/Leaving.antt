@@ -27,19 +27,20 @@ left_more old taken n now later b is low told made is_b = (
   told ∙ is.0,
   λ k below. ap (λ bs. is_in bs k) made ∙ by k (split k below),
   λ k high.
-    ap (λ bs. is_in bs k) made
-    ∙ get_or-set_other now n k b false (λ e. absurd (omega (arith, e, high)))
-    ∙ is.2 k (omega (arith, high)),
+      ap (λ bs. is_in bs k) made
+      ∙ get_or-set_other now n k b false (λ e. absurd (omega (arith, e, high)))
+      ∙ is.2 k (omega (arith, high)),
 )
   where
     split : (k : ℕ) → k < n + 1 → (k ≡ n) ⊎ (k < n)
     split k below = search arith
+
     by : (k : ℕ) → (k ≡ n) ⊎ (k < n) → is_in (set now n b) k ≡ (is_in old k && not (is_in taken k))
     by k (inl e) =
         subst (λ j. is_in (set now n b) j ≡ (is_in old j && not (is_in taken j))) (sym e)
         (get_or-set_same now n b false low
-          ∙ is_b
-          ∙ ap (λ t. t && not (is_in taken n)) (is.2 n (omega arith)))
+        ∙ is_b
+        ∙ ap (λ t. t && not (is_in taken n)) (is.2 n (omega arith)))
     by k (inr below) =
         get_or-set_other now n k b false (λ e. absurd (omega (arith, e, below))) ∙ is.1 k below
 
@@ -57,6 +58,7 @@ left_end old taken n now is all k = by (split k)
   where
     split : (k : ℕ) → (k < n) ⊎ (n ≤ k)
     split k = search arith
+
     by : (k < n) ⊎ (n ≤ k) → is_in now k ≡ (is_in old k && not (is_in taken k))
     by (inl low) = is.1 k low
     by (inr high) =

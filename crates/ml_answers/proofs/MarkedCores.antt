@@ -165,23 +165,23 @@ parts_numbers S T n (x ∷ xs) [] ps taken are parts = absurd are
 parts_numbers S T n (x ∷ xs) (Unnamed ∷ ms) ps taken are parts =
     parts_numbers S T (n + 1) xs ms ps (taken_tail T n false (map is_named ms) taken) are.1 parts
     ∙ sym (ap (λ b. cond (b && is_requirement x.kind) (n ∷ numbers_from T (n + 1) xs) (numbers_from T (n + 1) xs))
-      (taken_head T n false (map is_named ms) taken))
+    (taken_head T n false (map is_named ms) taken))
 parts_numbers S T n (x ∷ xs) (Needed ∷ ms) [] taken are parts = absurd parts
 parts_numbers S T n (x ∷ xs) (Needed ∷ ms) (p ∷ ps) taken are parts =
     ap (λ k. k ∷ map (λ p. p.requirement) ps) parts.0
     ∙ ap (λ ks. n ∷ ks) (parts_numbers S T (n + 1) xs ms ps (taken_tail T n true (map is_named ms) taken) are.1 parts.2)
     ∙ sym (ap (λ b. cond (b && is_requirement x.kind) (n ∷ numbers_from T (n + 1) xs) (numbers_from T (n + 1) xs))
-      (taken_head T n true (map is_named ms) taken)
-      ∙ ap (λ b. cond b (n ∷ numbers_from T (n + 1) xs) (numbers_from T (n + 1) xs))
-      (and_parts (is_requirement x.kind) (S n) (are.0 refl)).0)
+    (taken_head T n true (map is_named ms) taken)
+    ∙ ap (λ b. cond b (n ∷ numbers_from T (n + 1) xs) (numbers_from T (n + 1) xs))
+    (and_parts (is_requirement x.kind) (S n) (are.0 refl)).0)
 parts_numbers S T n (x ∷ xs) (Perhaps ∷ ms) [] taken are parts = absurd parts
 parts_numbers S T n (x ∷ xs) (Perhaps ∷ ms) (p ∷ ps) taken are parts =
     ap (λ k. k ∷ map (λ p. p.requirement) ps) parts.0
     ∙ ap (λ ks. n ∷ ks) (parts_numbers S T (n + 1) xs ms ps (taken_tail T n true (map is_named ms) taken) are.1 parts.2)
     ∙ sym (ap (λ b. cond (b && is_requirement x.kind) (n ∷ numbers_from T (n + 1) xs) (numbers_from T (n + 1) xs))
-      (taken_head T n true (map is_named ms) taken)
-      ∙ ap (λ b. cond b (n ∷ numbers_from T (n + 1) xs) (numbers_from T (n + 1) xs))
-      (and_parts (is_requirement x.kind) (S n) (are.0 refl)).0)
+    (taken_head T n true (map is_named ms) taken)
+    ∙ ap (λ b. cond b (n ∷ numbers_from T (n + 1) xs) (numbers_from T (n + 1) xs))
+    (and_parts (is_requirement x.kind) (S n) (are.0 refl)).0)
 
 -- ---- what is taken
 
@@ -231,12 +231,12 @@ pub core_fits : (S : ℕ → Bool) (xs : List Item) (q : Question) (ms : List Ma
 core_fits S xs q ms c are some taken parts = record {
   are_told = ap length taken ∙ marks_length S 0 xs ms are;
   are_among = λ k e.
-    let same : 0 + k ≡ k = omega arith in
-    subst (λ j. (item_is_required (slice_get xs k) && S j) ≡ true) same
-    (marks_among S 0 xs ms are k (sym (ap (λ ts. is_in ts k) taken) ∙ e));
+      let same : 0 + k ≡ k = omega arith in
+      subst (λ j. (item_is_required (slice_get xs k) && S j) ≡ true) same
+      (marks_among S 0 xs ms are k (sym (ap (λ ts. is_in ts k) taken) ∙ e));
   are_parts =
-    parts_numbers S (is_in c.taken) 0 xs ms c.parts
-    (subst (TakenFrom (is_in c.taken) 0) taken (all_taken c.taken)) are parts;
+      parts_numbers S (is_in c.taken) 0 xs ms c.parts
+      (subst (TakenFrom (is_in c.taken) 0) taken (all_taken c.taken)) are parts;
   some_named = λ want none. some_parts 0 ms (some want) (subst (ArePartsOf 0 ms) none parts);
 }
 
@@ -262,16 +262,22 @@ with_named : (S : ℕ → Bool) (n : ℕ) (x : Item) (xs : List Item) (ts : List
 with_named S n x xs ts p ps may is_n (ms, is) = go (is_met p.without) refl
   where
     go : (b : Bool) → is_met p.without ≡ b → Made S n (x ∷ xs) (true ∷ ts) (p ∷ ps)
-    go true met = (Needed ∷ ms, record {
-      are_marks = (λ _. may, is.are_marks);
-      taken = ap (λ us. true ∷ us) is.taken;
-      parts = (is_n, met, is.parts);
-    })
-    go false met = (Perhaps ∷ ms, record {
-      are_marks = (λ _. may, is.are_marks);
-      taken = ap (λ us. true ∷ us) is.taken;
-      parts = (is_n, met, is.parts);
-    })
+    go true met = (
+      Needed ∷ ms,
+      record {
+        are_marks = (λ _. may, is.are_marks);
+        taken = ap (λ us. true ∷ us) is.taken;
+        parts = (is_n, met, is.parts);
+      },
+    )
+    go false met = (
+      Perhaps ∷ ms,
+      record {
+        are_marks = (λ _. may, is.are_marks);
+        taken = ap (λ us. true ∷ us) is.taken;
+        parts = (is_n, met, is.parts);
+      },
+    )
 
 marks_made : (S T : ℕ → Bool) (n : ℕ) (xs : List Item) (ts : List Bool) (ps : List Part)
     → TakenFrom T n ts
@@ -291,6 +297,7 @@ marks_made S T n (x ∷ xs) (t ∷ ts) ps taken told among numbers =
     later = λ j e.
         let same : n + suc j ≡ n + 1 + j = omega arith in
         subst (λ k. (item_is_required (slice_get xs j) && S k) ≡ true) same (among (suc j) e)
+
     go : (t : Bool)
         → T n ≡ t
         → (t ≡ true → (is_requirement x.kind && S (n + 0)) ≡ true)
@@ -301,12 +308,14 @@ marks_made S T n (x ∷ xs) (t ∷ ts) ps taken told among numbers =
     go false is_t may ps numbers rest =
         let made = rest ps
         (numbers
-        ∙ ap (λ b. cond (b && is_requirement x.kind) (n ∷ numbers_from T (n + 1) xs) (numbers_from T (n + 1) xs)) is_t) in
-        (Unnamed ∷ made.0, record {
-          are_marks = (λ e. absurd (false≢true e), made.1.are_marks);
-          taken = ap (λ us. false ∷ us) made.1.taken;
-          parts = made.1.parts;
-        })
+        ∙ ap (λ b. cond (b && is_requirement x.kind) (n ∷ numbers_from T (n + 1) xs) (numbers_from T (n + 1) xs)) is_t) in (
+          Unnamed ∷ made.0,
+          record {
+            are_marks = (λ e. absurd (false≢true e), made.1.are_marks);
+            taken = ap (λ us. false ∷ us) made.1.taken;
+            parts = made.1.parts;
+          },
+        )
     go true is_t may ps numbers rest =
         let same : n + 0 ≡ n = omega arith in
         let may_n : may_mark S n x ≡ true = subst (λ k. (is_requirement x.kind && S k) ≡ true) same (may refl) in

@@ -49,7 +49,7 @@ first_differs x before [] new = tt
 first_differs x before (y ∷ ys) new = (
   (λ e. new (x ∷ before) y ys refl (0, omega arith, sym e)),
   first_differs x (before ++ y ∷ []) ys
-    (subst AreNew (ap (λ zs. x ∷ zs) (sym (append_assoc before (y ∷ []) ys))) new),
+      (subst AreNew (ap (λ zs. x ∷ zs) (sym (append_assoc before (y ∷ []) ys))) new),
 )
 
 later_new : (x : Item) (xs : List Item) → AreNew (x ∷ xs) → AreNew xs
@@ -163,23 +163,26 @@ scan_finds S n (x ∷ xs) a b (m ∷ ms) ends differ named are is_a over is_b =
     step m is rest =
         ap (λ k. with_mark k (scan S (n + 1) xs (left_by (is_needed k) a) (left_by (is_unsettled k) b))) is
         ∙ ap (with_mark m) rest
+
     marks : (may s t : Bool) → may_mark S n x ≡ may → heads a x.name ≡ s → heads b x.name ≡ t
         → mark_at (may_mark S n x) x.name a b ≡ cond (may && s) Needed (cond (may && t) Perhaps Unnamed)
     marks may s t is_may is_s is_t =
         ap (λ k. cond (k && heads a x.name) Needed (cond (k && heads b x.name) Perhaps Unnamed)) is_may
         ∙ ap (λ k. cond (may && k) Needed (cond (may && heads b x.name) Perhaps Unnamed)) is_s
         ∙ ap (λ k. cond (may && s) Needed (cond (may && k) Perhaps Unnamed)) is_t
+
     by_may : (may : Bool) → cond (may && false) Needed (cond (may && false) Perhaps Unnamed) ≡ Unnamed
     by_may true = refl
     by_may false = refl
+
     go : (m : Mark)
         → (is_named m ≡ true → may_mark S n x ≡ true)
         → a ≡ names_by is_needed (x ∷ xs) (m ∷ ms) ++ ends
         → b ≡ names_by is_unsettled (x ∷ xs) (m ∷ ms)
         → ((a b : List Word)
-          → a ≡ names_by is_needed xs ms ++ ends
-          → b ≡ names_by is_unsettled xs ms
-          → scan S (n + 1) xs a b ≡ record { marks = ms; needed = ends; unsettled = [] })
+        → a ≡ names_by is_needed xs ms ++ ends
+        → b ≡ names_by is_unsettled xs ms
+        → scan S (n + 1) xs a b ≡ record { marks = ms; needed = ends; unsettled = [] })
         → scan S n (x ∷ xs) a b ≡ record { marks = m ∷ ms; needed = ends; unsettled = [] }
     go Unnamed may is_a is_b rest =
         let no_a : heads a x.name ≡ false =

@@ -2,9 +2,9 @@
 --
 --   then_behind      == a fault behind two parts
 --   without_taken, without_told, without_behind == the line `without`, and the body behind it
---   ArePartsReadTo   == what is known behind the parts of the first marks
---   parts_begin, parts_unnamed, parts_open, parts_met, parts_end == it stays so
+--   parts_begin, parts_unnamed, parts_open, parts_met == what is known behind the parts of the first marks stays so
 --   parts_refused    == a fault there
+--   parts_made, parts_taken == behind the last mark all parts are read
 --   core_taken, core_refused, core_parts_refused == the whole body
 use Rattle.std.proofs.Common.{◌≡◌, ◌≢◌, ℕ, ◌+◌, ◌<◌, ◌≤◌, ◌⊎◌, Bool, true, false, List, [], ◌∷◌, ◌++◌, length, map, drop, get_or, inl, inr, refl, sym, ap, subst, ◌∙◌, arith}
 use Rattle.std.specs.Prelude.{⊤}
@@ -45,9 +45,9 @@ then_behind P Q R F at rest (refusal.Fault fault) turn takes tells =
       front = both.first;
       rest = both.second ++ rest.text.now;
       are_both =
-        takes.are_both
-        ∙ ap (λ t. t ++ rest.text.now) both.are_both
-        ∙ append_assoc both.first both.second rest.text.now;
+          takes.are_both
+          ∙ ap (λ t. t ++ rest.text.now) both.are_both
+          ∙ append_assoc both.first both.second rest.text.now;
       is_front = both.is_first;
       is_fault = record {
         front = both.second;
@@ -75,7 +75,7 @@ module _ (xs : List Item) (n : ℕ) (at : Rest) where
   without_told e is ne =
       fault_as (IsLineFault (fixed_rules (without_line xs n))) (IsWithoutFault xs n) at e (λ fault tells. inl tells)
       (told_here (fixed_rules (without_line xs n)) at e (rule_number OfKind) is
-        (other_line (next_line at.text.now) (without_line xs n) ne))
+      (other_line (next_line at.text.now) (without_line xs n) ne))
 
   pub without_behind : (mid : Rest) (e : DocRefusal)
       → Takes (IsLine (without_line xs n)) at mid
@@ -110,7 +110,7 @@ open_fault xs k StillOpen F at (refusal.Fault fault) is tells = tells
 met_fault : (xs : List Item) (k : ℕ) (w : Without) (F : ℕ → List ℕ → DocFault → Type 0) (at : Rest) (e : DocRefusal)
     → is_met w ≡ true
     → TellsFault (λ k' text fault. IsWithoutFault xs k k' text fault
-      ⊎ IsBehind (IsLine (without_line xs k)) (IsBehind IsModelText F) k' text fault) at e
+    ⊎ IsBehind (IsLine (without_line xs k)) (IsBehind IsModelText F) k' text fault) at e
     → TellsFault (IsPartFault xs k w F) at e
 met_fault xs k StillOpen F at e is tells = absurd cc
 met_fault xs k (StillMet m s) F at refusal.NoMemory is tells = tt
@@ -145,12 +145,12 @@ module _ (xs : List Item) (ms : List Mark) (at : Rest) (n : ℕ) (ps : List Part
       let p : Part = record { requirement = n; without = StillOpen } in
       record {
         made = λ more parts.
-          subst (ArePartsOf 0 ms) (sym (one_more ps more p))
-          (read.made (p ∷ more) (parts_on Perhaps is_next (p ∷ more) (refl, refl, parts)));
+            subst (ArePartsOf 0 ms) (sym (one_more ps more p))
+            (read.made (p ∷ more) (parts_on Perhaps is_next (p ∷ more) (refl, refl, parts)));
         takes = λ more end is.
-          subst (λ qs. Takes (ArePartsText xs qs) at end) (sym (one_more ps more p))
-          (read.takes (p ∷ more) end
-          (takes_both IsNothing (ArePartsText xs more) rest end rest (takes_nothing rest) is));
+            subst (λ qs. Takes (ArePartsText xs qs) at end) (sym (one_more ps more p))
+            (read.takes (p ∷ more) end
+            (takes_both IsNothing (ArePartsText xs more) rest end rest (takes_nothing rest) is));
         refused = λ e tells. read.refused e (λ qs parts. by e tells qs (on_parts Perhaps is_next qs parts));
         has_room = read.has_room;
       }
@@ -173,12 +173,12 @@ module _ (xs : List Item) (ms : List Mark) (at : Rest) (n : ℕ) (ps : List Part
       let p : Part = record { requirement = n; without = StillMet m s } in
       record {
         made = λ more parts.
-          subst (ArePartsOf 0 ms) (sym (one_more ps more p))
-          (read.made (p ∷ more) (parts_on Needed is_next (p ∷ more) (refl, refl, parts)));
+            subst (ArePartsOf 0 ms) (sym (one_more ps more p))
+            (read.made (p ∷ more) (parts_on Needed is_next (p ∷ more) (refl, refl, parts)));
         takes = λ more end is.
-          subst (λ qs. Takes (ArePartsText xs qs) at end) (sym (one_more ps more p))
-          (read.takes (p ∷ more) end
-          (takes_both (IsWithoutText xs n (StillMet m s)) (ArePartsText xs more) rest end mid one is));
+            subst (λ qs. Takes (ArePartsText xs qs) at end) (sym (one_more ps more p))
+            (read.takes (p ∷ more) end
+            (takes_both (IsWithoutText xs n (StillMet m s)) (ArePartsText xs more) rest end mid one is));
         refused = λ e tells. read.refused e (λ qs parts. by e tells qs (on_parts Needed is_next qs parts));
         has_room = room;
       }
@@ -187,17 +187,18 @@ module _ (xs : List Item) (ms : List Mark) (at : Rest) (n : ℕ) (ps : List Part
           → k ≡ n
           → TellsFault (ArePartsFault xs qs) mid e
           → TellsFault (λ k' text fault. IsWithoutFault xs k k' text fault
-            ⊎ IsBehind (IsLine (without_line xs k)) (IsBehind IsModelText (ArePartsFault xs qs)) k' text fault) rest e
+          ⊎ IsBehind (IsLine (without_line xs k)) (IsBehind IsModelText (ArePartsFault xs qs)) k' text fault) rest e
       inner e k qs is tells =
           subst (λ j. TellsFault (λ k' text fault. IsWithoutFault xs j k' text fault
-            ⊎ IsBehind (IsLine (without_line xs j)) (IsBehind IsModelText (ArePartsFault xs qs)) k' text fault) rest e)
+          ⊎ IsBehind (IsLine (without_line xs j)) (IsBehind IsModelText (ArePartsFault xs qs)) k' text fault) rest e)
           (sym is)
           (fault_as (IsBehind (IsLine (without_line xs n)) (IsBehind IsModelText (ArePartsFault xs qs)))
-            (λ k' text fault. IsWithoutFault xs n k' text fault
-              ⊎ IsBehind (IsLine (without_line xs n)) (IsBehind IsModelText (ArePartsFault xs qs)) k' text fault)
-            rest e (λ fault it. inr it)
-            (then_behind (IsLine (without_line xs n)) (IsModel m s) IsModelText (ArePartsFault xs qs) rest mid e
-              (λ t is. (m, s, is.0, is.1, is.2)) one tells))
+          (λ k' text fault. IsWithoutFault xs n k' text fault
+          ⊎ IsBehind (IsLine (without_line xs n)) (IsBehind IsModelText (ArePartsFault xs qs)) k' text fault)
+          rest e (λ fault it. inr it)
+          (then_behind (IsLine (without_line xs n)) (IsModel m s) IsModelText (ArePartsFault xs qs) rest mid e
+          (λ t is. (m, s, is.0, is.1, is.2)) one tells))
+
       by : (e : DocRefusal)
           → ((qs : List Part) → ArePartsOf (n + 1) (drop (n + 1) ms) qs → TellsFault (ArePartsFault xs qs) mid e)
           → (qs : List Part)
@@ -207,7 +208,7 @@ module _ (xs : List Item) (ms : List Mark) (at : Rest) (n : ℕ) (ps : List Part
       by e tells (q ∷ qs) parts =
           first_part e q qs
           (met_fault xs q.requirement q.without (ArePartsFault xs qs) rest e parts.1
-            (inner e q.requirement qs parts.0 (tells qs parts.2)))
+          (inner e q.requirement qs parts.0 (tells qs parts.2)))
 
   pub parts_refused : drop n ms ≡ Needed ∷ drop (n + 1) ms
       → (e : DocRefusal)
@@ -222,13 +223,13 @@ module _ (xs : List Item) (ms : List Mark) (at : Rest) (n : ℕ) (ps : List Part
       by (q ∷ qs) parts =
           first_part e q qs
           (met_fault xs q.requirement q.without (ArePartsFault xs qs) rest e parts.1
-            (subst (λ j. TellsFault (λ k' text fault. IsWithoutFault xs j k' text fault
-              ⊎ IsBehind (IsLine (without_line xs j)) (IsBehind IsModelText (ArePartsFault xs qs)) k' text fault) rest e)
-            (sym parts.0)
-            (fault_as (IsWithoutFault xs n)
-              (λ k' text fault. IsWithoutFault xs n k' text fault
-                ⊎ IsBehind (IsLine (without_line xs n)) (IsBehind IsModelText (ArePartsFault xs qs)) k' text fault)
-              rest e (λ fault it. inl it) tells)))
+          (subst (λ j. TellsFault (λ k' text fault. IsWithoutFault xs j k' text fault
+          ⊎ IsBehind (IsLine (without_line xs j)) (IsBehind IsModelText (ArePartsFault xs qs)) k' text fault) rest e)
+          (sym parts.0)
+          (fault_as (IsWithoutFault xs n)
+          (λ k' text fault. IsWithoutFault xs n k' text fault
+          ⊎ IsBehind (IsLine (without_line xs n)) (IsBehind IsModelText (ArePartsFault xs qs)) k' text fault)
+          rest e (λ fault it. inl it) tells)))
 
   pub parts_made : length ms ≤ n → ArePartsOf 0 ms ps
   parts_made end =
@@ -261,4 +262,4 @@ module _ (xs : List Item) (at : Rest) where
       fault_as (IsBehind (IsRefutationText Two) (ArePartsFault xs c.parts)) (IsBodyFault xs (Unmet c)) at e
       (λ fault it. inr it)
       (fault_behind (IsRefutationText Two) (ArePartsFault xs c.parts) at mid e
-        (takes_as (IsRefutationOf r) (IsRefutationText Two) at mid (λ t is. (r, is.0, is.1)) one) tells)
+      (takes_as (IsRefutationOf r) (IsRefutationText Two) at mid (λ t is. (r, is.0, is.1)) one) tells)

@@ -7,9 +7,14 @@
 --   takes_as         == what is read is also of another kind
 --   fault_behind     == a fault behind what was read
 --   fault_as         == a fault of another kind
---   next_is          == the next line
+--   takes_nothing    == nothing is read
+--   next_is, no_next == the next line, and none
+--   line_taken, next_room == it is read, and the room stays
 --   told_here        == a line that breaks a rule
+--   other_line       == a line of other words does
 --   model_taken, tells_model, refutation_taken, tells_refutation == bodies
+--   line_fits, body_taken == the body that comes next
+--   if_ok_weaker, if_ok_both, if_err_weaker == what is true of a result
 use Rattle.std.proofs.Common.{◌≡◌, ℕ, ◌+◌, ◌<◌, ◌≤◌, ◌^◌, ◌||◌, Bool, true, false, cond, List, [], ◌∷◌, ◌++◌, Option, None, Some, Ok, Err, Result, length, take, drop, position, inl, inr, refl, sym, ap, subst, ◌∙◌, arith}
 use Rattle.std.specs.Prelude.{⊤, IfErr, IfOk}
 use Rattle.std.specs.List.{list_any}
@@ -86,9 +91,9 @@ module _ (P Q : List ℕ → Type 0) (at rest : Rest) where
   takes_both mid one other = record {
     front = one.front ++ other.front;
     are_both =
-      one.are_both
-      ∙ ap (λ t. one.front ++ t) other.are_both
-      ∙ sym (append_assoc one.front other.front rest.text.now);
+        one.are_both
+        ∙ ap (λ t. one.front ++ t) other.are_both
+        ∙ sym (append_assoc one.front other.front rest.text.now);
     is_front = record {
       first = one.front;
       second = other.front;
@@ -138,9 +143,9 @@ next_is at rest end some behind line =
       takes = record {
         front = front ++ 10 ∷ [];
         are_both =
-          text_at text end some
-          ∙ ap (λ t. front ++ 10 ∷ t) (sym behind)
-          ∙ sym (append_assoc front (10 ∷ []) rest.text.now);
+            text_at text end some
+            ∙ ap (λ t. front ++ 10 ∷ t) (sym behind)
+            ∙ sym (append_assoc front (10 ∷ []) rest.text.now);
         is_front = ap (λ l. l ++ 10 ∷ []) (sym (join_with_byte-slice_split 32 front));
         is_line = omega (arith, line, none, count_append front (10 ∷ []));
       };

@@ -125,10 +125,10 @@ module _ (l : Logic) (xs : List Item) (n : ℕ) (sound : Sound l xs) where
       let rest = others_so R qs rs ks e (omega (arith, told)) later end of.1 has.1 rest_shown in
       record {
         are_questions =
-          ap (λ q. q ∷ map (λ r. r.question) rs) is ∙ ap (λ ps. Asks m ∷ ps) rest.are_questions;
+            ap (λ q. q ∷ map (λ r. r.question) rs) is ∙ ap (λ ps. Asks m ∷ ps) rest.are_questions;
         are_answers = (
           subst (λ q. IsReply l xs n everything q r.reply) (sym is)
-            (reply_so everything (Asks m) r.reply of.0.0 lead.0.1 has.0 here),
+              (reply_so everything (Asks m) r.reply of.0.0 lead.0.1 has.0 here),
           rest.are_answers,
         );
       }
@@ -180,6 +180,7 @@ module _ (l : Logic) (xs : List Item) (n : ℕ) (sound : Sound l xs) where
     where
       has_rest : AllByRecursion (λ r. HasRefutation r.reply) rs
       has_rest = has.1
+
       go : (q : Question)
           → is_of_conflict q ≡ true
           → (rep : Reply)
@@ -190,10 +191,10 @@ module _ (l : Logic) (xs : List Item) (n : ℕ) (sound : Sound l xs) where
           → AllShown (rest_behind R q rep) rs ks
           → HasRefutation rep
           → ((S : ℕ → Bool)
-            → length ks ≡ length rs
-            → LeadTo xs (record { rest = S; questions = Rest ∷ qs }) rs e
-            → AllShown S rs ks
-            → AreTold S Rest qs rs)
+          → length ks ≡ length rs
+          → LeadTo xs (record { rest = S; questions = Rest ∷ qs }) rs e
+          → AllShown S rs ks
+          → AreTold S Rest qs rs)
           → AreTold R q qs (record { question = r.question; reply = rep } ∷ rs)
       go (Asks m) of_conflict rep is fits later here behind has rest = absurd (false≢true of_conflict)
       go Consistent of_conflict (Met m s) is fits later here behind has rest =

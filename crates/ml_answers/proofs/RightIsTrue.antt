@@ -102,7 +102,7 @@ module _ (text : List ℕ) (at : ℕ) (there : first_line (codes "mlsolver answe
       checked.are_all.2
       (asking_both xs)
       (blocks_have xs checked.replies (one_text checked.texts)
-        (blocks_of xs checked.replies checked.texts checked.are_texts))
+      (blocks_of xs checked.replies checked.texts checked.are_texts))
       checked.is_verdict
 
 pub right_is_true : RightIsTrue

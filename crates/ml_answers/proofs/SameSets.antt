@@ -4,6 +4,8 @@
 --   shown_same, fails_same == so a structure meets the same
 --   comes_same      == the same comes of what is shown and wrong in the same cases
 --   judged_same     == so the same comes of an answer
+--   comes_all, comes_rest == also where it isn't asked of conflicts, and where it is
+--   left_all, left_rest == and the flags agree with the rest behind the answer
 use Rattle.std.proofs.Common.{◌≡◌, ◌≢◌, ℕ, zero, suc, ◌+◌, ◌<◌, ◌≤◌, ◌⊎◌, Bool, true, false, not, ◌&&◌, cond, replicate, List, [], ◌∷◌, ◌++◌, Contains, length, map, inl, inr, refl, sym, ap, subst, ◌∙◌, arith}
 use Rattle.std.specs.List.{AllByRecursion}
 use Rattle.ml_base.specs.Structure.{Structure}
@@ -136,7 +138,7 @@ module _ (l : Logic) (xs : List Item) (R : ℕ → Bool) (among : List Bool) (q 
   comes_all s of all is =
       subst (λ S. ComesTo (IsShownBy l xs S q r) (checked.IsWrong l xs S q r) s) (sym (asked_all R q of))
       (judged_same l xs everything among q r s
-        (λ k low. sym (ap (λ bs. is_in bs k) all ∙ get_or-replicate (length xs) k true false low)) is)
+      (λ k low. sym (ap (λ bs. is_in bs k) all ∙ get_or-replicate (length xs) k true false low)) is)
 
   pub comes_rest : (s : Standing)
       → is_of_conflict q ≡ true

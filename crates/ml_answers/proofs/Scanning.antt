@@ -43,10 +43,10 @@ module _ (xs : List Item) (flags : List Bool) (n : ℕ) (ms : List Mark) (a b c 
       ∙ ap (λ v. with_marks ms (with_mark m (scan S (n + 1) ys v (left_by (is_unsettled m) d)))) (sym is_e)
       ∙ ap (λ v. with_marks ms (with_mark m (scan S (n + 1) ys e v))) (sym is_f)
       ∙ ap (λ ks. record {
-          marks = ks;
-          needed = (scan S (n + 1) ys e f).needed;
-          unsettled = (scan S (n + 1) ys e f).unsettled;
-        }) (sym (append_assoc ms (m ∷ []) (scan S (n + 1) ys e f).marks))
+        marks = ks;
+        needed = (scan S (n + 1) ys e f).needed;
+        unsettled = (scan S (n + 1) ys e f).unsettled;
+      }) (sym (append_assoc ms (m ∷ []) (scan S (n + 1) ys e f).marks))
 
   pub scanned_end : length xs ≤ n
       → (S : ℕ → Bool)

@@ -219,7 +219,7 @@ split_marked wants words a b ns ends split named is_a over = by (heads words (co
         headed words (codes "-") is ∙ ap (λ ws. codes "-" ∷ ws) (sym d.0 ∙ is_a) in
         let same : behind_perhaps words ≡ behind_perhaps ends = ap behind_perhaps words_are in (
           words_are
-          ∙ ap (λ ws. codes "-" ∷ ws) (sym (joined_ends words b ends split.is_behind split.some_behind same over)),
+              ∙ ap (λ ws. codes "-" ∷ ws) (sym (joined_ends words b ends split.is_behind split.some_behind same over)),
           d.2,
         )
     by true is (n ∷ ns) named is_a =
@@ -234,7 +234,7 @@ split_marked wants words a b ns ends split named is_a over = by (heads words (co
         let same : behind_perhaps words ≡ behind_perhaps ends =
         ap behind_perhaps words_are ∙ behind_past (n ∷ ns) ends named in (
           words_are
-          ∙ ap (λ ws. (n ∷ ns) ++ ws) (sym (joined_ends words b ends split.is_behind split.some_behind same over)),
+              ∙ ap (λ ws. (n ∷ ns) ++ ws) (sym (joined_ends words b ends split.is_behind split.some_behind same over)),
           none_lacking wants,
         )
       where
@@ -278,7 +278,7 @@ module _ (S : ℕ → Bool) (wants : Bool) (xs : List Item) (words : List Word) 
         are_marks = parts.0;
         are_words = joined.0 ∙ ap (λ ws. or_dash (names_by is_needed xs s.marks) ++ perhaps ws) us;
         some_named = λ want.
-          some_of s.marks (names_by is_needed xs s.marks) b refl (sym us) joined.1 want;
+            some_of s.marks (names_by is_needed xs s.marks) b refl (sym us) joined.1 want;
       })
 
   lacking : (ms : List Mark)
@@ -307,7 +307,7 @@ module _ (S : ℕ → Bool) (wants : Bool) (xs : List Item) (words : List Word) 
       scan_finds S 0 xs (ns ++ perhaps us) us ms (perhaps us) differ named is.are_marks refl (over_perhaps us) refl in
       record {
         are_split = ap (split_words wants) is.are_words
-          ∙ marked_split wants ns us (names_named is_needed xs ms named) (lacking ms is.are_marks is.some_named);
+            ∙ marked_split wants ns us (names_named is_needed xs ms named) (lacking ms is.are_marks is.some_named);
         is_scan = ap (λ s. s.marks) found;
         is_over = ap (λ s. is_over s.needed) found ∙ over_perhaps us;
         is_empty = ap (λ s. s.unsettled) found;
@@ -332,11 +332,11 @@ module _ (S : ℕ → Bool) (wants : Bool) (xs : List Item) (words : List Word) 
       let is_b : us ≡ b = ap (λ (p : List Word × List Word). p.1) same in
       none
       (sym (ap (λ v. marks.is_over (scan S 0 xs v b).needed) is_a)
-        ∙ sym (ap (λ v. marks.is_over (scan S 0 xs ns v).needed) is_b)
-        ∙ found.is_over)
+      ∙ sym (ap (λ v. marks.is_over (scan S 0 xs ns v).needed) is_b)
+      ∙ found.is_over)
       (sym (ap (λ v. (scan S 0 xs v b).unsettled) is_a)
-        ∙ sym (ap (λ v. (scan S 0 xs ns v).unsettled) is_b)
-        ∙ found.is_empty)
+      ∙ sym (ap (λ v. (scan S 0 xs ns v).unsettled) is_b)
+      ∙ found.is_empty)
 
   pub no_marks : split_words wants words ≡ None → (ms : List Mark) → ¬ (MarkedBy S wants xs ms words)
   no_marks none = λ ms marked.

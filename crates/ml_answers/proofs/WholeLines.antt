@@ -72,7 +72,7 @@ behind_byte b bs seen at k other (inr (low, ends)) =
     inr (
       omega (arith, low, size),
       subst (λ n. EndsLine (take n (b ∷ bs))) (sym more)
-        (byte_before b (take (k - (at + length (seen ++ b ∷ []))) bs) other ends),
+          (byte_before b (take (k - (at + length (seen ++ b ∷ []))) bs) other ends),
     )
 
 pub found_whole : (w text : List ℕ) (at : ℕ) (seen : List ℕ) (k : ℕ)

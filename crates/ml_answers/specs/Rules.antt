@@ -95,7 +95,7 @@ IsWithoutFault xs n k text fault =
 
 -- of one part, or of what is behind it, as F tells it
 abbrev pub IsPartFault :
-  List Item → ℕ → Without → (ℕ → List ℕ → DocFault → Type 0) → ℕ → List ℕ → DocFault → Type 0
+    List Item → ℕ → Without → (ℕ → List ℕ → DocFault → Type 0) → ℕ → List ℕ → DocFault → Type 0
 IsPartFault xs n StillOpen F k text fault = F k text fault
 IsPartFault xs n (StillMet m s) F k text fault =
     IsWithoutFault xs n k text fault ⊎ IsBehind (IsLine (without_line xs n)) (IsBehind IsModelText F) k text fault

@@ -17,7 +17,10 @@ pub enum AnswersFinding {
     /// The specification has more bytes than one may have.
     TooLong,
     /// No document begins in the text, which ends at this line and column.
-    NoDocument { line: u64, column: u64 },
+    NoDocument {
+        line: u64,
+        column: u64,
+    },
     /// The specification breaks this rule at this line and column.
     Refused {
         line: u64,

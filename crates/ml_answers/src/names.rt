@@ -142,21 +142,37 @@ fn cut_names<'a>(
             if unsettled.are_none() {
                 None
             } else if dashed {
-                if over { Some((needed, unsettled)) } else { None }
+                if over {
+                    Some((needed, unsettled))
+                } else {
+                    None
+                }
             } else {
-                if over { None } else { Some((needed, unsettled)) }
+                if over {
+                    None
+                } else {
+                    Some((needed, unsettled))
+                }
             }
         }
         None => {
             let unsettled = Names { rest: None };
             if dashed {
                 if over {
-                    if wants_some { None } else { Some((needed, unsettled)) }
+                    if wants_some {
+                        None
+                    } else {
+                        Some((needed, unsettled))
+                    }
                 } else {
                     None
                 }
             } else {
-                if over { None } else { Some((needed, unsettled)) }
+                if over {
+                    None
+                } else {
+                    Some((needed, unsettled))
+                }
             }
         }
     }

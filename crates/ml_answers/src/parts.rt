@@ -43,10 +43,7 @@ pub(crate) fn read_structure<'a>(
 }
 
 // a refutation
-fn read_refutation<'a>(
-    alloc: Global,
-    at: Rest<'a>,
-) -> Result<(Refutation, Rest<'a>), DocRefusal>
+fn read_refutation<'a>(alloc: Global, at: Rest<'a>) -> Result<(Refutation, Rest<'a>), DocRefusal>
     requires { HasRoom at }
     ensures read { IfOk result (λ r. Takes (IsRefutationOf (plain r.0)) at.entry r.1) }
     ensures refused { IfErr result (TellsFault IsRefutationFault at.entry) }

@@ -91,8 +91,8 @@ scan S n [] a b = record { marks = []; needed = a; unsettled = b }
 scan S n (x ∷ xs) a b =
     with_mark (mark_at (may_mark S n x) x.name a b)
     (scan S (n + 1) xs
-      (left_by (is_needed (mark_at (may_mark S n x) x.name a b)) a)
-      (left_by (is_unsettled (mark_at (may_mark S n x) x.name a b)) b))
+    (left_by (is_needed (mark_at (may_mark S n x) x.name a b)) a)
+    (left_by (is_unsettled (mark_at (may_mark S n x) x.name a b)) b))
 
 abbrev pub behind_perhaps : List Word → Option (List Word)
 behind_perhaps [] = None

@@ -24,7 +24,7 @@ returns-in-Some c =
     if_ok_weaker c.check_behind.result _ _
     (λ x found.
     found_from text at x (sym c.in-Some.ensures.found)
-      (subst (λ document. IsFoundIn (take at text) document x) (sym (slice_end text at)) found))
+    (subst (λ document. IsFoundIn (take at text) document x) (sym (slice_end text at)) found))
     c.check_behind.ensures
 
 pub returns-in-None : goal.returns-in-None

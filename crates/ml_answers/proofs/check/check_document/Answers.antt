@@ -12,7 +12,7 @@ returns-in-Err-Fault c =
     let at = c.args.at in
     subst (λ fault. IsFoundIn c.args._text.now at.text.now (Unreadable fault)) (sym c.in-Err-Fault.fault-is)
     (fault_found c.args._text.now s.logic s.items.items at c.in-Err-Fault.fault c.requires.short c.requires.is_specification
-      c.requires.line
-      (subst (TellsFault (IsAnswersFault s.items.items) at) c.in-Err-Fault.field-0-is
-        (subst (λ xs. TellsFault (IsAnswersFault xs) at c.in-Err-Fault.field-0) c.deref.ensures.value
-          c.in-Err-Fault.ensures.refused)))
+    c.requires.line
+    (subst (TellsFault (IsAnswersFault s.items.items) at) c.in-Err-Fault.field-0-is
+    (subst (λ xs. TellsFault (IsAnswersFault xs) at c.in-Err-Fault.field-0) c.deref.ensures.value
+    c.in-Err-Fault.ensures.refused)))

@@ -13,5 +13,5 @@ returns c =
     if_ok_weaker c.verdict.result _ _
     (λ x is.
     checked_found c.args._text.now s.logic s.items.items c.args._at c.args.stated.now x c.requires.short
-      c.requires.is_specification c.requires.line c.requires.read is)
+    c.requires.is_specification c.requires.line c.requires.read is)
     c.verdict.ensures

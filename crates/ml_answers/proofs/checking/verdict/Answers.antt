@@ -67,9 +67,9 @@ returns-in-Wrong c =
     wrong_at s.logic xs stated n l.rest.items later l.unshown a l.invariant next same
     (c.in_ok-standing.ensures.left l.invariant.left agrees)
     (subst
-      (ComesTo (IsShownBy s.logic xs R a.question (reply_of a.statement))
-        (checked.IsWrong s.logic xs R a.question (reply_of a.statement)))
-      c.in-Wrong.is (c.in_ok-standing.ensures.comes l.invariant.left agrees))
+    (ComesTo (IsShownBy s.logic xs R a.question (reply_of a.statement))
+    (checked.IsWrong s.logic xs R a.question (reply_of a.statement)))
+    c.in-Wrong.is (c.in_ok-standing.ensures.comes l.invariant.left agrees))
 
 pub loop-answer-preserved : goal.loop-answer-preserved
 loop-answer-preserved c =
@@ -97,14 +97,14 @@ loop-answer-preserved c =
     let W = checked.IsWrong s.logic xs R a.question (reply_of a.statement) in
     subst (λ bs. AreJudgedTo s.logic xs stated (n + 1) bs c.match-standing.unshown) (sym whole)
     (elim c.match-standing.branch [
-      in-Shown w ↦
-        let shown = subst (ComesTo P W) w.in-Shown.is comes in
-        subst (AreJudgedTo s.logic xs stated (n + 1) later) (sym w.unshown-is)
-        (judged_shown s.logic xs stated n l.rest.items later l.unshown a l.invariant next same left shown (never shown))
+      | in-Shown w ↦
+          let shown = subst (ComesTo P W) w.in-Shown.is comes in
+          subst (AreJudgedTo s.logic xs stated (n + 1) later) (sym w.unshown-is)
+          (judged_shown s.logic xs stated n l.rest.items later l.unshown a l.invariant next same left shown (never shown))
       | in-Unsettled w ↦
-        let dark = subst (ComesTo P W) w.in-Unsettled.is comes in
-        judged_open s.logic xs stated n l.rest.items later l.unshown a l.invariant next same left dark.0 dark.1
-        c.match-standing.unshown
-        (λ line e. w.unshown-is ∙ w.or-unshown.ensures ∙ ap (λ first. option_or first (Some a.line)) e)
-        (λ e. w.unshown-is ∙ w.or-unshown.ensures ∙ ap (λ first. option_or first (Some a.line)) e)
+          let dark = subst (ComesTo P W) w.in-Unsettled.is comes in
+          judged_open s.logic xs stated n l.rest.items later l.unshown a l.invariant next same left dark.0 dark.1
+          c.match-standing.unshown
+          (λ line e. w.unshown-is ∙ w.or-unshown.ensures ∙ ap (λ first. option_or first (Some a.line)) e)
+          (λ e. w.unshown-is ∙ w.or-unshown.ensures ∙ ap (λ first. option_or first (Some a.line)) e)
     ])

@@ -37,6 +37,6 @@ loop-end-preserved c =
     let size = in_text c.args.line.now rest c.loop-end.from end some in (
       omega (arith, c.loop-end.invariant.0, size, ap length cut),
       c.loop-end.invariant.1
-      ∙ found_on c.args.line.now rest c.loop-end.from end some (sym c.is_same.ensures ∙ c.if-is_same.false)
-      ∙ ap (line_from c.args.line.now (c.loop-end.from + (end + 1)) []) cut,
+          ∙ found_on c.args.line.now rest c.loop-end.from end some (sym c.is_same.ensures ∙ c.if-is_same.false)
+          ∙ ap (line_from c.args.line.now (c.loop-end.from + (end + 1)) []) cut,
     )

@@ -14,7 +14,7 @@ returns-in-Ok-clause-fits c =
     if_ok_weaker c.read_body.result _ _
     (λ r made S agrees.
     (made_fits c.args.items.now S c.args.question (words_of c.in-Some.line.now) c.in-Ok.told (reply_of r.0)
-      (c.in-Ok.ensures.read S agrees) made).0)
+    (c.in-Ok.ensures.read S agrees) made).0)
     c.read_body.ensures.made
 
 pub returns-in-Ok-clause-read : goal.returns-in-Ok-clause-read
@@ -25,7 +25,7 @@ returns-in-Ok-clause-read c =
     (λ r. Takes (IsBody c.args.items.now (reply_of r.0)) c.in-Some.behind r.1) _
     (λ r made body.
     answer_taken c.args.items.now S c.args.question c.args.at c.in-Some.line.now c.in-Some.behind r.1 c.in-Ok.told
-      (reply_of r.0) c.in-Some.ensures (c.in-Ok.ensures.read S (λ k low. refl)) made body)
+    (reply_of r.0) c.in-Some.ensures (c.in-Ok.ensures.read S (λ k low. refl)) made body)
     c.read_body.ensures.made c.read_body.ensures.read
 
 pub returns-in-Ok-clause-refused : goal.returns-in-Ok-clause-refused
@@ -33,7 +33,7 @@ returns-in-Ok-clause-refused c =
     if_err_weaker c.read_body.result _ _
     (λ e tells S agrees.
     answer_refused c.args.items.now S c.args.question c.args.at c.in-Some.line.now c.in-Some.behind c.in-Ok.told e
-      c.in-Some.ensures (c.in-Ok.ensures.read S agrees) tells)
+    c.in-Some.ensures (c.in-Ok.ensures.read S agrees) tells)
     c.read_body.ensures.refused
 
 pub returns-in-Ok-clause-room : goal.returns-in-Ok-clause-room
@@ -41,7 +41,7 @@ returns-in-Ok-clause-room c =
     if_ok_weaker c.read_body.result (λ r. Takes (IsBody c.args.items.now (reply_of r.0)) c.in-Some.behind r.1) _
     (λ r body.
     room_behind (IsBody c.args.items.now (reply_of r.0)) (IsBody c.args.items.now (reply_of r.0)) c.in-Some.behind r.1 body
-      (next_room c.args.at c.in-Some.behind c.in-Some.line.now c.in-Some.ensures c.requires.room))
+    (next_room c.args.at c.in-Some.behind c.in-Some.line.now c.in-Some.ensures c.requires.room))
     c.read_body.ensures.read
 
 pub returns-in-Ok-clause-shorter : goal.returns-in-Ok-clause-shorter
@@ -49,5 +49,5 @@ returns-in-Ok-clause-shorter c =
     if_ok_weaker c.read_body.result (λ r. Takes (IsBody c.args.items.now (reply_of r.0)) c.in-Some.behind r.1) _
     (λ r body.
     shorter c.in-Some.line.now c.args.at c.in-Some.behind r.1 (IsBody c.args.items.now (reply_of r.0)) c.in-Some.ensures
-      body)
+    body)
     c.read_body.ensures.read

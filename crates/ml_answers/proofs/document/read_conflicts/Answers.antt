@@ -32,7 +32,7 @@ returns-in-Err-read_answer-clause-refused c =
     let l = c.loop-statement in
     conflict_fault xs c.args.at l.stated.items l.rest l.question l.among.items l.invariant c.in-Err-read_answer.refusal
     (c.in-Err-read_answer.ensures.refused l.invariant.left
-      (subst (Agrees xs l.invariant.left) (sym c.deref.ensures.value) l.invariant.agrees))
+    (subst (Agrees xs l.invariant.left) (sym c.deref.ensures.value) l.invariant.agrees))
 
 pub returns-then-not-goes_on-clause-read : goal.returns-then-not-goes_on-clause-read
 returns-then-not-goes_on-clause-read c =
@@ -43,9 +43,9 @@ returns-then-not-goes_on-clause-read c =
     let stays : c.leave_out-goes_on.result ≡ false = cc in
     subst (λ st. IsReadUpTo xs c.args.at st r.behind (asking xs)) (sym c.in_ok-push-in-Ok-read_answer.ensures.items)
     (conflict_last xs c.args.at l.stated.items l.rest l.question l.among.items l.invariant s r.behind refl
-      (λ S agrees. r.ensures.fits S (subst (Agrees xs S) (sym c.deref.ensures.value) agrees))
-      refl r.ensures.read
-      (subst (λ b. IsConflict b (reply_of r.statement)) stays c.leave_out-goes_on.ensures.conflict))
+    (λ S agrees. r.ensures.fits S (subst (Agrees xs S) (sym c.deref.ensures.value) agrees))
+    refl r.ensures.read
+    (subst (λ b. IsConflict b (reply_of r.statement)) stays c.leave_out-goes_on.ensures.conflict))
 
 pub loop-statement-preserved : goal.loop-statement-preserved
 loop-statement-preserved c =
@@ -61,11 +61,11 @@ loop-statement-preserved c =
     take_at later (drop (length later) l.among.items) l.among.len (omega (arith, same, l.among.ok.0)) in
     subst (InConflicts xs c.args.at c.push.new.self.items r.behind Rest) (sym whole)
     (subst (λ st. InConflicts xs c.args.at st r.behind Rest later) (sym c.in_ok-push-in-Ok-read_answer.ensures.items)
-      (conflict_more xs c.args.at l.stated.items l.rest l.question l.among.items l.invariant s r.behind refl
-        (λ S agrees. r.ensures.fits S (subst (Agrees xs S) (sym c.deref.ensures.value) agrees))
-        refl r.ensures.read later
-        (subst (λ b. IsConflict b (reply_of r.statement)) goes c.leave_out-goes_on.ensures.conflict)
-        same
-        (λ k. c.leave_out-goes_on.ensures.left k
-          ∙ ap (λ bs. rest_behind (is_in bs) Rest (reply_of r.statement) k) c.deref_mut.ensures.value)
-        r.ensures.room))
+    (conflict_more xs c.args.at l.stated.items l.rest l.question l.among.items l.invariant s r.behind refl
+    (λ S agrees. r.ensures.fits S (subst (Agrees xs S) (sym c.deref.ensures.value) agrees))
+    refl r.ensures.read later
+    (subst (λ b. IsConflict b (reply_of r.statement)) goes c.leave_out-goes_on.ensures.conflict)
+    same
+    (λ k. c.leave_out-goes_on.ensures.left k
+    ∙ ap (λ bs. rest_behind (is_in bs) Rest (reply_of r.statement) k) c.deref_mut.ensures.value)
+    r.ensures.room))

@@ -42,4 +42,4 @@ returns-in_ok-push-in-Ok-clause-read c =
     subst (λ st. IsReadUpTo xs c.args._start st c.in-Ok.behind (asking_from (n + 1) (drop (n + 1) xs)))
     (sym c.in_ok-push-in-Ok.ensures.items)
     (other_more xs c.args._start c.args.stated.now.items c.args.at n x s c.in-Ok.behind next asks c.requires.read refl
-      (c.in-Ok.ensures.fits everything (agree_all xs c.args.all.now c.requires.all)) refl c.in-Ok.ensures.read)
+    (c.in-Ok.ensures.fits everything (agree_all xs c.args.all.now c.requires.all)) refl c.in-Ok.ensures.read)

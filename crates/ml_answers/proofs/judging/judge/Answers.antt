@@ -14,5 +14,5 @@ returns-in-Met c =
     let q = c.args.question in
     let S = is_in c.args.among.now in
     subst (λ t. IfOk c.judge_model.result
-      (ComesTo (IsShownBy s.logic xs S q (reply_of t)) (checked.IsWrong s.logic xs S q (reply_of t))))
+    (ComesTo (IsShownBy s.logic xs S q (reply_of t)) (checked.IsWrong s.logic xs S q (reply_of t))))
     (sym c.in-Met.is) c.judge_model.ensures

@@ -21,10 +21,10 @@ returns c =
     let other =
     subst (λ rs. PartsComeTo s.logic xs S q (map part_of rs) c.in_ok-parts.parts) c.deref-2.ensures.value
     (subst (λ bs. PartsComeTo s.logic xs (is_in bs) q (map part_of c.deref-2.result.now) c.in_ok-parts.parts)
-      c.deref.ensures.value c.in_ok-parts.ensures) in
+    c.deref.ensures.value c.in_ok-parts.ensures) in
     subst (ComesTo (IsRefuted p r × AreShown s.logic xs S q ps) (IsNotRefuted p r ⊎ SomeWrong s.logic xs S q ps))
     (sym c.together.ensures)
     (worse_both (IsRefuted p r) (AreShown s.logic xs S q ps) (IsNotRefuted p r) (SomeWrong s.logic xs S q ps)
-      c.in_ok-refuted.refuted c.in_ok-parts.parts (never_refuted p r)
-      (never_parts c.requires.one s.logic xs q c.requires.specified c.requires.question S ps)
-      c.in_ok-refuted.ensures other)
+    c.in_ok-refuted.refuted c.in_ok-parts.parts (never_refuted p r)
+    (never_parts c.requires.one s.logic xs q c.requires.specified c.requires.question S ps)
+    c.in_ok-refuted.ensures other)

@@ -20,6 +20,6 @@ returns-in_ok-others-in-Some c =
     (λ w. IfOk c.judge_model.result (ComesTo (IsShownWithout s.logic xs S q w) (IsWrongWithout s.logic xs S q w)))
     (sym (ap without_of c.in-Some.is))
     (subst
-      (λ T. IfOk c.judge_model.result
-        (ComesTo (IsShown s.logic xs T q m.structure m.start) (FailsByCheck s.logic xs T q m.structure m.start)))
-      same c.judge_model.ensures)
+    (λ T. IfOk c.judge_model.result
+    (ComesTo (IsShown s.logic xs T q m.structure m.start) (FailsByCheck s.logic xs T q m.structure m.start)))
+    same c.judge_model.ensures)

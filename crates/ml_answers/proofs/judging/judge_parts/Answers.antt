@@ -22,6 +22,6 @@ loop-part-preserved c =
     let never = never_parts c.requires.one s.logic xs q c.requires.specified c.requires.question S in
     subst (PartsComeTo s.logic xs S q (map part_of (take (i + 1) parts))) (sym c.together-all.ensures)
     (subst (λ ps. PartsComeTo s.logic xs S q ps (worse c.loop-part.all c.in_ok-standing.standing))
-      (sym (ap (map part_of) more ∙ map-append part_of (take i parts) (item ∷ [])))
-      (parts_more s.logic xs S q (map part_of (take i parts)) (part_of item) c.loop-part.all c.in_ok-standing.standing
-        never c.loop-part.invariant c.in_ok-standing.ensures))
+    (sym (ap (map part_of) more ∙ map-append part_of (take i parts) (item ∷ [])))
+    (parts_more s.logic xs S q (map part_of (take i parts)) (part_of item) c.loop-part.all c.in_ok-standing.standing
+    never c.loop-part.invariant c.in_ok-standing.ensures))

@@ -18,5 +18,5 @@ returns-in-Ok-Some c =
     let sense = rw c.in-Ok-Some.field-0-is at c.in-Ok-Some.ensures.plain in
     subst (λ p. IfOk c.judge_refutation.result (ComesTo (IsRefuted p r) (IsNotRefuted p r)))
     (problem_is c.in-Ok-Some.problem (joined_of s.logic (is_in c.deref.result.now) xs q) formula sense
-      ∙ ap (λ bs. problem_of s.logic xs (is_in bs) q) c.deref.ensures.value)
+    ∙ ap (λ bs. problem_of s.logic xs (is_in bs) q) c.deref.ensures.value)
     c.judge_refutation.ensures

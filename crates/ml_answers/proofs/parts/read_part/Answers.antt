@@ -25,9 +25,9 @@ returns-in_ok-push-in-Perhaps-clause-read c = λ ms start next read.
     let n = c.args.number in
     subst (λ qs. ArePartsReadTo c.args.items.now ms start (n + 1) qs c.args.at)
     (sym (ap (map part_of) c.in_ok-push-in-Perhaps.ensures.items
-      ∙ map-append part_of c.args.parts.now.items (record { requirement = n; without = None } ∷ [])))
+    ∙ map-append part_of c.args.parts.now.items (record { requirement = n; without = None } ∷ [])))
     (parts_open c.args.items.now ms start n (map part_of c.args.parts.now.items) c.args.at read
-      (next ∙ ap (λ m. m ∷ drop (n + 1) ms) c.in-Perhaps.is))
+    (next ∙ ap (λ m. m ∷ drop (n + 1) ms) c.in-Perhaps.is))
 
 pub returns-in_ok-push-in-Ok-clause-read : goal.returns-in_ok-push-in-Ok-clause-read
 returns-in_ok-push-in-Ok-clause-read c = λ ms start next read.
@@ -37,7 +37,7 @@ returns-in_ok-push-in-Ok-clause-read c = λ ms start next read.
     let text = IsWithoutText xs n (StillMet m.structure m.start) in
     subst (λ qs. ArePartsReadTo xs ms start (n + 1) qs c.in-Ok.behind)
     (sym (ap (map part_of) c.in_ok-push-in-Ok.ensures.items
-      ∙ map-append part_of c.args.parts.now.items (record { requirement = n; without = Some m } ∷ [])))
+    ∙ map-append part_of c.args.parts.now.items (record { requirement = n; without = Some m } ∷ [])))
     (parts_met xs ms start n (map part_of c.args.parts.now.items) c.args.at read
-      (next ∙ ap (λ k. k ∷ drop (n + 1) ms) c.in-Needed.is) m.structure m.start c.in-Ok.behind c.in-Ok.ensures.read
-      (room_behind text text c.args.at c.in-Ok.behind c.in-Ok.ensures.read c.requires))
+    (next ∙ ap (λ k. k ∷ drop (n + 1) ms) c.in-Needed.is) m.structure m.start c.in-Ok.behind c.in-Ok.ensures.read
+    (room_behind text text c.args.at c.in-Ok.behind c.in-Ok.ensures.read c.requires))
