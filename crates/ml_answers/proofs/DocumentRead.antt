@@ -1,12 +1,15 @@
 -- Documents of answers, read answer by answer.
 --
 --   answer_taken, answer_refused, line_refused, line_missing == one answer
+--   shorter                 == less is left behind it
 --   read_begin, read_more   == what is read, with another answer behind it
 --   read_fault              == a fault behind it
---   conflict_first, conflict_more, conflict_last, conflict_fault == lines of conflicts
---   other_begin, other_skip, other_more, other_fault == the further questions
---   read_whole, end_fault   == `end`
---   behind_title, fault_behind_title == the title
+--   InConflicts             == where a line of a conflict is due
+--   agree_all               == flags that are all set agree with all requirements
+--   conflict_none, conflict_first, conflict_more, conflict_last, conflict_fault == lines of conflicts
+--   other_begin, other_skip, other_more, other_end, other_fault == the further questions
+--   end_missing, end_followed, end_taken, read_whole, end_fault == `end`
+--   title_taken, no_title, behind_title, fault_behind_title == the title
 use Rattle.std.proofs.Common.{◌≡◌, ◌≢◌, ℕ, suc, ◌+◌, ◌<◌, ◌≤◌, ◌⊎◌, ◌&&◌, ◌||◌, Bool, true, false, not, cond, List, [], ◌∷◌, ◌++◌, codes, length, map, drop, filter, get_or, replicate, inl, inr, refl, sym, ap, subst, ◌∙◌, arith}
 use Rattle.std.specs.Prelude.{⊤}
 use Rattle.std.specs.List.{join_with_byte, list_any}

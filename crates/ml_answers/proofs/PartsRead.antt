@@ -2,9 +2,9 @@
 --
 --   then_behind      == a fault behind two parts
 --   without_taken, without_told, without_behind == the line `without`, and the body behind it
---   ArePartsReadTo   == what is known behind the parts of the first marks
---   parts_begin, parts_unnamed, parts_open, parts_met, parts_end == it stays so
+--   parts_begin, parts_unnamed, parts_open, parts_met == what is known behind the parts of the first marks stays so
 --   parts_refused    == a fault there
+--   parts_made, parts_taken == behind the last mark all parts are read
 --   core_taken, core_refused, core_parts_refused == the whole body
 use Rattle.std.proofs.Common.{◌≡◌, ◌≢◌, ℕ, ◌+◌, ◌<◌, ◌≤◌, ◌⊎◌, Bool, true, false, List, [], ◌∷◌, ◌++◌, length, map, drop, get_or, inl, inr, refl, sym, ap, subst, ◌∙◌, arith}
 use Rattle.std.specs.Prelude.{⊤}

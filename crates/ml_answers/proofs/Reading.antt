@@ -7,9 +7,14 @@
 --   takes_as         == what is read is also of another kind
 --   fault_behind     == a fault behind what was read
 --   fault_as         == a fault of another kind
---   next_is          == the next line
+--   takes_nothing    == nothing is read
+--   next_is, no_next == the next line, and none
+--   line_taken, next_room == it is read, and the room stays
 --   told_here        == a line that breaks a rule
+--   other_line       == a line of other words does
 --   model_taken, tells_model, refutation_taken, tells_refutation == bodies
+--   line_fits, body_taken == the body that comes next
+--   if_ok_weaker, if_ok_both, if_err_weaker == what is true of a result
 use Rattle.std.proofs.Common.{◌≡◌, ℕ, ◌+◌, ◌<◌, ◌≤◌, ◌^◌, ◌||◌, Bool, true, false, cond, List, [], ◌∷◌, ◌++◌, Option, None, Some, Ok, Err, Result, length, take, drop, position, inl, inr, refl, sym, ap, subst, ◌∙◌, arith}
 use Rattle.std.specs.Prelude.{⊤, IfErr, IfOk}
 use Rattle.std.specs.List.{list_any}

@@ -4,6 +4,8 @@
 --   shown_same, fails_same == where their requirements are the same, a structure meets the same
 --   comes_same      == the same comes of what is shown and wrong in the same cases
 --   judged_same     == so the same comes of an answer
+--   comes_all, comes_rest == also where it isn't asked of conflicts, and where it is
+--   left_all, left_rest == and the flags agree with the rest behind the answer
 use Rattle.std.proofs.Common.{◌≡◌, ◌≢◌, ℕ, zero, suc, ◌+◌, ◌<◌, ◌≤◌, ◌⊎◌, Bool, true, false, not, ◌&&◌, cond, replicate, List, [], ◌∷◌, ◌++◌, Contains, length, map, inl, inr, refl, sym, ap, subst, ◌∙◌, arith}
 use Rattle.std.specs.List.{AllByRecursion}
 use Rattle.ml_base.specs.Structure.{Structure}

@@ -30,9 +30,9 @@ use std::alloc::Global;
 ///   the lowest such rule, as `ml_spec::read` tells;
 /// - else `Unreadable` exactly where the document is none of answers to its questions, with the first bad line, counted from
 ///   the first one of the text, and the lowest rule that it breaks: 71 where a line is missing or not of the kind that stands
-///   there, or something follows the last `end`; 72 where names aren't those of requirements, each once and in their order, or
-///   one is wanting; 11 to 17 in a body of a structure, as `ml_kripke::read_model` says; 21 to 31 in one of a refutation, as
-///   `ml_refutation_text::read` says;
+///   there, or something follows the last `end`; 72 where names aren't those of requirements of which the question is asked,
+///   each once and in their order, or one is wanting; 11 to 17 in a body of a structure, as `ml_kripke::read_model` says; 21 to
+///   31 in one of a refutation, as `ml_refutation_text::read` says;
 /// - else `WrongAt` exactly where something of an answer that can be checked fails: the logic doesn't speak of its structure,
 ///   that doesn't meet the requirements where the question is asked, or its refutation breaks a rule; with the line of the
 ///   first such answer;
@@ -43,7 +43,8 @@ use std::alloc::Global;
 /// # Errors
 /// `NoMemory` alone.
 ///
-/// Cost: linear in the bytes to read them, and then that of the checks of all structures and refutations.
+/// Cost: to read them linear in the bytes, and in the items times the lines with names; then that of the checks of all
+/// structures and refutations.
 pub fn check_answers(alloc: Global, bytes: &[u8]) -> Result<AnswersFinding, NoMemory>
     ensures { IfOk result (IsFound bytes.now) }
 {

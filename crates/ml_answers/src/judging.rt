@@ -102,6 +102,7 @@ fn judge_model(
     }
 }
 
+// are the requirements refuted, and can the others be met without each of them?
 fn judge_core(
     alloc: Global,
     specification: &Specification,
@@ -209,6 +210,7 @@ fn judge_parts(
     Ok(all)
 }
 
+// can the others be met without this one?
 fn judge_part(
     alloc: Global,
     specification: &Specification,

@@ -7,7 +7,8 @@ ghost use Rattle.ml_answers.specs.RuleNumbers.{rule_number};
 pub enum AnswersRule {
     /// The line is there and of the kind that stands there.
     OfKind,
-    /// The names behind `because` are those of requirements, in their order, and each stands there once.
+    /// The names behind `because` are those of requirements of which the question is asked, in their order, and each stands
+    /// there once; where it is asked whether they are consistent, there is one.
     Names,
 }
 

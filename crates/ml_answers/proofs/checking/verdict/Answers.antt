@@ -1,13 +1,9 @@
-use Rattle.std.proofs.Common.{◌≡◌, ℕ, ◌+◌, ◌<◌, ◌≤◌, ◌++◌, Bool, List, [], ◌∷◌, Option, None, Some, length, drop, get_or, take, refl, sym, ap, subst, ◌∙◌, arith}
-use Rattle.std.specs.List.{AllByRecursion}
+use Rattle.std.proofs.Common.{◌≡◌, ◌+◌, ◌<◌, ◌≤◌, ◌++◌, ◌∷◌, Some, length, drop, take, sym, ap, subst, ◌∙◌, arith}
 use Rattle.std.specs.Option.{option_or}
 use Rattle.std.proofs.lemmas.List.{drop_more, length-replicate, take_at}
-use Rattle.ml_replies.specs.Replies.{Reply}
-use Rattle.ml_spec.specs.declared.question.Question.{Question}
 use Rattle.ml_answers.specs.Checked as checked
 use Rattle.ml_answers.specs.Checked.{IsShownBy}
 use Rattle.ml_answers.specs.Due.{asked_of}
-use Rattle.ml_answers.specs.declared.judging.Standing.TheVariants.{Shown, Unsettled, Wrong}
 use Rattle.ml_answers.specs.private.Judged.{ComesTo, IsJudgable}
 use Rattle.ml_answers.specs.private.Plain.{reply_of}
 use Rattle.ml_answers.specs.private.Words.{Agrees}

@@ -1,4 +1,4 @@
-use Rattle.std.proofs.Common.{◌≡◌, ◌≤◌, take, length}
+use Rattle.std.proofs.Common.{◌≡◌, take}
 use Rattle.std.specs.List.{count_by}
 use Rattle.ml_lines.specs.Reading.{is_line_end}
 use Rattle.ml_answers.proofs.cut.line_count.Given as goal

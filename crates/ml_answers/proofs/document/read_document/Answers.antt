@@ -1,4 +1,3 @@
-use Rattle.std.proofs.Common.{replicate, true, ap, ◌∙◌}
 use Rattle.ml_answers.proofs.DocumentRead.{behind_title, fault_behind_title, no_title, title_taken}
 use Rattle.ml_answers.proofs.Reading.{if_err_weaker, if_ok_weaker}
 use Rattle.ml_answers.proofs.document.read_document.Goals as goal

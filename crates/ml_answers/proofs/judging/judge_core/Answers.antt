@@ -1,4 +1,4 @@
-use Rattle.std.proofs.Common.{ap, sym, subst, map, ◌∙◌, ◌⊎◌}
+use Rattle.std.proofs.Common.{sym, subst, map, ◌⊎◌}
 use Rattle.ml_replies.specs.Meeting.{problem_of}
 use Rattle.ml_spec.specs.Questions.{is_in}
 use Rattle.ml_answers.specs.Checked.{AreShown, IsNotRefuted, IsRefuted, SomeWrong}

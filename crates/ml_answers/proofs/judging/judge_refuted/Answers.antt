@@ -1,4 +1,4 @@
-use Rattle.std.proofs.Common.{ap, sym, subst, ◌∙◌}
+use Rattle.std.proofs.Common.{ap, subst, ◌∙◌}
 use Rattle.std.specs.Prelude.{IfOk}
 use Rattle.ml_replies.specs.Meeting.{problem_of}
 use Rattle.ml_spec.specs.Questions.{is_in, joined_of}

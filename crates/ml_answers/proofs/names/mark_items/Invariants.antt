@@ -1,6 +1,4 @@
-use Rattle.std.proofs.Common.{◌≡◌, ◌++◌, ℕ, Bool, drop, length}
-use Rattle.ml_answers.specs.private.Marks.{scan, Scanned}
-use Rattle.ml_answers.specs.private.Words.{words_left, Agrees}
+use Rattle.ml_answers.specs.private.Words.{words_left}
 use Rattle.ml_answers.proofs.Scanning.{IsScannedTo}
 use Rattle.ml_answers.proofs.names.mark_items.Given as goal
 
