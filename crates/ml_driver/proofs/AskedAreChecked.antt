@@ -25,7 +25,7 @@ use Rattle.ml_spec.specs.declared.specification.Item.{Item}
 use Rattle.ml_driver.specs.Asked.{requirements_told, status_of}
 use Rattle.ml_driver.specs.CheckedAnswers.{said_of, AreAnswersTold}
 use Rattle.ml_driver.specs.Codes.{code_of}
-use Rattle.ml_driver.specs.Laws.{AskIsChecked, IsFileWithAnswers, IsFoundOpen, IsFoundRight, RightIsAsked}
+use Rattle.ml_driver.specs.Laws.{AreFoundOpen, AreFoundRight, AskIsChecked, IsFileWithAnswers, RightIsAsked}
 use Rattle.ml_driver.specs.Run.{IsDue, IsWithin}
 use Rattle.ml_driver.specs.Said.{said_text, status_said}
 use Rattle.ml_driver.specs.declared.command.Command.TheVariants.{CheckAnswers}
@@ -65,7 +65,7 @@ asked_is_checked n text s out whole within no_refusal (inl (short, asked)) =
     by_told asked.told asked.is_told asked.status_is asked.is_written
   where
     by_told : (t : Told) → IsToldOf Files text n t → s ≡ (requirements_told t).0 → out ≡ (requirements_told t).1
-        → ((s ≢ Undecided) × IsFoundRight (text ++ out)) ⊎ IsFoundOpen (text ++ out)
+        → ((s ≢ Undecided) × AreFoundRight (text ++ out)) ⊎ AreFoundOpen (text ++ out)
     by_told (Refused line column rule) is status_is written = absurd (no_refusal status_is)
     by_told (Answered v written) is status_is written_is =
         let of : IsOf (text ++ out) is.logic is.items is.replies = record {

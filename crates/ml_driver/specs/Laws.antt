@@ -230,11 +230,11 @@ abbrev pub MakeIsChecked : Type 0
 MakeIsChecked = IsCheckedToWork Make
 
 -- what `check-answers` answers of answers of which no line is wrong
-abbrev pub IsFoundRight : List ℕ → Type 0
-IsFoundRight text = IsDue (Some CheckAnswers) text Yes (said_text said.Right)
+abbrev pub AreFoundRight : List ℕ → Type 0
+AreFoundRight text = IsDue (Some CheckAnswers) text Yes (said_text said.Right)
 
-abbrev pub IsFoundOpen : List ℕ → Type 0
-IsFoundOpen text = (line : ℕ) × IsDue (Some CheckAnswers) text Undecided (said_text (said.OpenLine line))
+abbrev pub AreFoundOpen : List ℕ → Type 0
+AreFoundOpen text = (line : ℕ) × IsDue (Some CheckAnswers) text Undecided (said_text (said.OpenLine line))
 
 abbrev pub AskIsChecked : Type 0
 AskIsChecked = (n : ℕ) (text : List ℕ) (s : Status) (out : List ℕ)
@@ -242,7 +242,7 @@ AskIsChecked = (n : ℕ) (text : List ℕ) (s : Status) (out : List ℕ)
     → IsWithin CheckAnswers (text ++ out)
     → s ≢ Text
     → IsDue (Some (Ask Files n)) text s out
-    → ((s ≢ Undecided) × IsFoundRight (text ++ out)) ⊎ IsFoundOpen (text ++ out)
+    → ((s ≢ Undecided) × AreFoundRight (text ++ out)) ⊎ AreFoundOpen (text ++ out)
 
 -- a file of requirements, and behind it what is due for `ask files`, with whichever limit
 abbrev pub IsFileWithAnswers : List ℕ → Type 0
