@@ -153,52 +153,26 @@ table_fits : AreFit table
 unfolding table
 table_fits = (
   λ l n small. small,
-  (
-    λ l n small. small,
-    (
-      λ l n small. small,
-      (
-        λ l n small. small,
-        (
-          λ f n small. small,
-          (
-            tt,
-            (
-              tt,
-              (
-                tt,
-                (
-                  tt,
-                  (
-                    tt,
-                    (
-                      λ e. tt,
-                      (
-                        tt,
-                        (
-                          λ n small. tt,
-                          (
-                            λ n small. tt,
-                            (
-                              λ n small. tt,
-                              (
-                                λ n small. tt,
-                                (tt, (λ f n inside. tt, (λ f n inside. inside, tt))),
-                              ),
-                            ),
-                          ),
-                        ),
-                      ),
-                    ),
-                  ),
-                ),
-              ),
-            ),
-          ),
-        ),
-      ),
-    ),
-  ),
+  λ l n small. small,
+  λ l n small. small,
+  λ l n small. small,
+  λ f n small. small,
+  tt,
+  tt,
+  tt,
+  tt,
+  tt,
+  tt,
+  λ e. tt,
+  tt,
+  λ n small. tt,
+  λ n small. tt,
+  λ n small. tt,
+  λ n small. tt,
+  tt,
+  λ f n inside. tt,
+  λ f n inside. inside,
+  tt,
 )
 
 row_fits : (command subject count limit : Option Word) → HasFitNumbers (row_of command subject count limit)

@@ -35,6 +35,7 @@ impl Output {
         requires { Status.Text ≡ status_said said }
         ensures status { IfOk result (λ output. output.status ≡ Status.Text) }
         ensures output { IfOk result (λ output. output.bytes.items ≡ said_text said) }
+        ensures both { IfOk result (λ output. (output.status ≡ Status.Text) × (output.bytes.items ≡ said_text said)) }
         ensures told { (text : Status → Bool) → IfOk result (λ output. IsTold text output.status output.bytes.items output.said) }
     {
         Output::line(alloc, said)

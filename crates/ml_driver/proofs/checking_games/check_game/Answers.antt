@@ -1,5 +1,5 @@
 -- What is found is said, or why the text is refused.
-use Rattle.std.proofs.Common.{◌∙◌, Some, ap, option_map, refl, sym}
+use Rattle.std.proofs.Common.{◌∙◌, Some, ap, option_map, sym}
 use Rattle.std.proofs.lemmas.Result.{IfOk-weaker}
 use Rattle.ml_driver.specs.CheckedGames.{if_found, if_unread}
 use Rattle.ml_driver.specs.Said.{said_text}
@@ -9,7 +9,10 @@ pub returns-in-Ok-clause-answer : goal.returns-in-Ok-clause-answer
 returns-in-Ok-clause-answer c =
     IfOk-weaker c.finding_said.result _ _ (λ output said. if_found c.in-Ok.finding c.in-Ok.ensures said) c.finding_said.ensures.said
 
-pub returns-in_ok-line-in-Some-clause-answer : goal.returns-in_ok-line-in-Some-clause-answer
-returns-in_ok-line-in-Some-clause-answer c =
-    if_unread c.in-Err.refusal c.in-Err.ensures refl
-    (ap Some c.in_ok-line-in-Some.ensures ∙ ap (option_map said_text) (sym c.in-Some.is ∙ c.game_refused.ensures.said))
+pub returns-in-Some-clause-answer : goal.returns-in-Some-clause-answer
+returns-in-Some-clause-answer c =
+    IfOk-weaker c.refused.result _ _
+    (λ output both.
+    if_unread c.in-Err.refusal c.in-Err.ensures both.0
+    (ap Some both.1 ∙ ap (option_map said_text) (sym c.in-Some.is ∙ c.game_refused.ensures.said)))
+    c.refused.ensures.both
