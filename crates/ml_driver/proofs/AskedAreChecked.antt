@@ -90,7 +90,7 @@ right_is_asked text out (inr long) = absurd (omega (arith, ap code_of long.1.0))
 right_is_asked text out (inl (within, told)) = by_finding told.finding told.is_found told.is_said.0
   where
     by_finding : (x : AnswersFinding) → IsFound text x → Yes ≡ status_said (said_of x) → IsFileWithAnswers text
-    by_finding found.Right is yes =
+    by_finding found.Right is said =
         let right = right_is_true text is in
         let xs = right.1.0 in
         let rs = right.1.1.0 in
@@ -119,9 +119,9 @@ right_is_asked text out (inl (within, told)) = by_finding told.finding told.is_f
             ),
           ),
         )
-    by_finding (found.WrongAt line) is yes = absurd (omega (arith, ap code_of yes))
-    by_finding (found.OpenAt line) is yes = absurd (omega (arith, ap code_of yes))
-    by_finding found.TooLong is yes = absurd (omega (arith, ap code_of yes))
-    by_finding (found.NoDocument line column) is yes = absurd (omega (arith, ap code_of yes))
-    by_finding (found.Refused line column rule) is yes = absurd (omega (arith, ap code_of yes))
-    by_finding (found.Unreadable fault) is yes = absurd (omega (arith, ap code_of yes))
+    by_finding (found.WrongAt line) is said = absurd (omega (arith, ap code_of said))
+    by_finding (found.OpenAt line) is said = absurd (omega (arith, ap code_of said))
+    by_finding found.TooLong is said = absurd (omega (arith, ap code_of said))
+    by_finding (found.NoDocument line column) is said = absurd (omega (arith, ap code_of said))
+    by_finding (found.Refused line column rule) is said = absurd (omega (arith, ap code_of said))
+    by_finding (found.Unreadable fault) is said = absurd (omega (arith, ap code_of said))
