@@ -92,9 +92,9 @@ right_is_asked text out (inl (within, told)) = by_finding told.finding told.is_f
     by_finding : (x : AnswersFinding) → IsFound text x → Yes ≡ status_said (said_of x) → IsFileWithAnswers text
     by_finding found.Right is said =
         let right = right_is_true text is in
-        let xs = right.1.0 in
-        let rs = right.1.1.0 in
-        let of = right.1.1.1.0 in (
+        let xs = right.1 in
+        let rs = right.2 in
+        let of = right.3 in (
           of.spec,
           of.document,
           of.are_both,
@@ -109,7 +109,7 @@ right_is_asked text out (inl (within, told)) = by_finding told.finding told.is_f
                   items = xs;
                   replies = rs;
                   is_specification = of.is_specification;
-                  are_replies = right.1.1.1.1 n;
+                  are_replies = right.4 n;
                   is_verdict = refl;
                   is_written = of.is_document;
                 };
