@@ -64,3 +64,14 @@ returns-in-RefusedRequirements c =
     c.number.ensures
     ∙ ap said_text (sym c.in-RefusedRequirements.is))
     c.format-in-RefusedRequirements.ensures.ok
+
+pub returns-in-NoAnswers : goal.returns-in-NoAnswers
+returns-in-NoAnswers c =
+    let line = number c.in-NoAnswers.line in
+    let column = number c.in-NoAnswers.column in
+    IfOk-weaker c.format-in-NoAnswers.result _ _
+    (λ text is. is
+    ∙ ap (λ t. codes "refused line " ++ (line ++ (codes " column " ++ t))) (sym (append_assoc column (codes " rule 71") (10 ∷ [])))
+    ∙ two (codes "refused line ") line (codes " column ") (column ++ codes " rule 71")
+    ∙ ap said_text (sym c.in-NoAnswers.is))
+    c.format-in-NoAnswers.ensures.ok
