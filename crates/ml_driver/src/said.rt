@@ -8,6 +8,7 @@ ghost use Rattle.ml_driver.specs.Said as said;
 ghost use Rattle.ml_driver.specs.Said.{said_text};
 
 use crate::Status;
+use ml_answers::AnswersRule;
 use ml_base::{DocFault, NoMemory};
 use ml_game_check::Rule;
 use ml_spec::SpecRule;
@@ -183,7 +184,10 @@ impl Said {
                 )
             }
             Said::NoAnswers { line, column } => {
-                format!(in alloc; "refused line {line} column {column} rule 71\n")
+                format!(in alloc;
+                    "refused line {line} column {column} rule {}\n",
+                    AnswersRule::OfKind.number()
+                )
             }
             Said::NotTotal(state) => format!(in alloc; "not total at state {state}\n"),
             Said::NotAWord(state) => format!(in alloc; "not a word at state {state}\n"),

@@ -71,7 +71,8 @@ returns-in-NoAnswers c =
     let column = number c.in-NoAnswers.column in
     IfOk-weaker c.format-in-NoAnswers.result _ _
     (λ text is. is
-    ∙ ap (λ t. codes "refused line " ++ (line ++ (codes " column " ++ t))) (sym (append_assoc column (codes " rule 71") (10 ∷ [])))
-    ∙ two (codes "refused line ") line (codes " column ") (column ++ codes " rule 71")
+    ∙ three (codes "refused line ") line (codes " column ") column (codes " rule ") (number c.number-in-NoAnswers.result)
+    ∙ ap (λ n. line_text (codes "refused" ∷ codes "line" ∷ line ∷ codes "column" ∷ column ∷ codes "rule" ∷ number n ∷ []))
+    c.number-in-NoAnswers.ensures
     ∙ ap said_text (sym c.in-NoAnswers.is))
     c.format-in-NoAnswers.ensures.ok
