@@ -21,7 +21,7 @@ fn of_open_answer(answer: &[u8]) -> &'static str {
         "it is left open"
     } else if answer
         .split(|byte| *byte == b' ')
-        .any(|word| word == b"perhaps:")
+        .any(|word| word == b"perhaps:".as_slice())
     {
         "whether the requirements behind `perhaps:` are needed is left open"
     } else {
@@ -38,10 +38,10 @@ fn told(alloc: Global, answer: &[u8], line: usize, cause: &str) -> Result<String
 fn has_refutation(answer: &[u8]) -> bool {
     let mut is_behind = false;
     for word in answer.split(|byte| *byte == b' ') {
-        if is_behind && word == b"because" {
+        if is_behind && word == b"because".as_slice() {
             return true;
         }
-        is_behind = word == b"yes" || word == b"no";
+        is_behind = word == b"yes".as_slice() || word == b"no".as_slice();
     }
     false
 }
