@@ -136,9 +136,21 @@ fn are_right(alloc: Global, file: &[u8], answers: &[u8]) -> Result<bool, Failure
     both.extend_from_slice(answers)?;
     let status = answer_to(alloc, "check-answers", &both)?.status;
     let is_open = answers
-        .split(|byte| matches!(*byte, b' ' | b'\n'))
-        .any(|word| word == b"open" || word == b"perhaps:");
+        .split(|byte| *byte == b'\n')
+        .any(|line| is_open_answer(line));
     Ok(status == if is_open { UNDECIDED } else { 0 })
+}
+
+/// Is it the line of an answer that is open, or of which some of it is?
+fn is_open_answer(line: &[u8]) -> bool {
+    let is_answer = line.starts_with(b"consistent ")
+        || line.starts_with(b"rest ")
+        || line.starts_with(b"possible ")
+        || line.starts_with(b"follows ");
+    let has_perhaps = line
+        .split(|byte| *byte == b' ')
+        .any(|word| word == b"perhaps:".as_slice());
+    is_answer && (line.ends_with(b" open") || has_perhaps)
 }
 
 /// Is the document that was written found good, if it has an answer? One that is written of another document has to be found
