@@ -5,8 +5,10 @@
 --                       it, whichever the limit: so each line says what is so, nothing is open, and each requirement behind
 --                       `because` is needed
 --   IsSettled r      == nothing of the answer r is left open
---   AnswersAreRight  == behind its specification, a document of the answers to its questions, with whichever limit, is found
---                       `Right` where all of them are settled, and else `OpenAt` the line of one
+--   IsOf text l xs rs == the text is this specification, whose last line has its LF and which isn't too long, and behind it a
+--                       document of these answers
+--   AnswersAreRight  == of such a text, whose answers are those to the questions, with whichever limit, `Right` is found where
+--                       all of them are settled, and else `OpenAt` the line of one
 --   RulesRise        == the numbers of the rules of a line rise: so the first one that it breaks is the lowest
 use Rattle.std.specs.Prelude.{ℕ, ◌≡◌, ◌⊎◌, ◌≤◌, ⊤, Bool, List, [], ◌∷◌, ◌++◌, length}
 use Rattle.std.specs.List.{AllByRecursion}

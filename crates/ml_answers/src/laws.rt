@@ -19,7 +19,7 @@ pub fn right_is_true()
 {}
 
 /// Whatever answers a specification has, with whichever limit, their document behind it is found right, or where some of them
-/// are open the line of one is told.
+/// are open the line of one is told. The specification ends with an LF, and has at most 1,048,576 bytes.
 ///
 /// Does nothing when called.
 pub fn answers_are_right()

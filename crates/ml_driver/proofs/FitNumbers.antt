@@ -151,7 +151,58 @@ rows_fit (r ∷ rows) fit w subject count limit = by_word (bytes_eq w r.0) (rows
 
 table_fits : AreFit table
 unfolding table
-table_fits = (λ l n small. small, (λ l n small. small, (λ l n small. small, (λ l n small. small, (λ f n small. small, (tt, (tt, (tt, (tt, (tt, (tt, (λ e. tt, (tt, (λ n small. tt, (λ n small. tt, (λ n small. tt, (λ n small. tt, (tt, (λ f n inside. tt, (λ f n inside. inside, tt))))))))))))))))))))
+table_fits = (
+  λ l n small. small,
+  (
+    λ l n small. small,
+    (
+      λ l n small. small,
+      (
+        λ l n small. small,
+        (
+          λ f n small. small,
+          (
+            tt,
+            (
+              tt,
+              (
+                tt,
+                (
+                  tt,
+                  (
+                    tt,
+                    (
+                      tt,
+                      (
+                        λ e. tt,
+                        (
+                          tt,
+                          (
+                            λ n small. tt,
+                            (
+                              λ n small. tt,
+                              (
+                                λ n small. tt,
+                                (
+                                  λ n small. tt,
+                                  (tt, (λ f n inside. tt, (λ f n inside. inside, tt))),
+                                ),
+                              ),
+                            ),
+                          ),
+                        ),
+                      ),
+                    ),
+                  ),
+                ),
+              ),
+            ),
+          ),
+        ),
+      ),
+    ),
+  ),
+)
 
 row_fits : (command subject count limit : Option Word) → HasFitNumbers (row_of command subject count limit)
 row_fits (Some w) subject count limit = rows_fit table table_fits w subject count limit

@@ -40,8 +40,8 @@
 --   RealizeIsChecked, MakeIsChecked == so `check-machine` answers `holds` of the document of a machine, and of that of an
 --                       environment; but of this it says that it is too large, if that is so
 --   AskIsChecked     == what is due for `ask files`, put behind its file of requirements, which ends with an LF, is answered
---                       `right` by `check-answers`; or the first line that is open is told, and so it is where `ask` leaves the
---                       file undecided
+--                       `right` by `check-answers`, if both are no longer than it takes; or the first line that is open is told,
+--                       and so it is where `ask` leaves the file undecided
 --   RightIsAsked     == a text that `check-answers` answers `right` is a file of requirements, and behind it what is due for
 --                       `ask files`, with whichever limit
 --   PathsShowWhatHolds, PathsShowWhatFails == where neither `path` nor `check-model` leaves it open, `path` finds a path
