@@ -84,7 +84,7 @@ pub enum Said {
     },
     /// `right`: each answer to a file of requirements is shown.
     Right,
-    /// `wrong line L`: the answer in this line isn't; it is the first such one.
+    /// `wrong line L`: something of the answer in this line that can be checked fails; it is the first such one.
     WrongLine(u64),
     /// `open line L`: none is wrong, and this line is the first that is open or can't be checked.
     OpenLine(u64),

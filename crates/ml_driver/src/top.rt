@@ -65,7 +65,7 @@ pub struct Ending {
 /// | `realize`, `make` | a machine that realizes the task | an environment that defeats it |
 /// | `check-machine` | the machine realizes its task, or the environment defeats it | it doesn't, with a word that shows it |
 /// | `ask` | all requirements and questions are as their writer means them | some answer says no |
-/// | `check-answers` | each answer behind the file of requirements is shown | some answer isn't |
+/// | `check-answers` | each answer behind the file of requirements is shown | some answer is wrong |
 /// | `bench` | the family's formula is satisfiable, with its occurrences, nodes and positions | it isn't |
 /// | `migrate` | the document of the same refutation in version 2 | never |
 /// | `quotient` | the document of the same problem with the quotient of the structure | never |

@@ -1,10 +1,10 @@
-// What is told of answers to files of requirements that aren't shown, or stay open.
+// What is told of answers to files of requirements that are wrong, or stay open.
 
 use crate::rules::of_wrong_answer;
 use crate::shown::{line_of, shown};
 use std::alloc::{AllocError, Global};
 
-/// Why the answer in this line isn't shown.
+/// Why the answer in this line is wrong.
 pub(crate) fn wrong_answer(alloc: Global, input: &[u8], line: usize) -> Result<String, AllocError> {
     let answer = line_of(input, line).unwrap_or(b"");
     told(alloc, answer, line, of_wrong_answer(has_refutation(answer)))

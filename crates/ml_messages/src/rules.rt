@@ -188,7 +188,7 @@ fn of_answers(rule: u32) -> &'static str {
     }
 }
 
-/// Why the answer in this line isn't shown.
+/// Why the answer in this line is wrong.
 pub(crate) fn of_wrong_answer(has_refutation: bool) -> &'static str {
     if has_refutation {
         "the refutation behind it isn't one of the requirements that are named and the question, or a structure behind `without` doesn't meet the others and the question"
