@@ -70,8 +70,6 @@ pub mod SpotEquality
 pub mod ViewedSpots
 -- what is made of a formula
 pub mod GraphMade
--- what is told of results
-pub mod OkResults
 -- graphs with names and priorities that a program holds
 pub mod HeldGraphs
 -- places that are reached, all in one finite list

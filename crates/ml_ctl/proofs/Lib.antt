@@ -36,5 +36,9 @@ pub mod TotalPaths
 pub mod FormulaEquality
 -- formulas made of formulas
 pub mod Connected
+-- enumerations by their halves
+pub mod Halves
+-- formulas whose propositions are replaced
+pub mod SoundReplaced
 -- the canonical text of a formula stands in one line
 pub mod CanonicalLines

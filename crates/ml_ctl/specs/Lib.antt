@@ -16,6 +16,10 @@ pub mod Laws
 pub mod Sorts
 -- formulas that begin with a quantifier
 pub mod Quantifiers
+-- propositions replaced by formulas
+pub mod Replaced
+-- that exactly one of some propositions is true
+pub mod Enumerations
 -- the plain formula of a term
 pub mod Term
 -- which words are propositions

@@ -10,3 +10,7 @@ pub mod FormViews
 pub mod Reader
 -- signs of one kind do the same
 pub mod Alike
+-- what the program makes of formulas
+pub mod HeldAs
+-- what a formula keeps whose propositions are replaced
+pub mod AsSound

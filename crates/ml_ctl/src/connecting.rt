@@ -1,17 +1,20 @@
-// Formulas made of formulas: negations, conjunctions, and the operand of the quantifier with which one begins.
-ghost use Rattle.std.specs.Prelude.{◌≡◌, ◌<◌, ◌≤◌, true, IfOk, MatchOption};
+// Formulas made of formulas: negations, connectives, what holds at each moment, and the operand of the quantifier with which
+// one begins.
+ghost use Rattle.std.specs.Prelude.{◌≡◌, ◌<◌, ◌+◌, ◌≤◌, true, IfOk, MatchOption};
 ghost use Rattle.ml_text.specs.Limits.{most_occurrences};
 ghost use Rattle.ml_text.specs.declared.token.Operator.TheVariants.{And};
+ghost use Rattle.ml_ctl.specs.Enumerations.{always};
 ghost use Rattle.ml_ctl.specs.Formula as plain;
 ghost use Rattle.ml_ctl.specs.Formula.{occurrences};
 ghost use Rattle.ml_ctl.specs.Quantifiers.{Quantifies, QuantifiesNone};
 ghost use Rattle.ml_ctl.specs.Sorts.{is_linear};
+ghost use Rattle.ml_ctl.specs.Spelling.{is_proposition};
 ghost use Rattle.ml_ctl.specs.Term.{formula_of};
 ghost use Rattle.ml_ctl.specs.WellFormed.{IsWellFormed};
 
 use crate::copying::{copy_term, occurrences};
-use crate::{Formula, FormulaOf, Language, Ltl, Quantifier, Term, Words};
-use ml_base::NoMemory;
+use crate::{Formula, FormulaOf, Language, Ltl, Quantifier, Tense, Term, Words};
+use ml_base::{Name, NoMemory};
 use ml_text::{MOST_OCCURRENCES, Operator};
 use std::alloc::Global;
 
@@ -50,7 +53,6 @@ pub fn negation<W: Words>(
 /// `NoMemory` alone.
 ///
 /// Cost: linear in the occurrences.
-#[tactic(auto, using(crate::proofs::Connected::conjunction_is_held))]
 pub fn conjunction<W: Words>(
     alloc: Global,
     left: FormulaOf<W>,
@@ -60,12 +62,88 @@ pub fn conjunction<W: Words>(
         (most_occurrences < occurrences (plain.Binary And left right))
         (λ f. f ≡ plain.Binary And left right)) }
 {
-    if occurrences(&left) + occurrences(&right) >= MOST_OCCURRENCES {
+    connected(alloc, Operator::And, left, right)
+}
+
+/// Two formulas with a connective between them; `None` exactly where that has more than 1,000 occurrences.
+#[tactic(auto, using(crate::proofs::Connected::connective_is_held))]
+pub(crate) fn connected<W: Words>(
+    alloc: Global,
+    operator: Operator,
+    left: FormulaOf<W>,
+    right: FormulaOf<W>,
+) -> Result<Option<FormulaOf<W>>, NoMemory>
+    ensures { IfOk result (λ made. MatchOption made
+        (most_occurrences < occurrences (plain.Binary operator left right))
+        (λ f. f ≡ plain.Binary operator left right)) }
+{
+    if operator.weight() + occurrences(&left) + occurrences(&right) > MOST_OCCURRENCES {
         return Ok(None);
     }
     let left = Box::new(alloc, left.into_root())?;
     let right = Box::new(alloc, right.into_root())?;
-    Ok(Some(FormulaOf::new(Term::Binary(Operator::And, left, right))))
+    Ok(Some(FormulaOf::new(Term::Binary(operator, left, right))))
+}
+
+/// A proposition.
+///
+/// # Errors
+/// `NoMemory` alone.
+///
+/// Cost: linear in the name's length.
+#[tactic(auto, using(crate::proofs::Connected::proposition_is_held))]
+pub fn proposition<W: Words>(name: &Name) -> Result<FormulaOf<W>, NoMemory>
+    requires { is_proposition name.now ≡ true }
+    ensures { IfOk result (λ f. f ≡ plain.Prop name.now) }
+{
+    let _is_name = name.bytes();
+    Ok(FormulaOf::new(Term::Prop(name.copy()?)))
+}
+
+/// That a formula holds at each moment: `G f` in LTL, `A G f` in CTL*; `None` exactly where that has more than 1,000
+/// occurrences.
+///
+/// # Errors
+/// `NoMemory` alone.
+///
+/// Cost: linear in the occurrences.
+#[tactic(auto, using(crate::proofs::Connected::always_is_held))]
+pub fn always<W: Words>(
+    alloc: Global,
+    operand: FormulaOf<W>,
+) -> Result<Option<FormulaOf<W>>, NoMemory>
+    ensures { IfOk result (λ made. MatchOption made
+        (most_occurrences < occurrences (always W.language operand))
+        (λ f. f ≡ always W.language operand)) }
+{
+    let language = W::which();
+    if always_weight(language) + occurrences(&operand) > MOST_OCCURRENCES {
+        return Ok(None);
+    }
+    let root = always_term(alloc, language, operand.into_root())?;
+    Ok(Some(FormulaOf::new(root)))
+}
+
+// how many occurrences the operators are that say "at each moment"
+fn always_weight(language: Language) -> u32
+    ensures weight { (f : plain.Formula) → occurrences (always language f) ≡ result + occurrences f }
+    ensures most { result ≤ 2 }
+{
+    match language {
+        Language::Ctl => 2,
+        Language::Ltl => 1,
+    }
+}
+
+// the tree under the operators that say "at each moment"
+fn always_term(alloc: Global, language: Language, operand: Term) -> Result<Term, NoMemory>
+    ensures { IfOk result (λ made. formula_of made ≡ always language (formula_of operand)) }
+{
+    let globally = Term::Temporal(Tense::Globally, Box::new(alloc, operand)?);
+    match language {
+        Language::Ctl => Ok(Term::Quantified(Quantifier::Forall, Box::new(alloc, globally)?)),
+        Language::Ltl => Ok(globally),
+    }
 }
 
 // has the tree no quantifier?

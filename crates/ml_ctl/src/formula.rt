@@ -34,8 +34,8 @@ impl<W: Words> FormulaOf<W> {
     ghost use Rattle.ml_ctl.specs.Term.{formula_of};
     ghost use Rattle.ml_ctl.specs.WellFormed.{IsWellFormed};
 
-    /// The formula with this tree.
-    pub(crate) fn new(root: Term) -> FormulaOf<W>
+    /// The formula with this tree, for whoever makes trees of well-formed formulas.
+    pub fn new(root: Term) -> FormulaOf<W>
         requires { IsWellFormed W.language (formula_of root) }
         ensures { result ≡ formula_of root }
     {

@@ -12,6 +12,7 @@
 
 mod connecting;
 mod copying;
+mod enumerating;
 mod forms;
 mod formula;
 mod language;
@@ -19,13 +20,16 @@ pub mod laws;
 mod notation;
 mod parsing;
 mod printing;
+mod replacing;
 mod signs;
 mod term;
 
-pub use connecting::{conjunction, negation, quantified, truth};
+pub use connecting::{always, conjunction, negation, proposition, quantified, truth};
 pub use copying::{copy, count_term, occurrences};
+pub use enumerating::enumeration;
 pub use formula::{Formula, FormulaOf};
 pub use language::{Ctl, Language, Ltl, Sort, Words};
 pub use parsing::{parse, parse_in};
 pub use printing::{append_text, print};
+pub use replacing::replaced;
 pub use term::{Pairing, Quantifier, Tense, Term};

@@ -2,6 +2,8 @@
 pub mod Logics
 -- formulas made of others
 pub mod Connected
+-- definitions, and what they are written out to
+pub mod WrittenOut
 -- formulas that are well formed but for their size
 pub mod Sound
 -- the lines of a head

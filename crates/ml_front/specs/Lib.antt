@@ -4,6 +4,12 @@ pub mod Logics
 pub mod WellFormed
 -- formulas made of others, and how large they are
 pub mod Connectives
+-- propositions replaced by formulas
+pub mod Replaced
+-- definitions as the program holds them
+pub mod Definitions
+-- that exactly one of some propositions is true
+pub mod Enumerations
 -- problems, and where they hold
 pub mod Problems
 -- the graphs of problems

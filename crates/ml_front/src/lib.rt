@@ -2,8 +2,8 @@
 //
 // A `Problem` is a formula of any logic with its sense. `read` gives the problem of a text, `negated` the one in the
 // other sense, `print` the canonical text, and `graph` the modal graph that holds where the problem does; what a problem
-// asks stands in `specs/Problems.antt`. Formulas are made of others by `negation`, `conjunction` and `joined`, within the limit
-// on their size. Whoever stands above needs no word of any one logic.
+// asks stands in `specs/Problems.antt`. Formulas are made of others by `negation`, `conjunction`, `joined` and, by definitions,
+// `replaced`, within the limit on their size. Whoever stands above needs no word of any one logic.
 //
 // A document begins with five lines, its head, and goes on with a body. `read_head` reads the head where one answer is
 // wanted, in either version, and tells the first bad line where there is none; `write_head` writes it. What a head is,
@@ -24,20 +24,24 @@
 
 mod answer;
 mod connecting;
+mod enumerating;
 mod head_rule;
 pub mod laws;
 mod logic;
 mod problem;
 mod reading;
+mod replacing;
 mod title;
 mod writing;
 
 pub use answer::Answer;
 pub use connecting::{conjunction, joined, keeps, negation, occurrences, truth};
+pub use enumerating::enumeration;
 pub use head_rule::HeadRule;
 pub use logic::Logic;
 pub use problem::{
     AnyFormula, MOST_NODES, Problem, copy, copy_formula, graph, negated, print, read,
 };
 pub use reading::{Head, read_head};
+pub use replacing::{Definitions, replaced};
 pub use writing::{append_head, write_head};

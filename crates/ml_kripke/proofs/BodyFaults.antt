@@ -6,8 +6,7 @@
 --   edge_refused, edge_missing    == the same among the edges
 --   nothing_behind, end_refused   == where bytes follow the line `end`, the line behind it is the first bad one
 --   whole_end                     == and where none do, the edges and `end` are the whole text
---   if_err_weaker                 == what is said of an error, said more weakly
-use Rattle.std.proofs.Common.{◌≡◌, ◌≢◌, ℕ, ◌+◌, ◌^◌, ◌<◌, ◌≤◌, List, [], ◌∷◌, ◌++◌, length, map, None, Result, Ok, Err, IfErr, refl, inl, sym, ap, subst, ◌∙◌, arith}
+use Rattle.std.proofs.Common.{◌≡◌, ◌≢◌, ℕ, ◌+◌, ◌^◌, ◌<◌, ◌≤◌, List, [], ◌∷◌, ◌++◌, length, map, None, refl, inl, sym, ap, subst, ◌∙◌, arith}
 use Rattle.std.specs.List.{slice_split}
 use Rattle.ml_base.specs.declared.structure.Edge.{Edge}
 use Rattle.ml_lines.specs.Lines.{Word, Line, text_of}
@@ -141,7 +140,3 @@ whole_end n text rest behind edges es words so_far begins left is_end same none 
       left_is = so_far.goes.left_is ∙ left ∙ ap left_of none;
       are = so_far.are;
     })
-
-pub if_err_weaker : {T E : Type 0} (r : Result T E) (P Q : E → Type 0) → ((e : E) → P e → Q e) → IfErr r P → IfErr r Q
-if_err_weaker (Ok x) P Q more h = tt
-if_err_weaker (Err e) P Q more h = more e h

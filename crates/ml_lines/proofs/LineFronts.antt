@@ -2,6 +2,7 @@
 --
 --   IsInLine bytes  == no byte is an LF
 --   none_passes     == where not any byte passes a test, each fails it
+--   onto_plain, parts_plain == no part of a text that is cut at its LFs has one
 --   lines_plain     == no line of a text has an LF
 --   line_front      == a line in front of a text is its first line
 use Rattle.std.proofs.Common.{◌≡◌, ℕ, Bool, true, false, ◌||◌, List, [], ◌∷◌, ◌++◌, map, All, refl, sym, ap, subst, ◌∙◌}
@@ -35,14 +36,14 @@ line_front bytes rest is =
 
 -- ---- the lines of a text
 
-onto_plain : (x : ℕ) (parts : List (List ℕ))
+pub onto_plain : (x : ℕ) (parts : List (List ℕ))
     → is_line_end x ≡ false
     → AllByRecursion IsInLine parts
     → AllByRecursion IsInLine (onto_first x parts)
 onto_plain x [] other all = (ap (λ b. b || false) other, tt)
 onto_plain x (part ∷ parts) other all = (ap (λ b. b || list_any is_line_end part) other ∙ all.0, all.1)
 
-parts_plain : (text : List ℕ) → AllByRecursion IsInLine (slice_split is_line_end text)
+pub parts_plain : (text : List ℕ) → AllByRecursion IsInLine (slice_split is_line_end text)
 parts_plain [] = (refl, tt)
 parts_plain (x ∷ xs) = go (is_line_end x) refl (parts_plain xs)
   where

@@ -2,7 +2,7 @@
 --
 --   some_entry    == there is an entry at each place below the length
 --   get_grown     == an entry stays where it is when the list grows
---   same_head     == equal lists have equal heads
+--   same_head, same_tail == equal lists have equal heads and equal tails
 --   no_middle     == the empty list has no entry in its middle
 --   cond-none     == where one choice after another chooses nothing, neither does
 --   find-none     == no number is found that is so great, where all are less
@@ -27,6 +27,9 @@ get_grown (z ∷ zs) ys (suc k) x is = get_grown zs ys k x is
 
 pub same_head : {X : Type 0} (x y : X) (xs ys : List X) → x ∷ xs ≡ y ∷ ys → x ≡ y
 same_head x y xs ys e = cc
+
+pub same_tail : {X : Type 0} (x y : X) (xs ys : List X) → x ∷ xs ≡ y ∷ ys → xs ≡ ys
+same_tail x y xs ys e = cc
 
 pub no_middle : {X : Type 0} (front : List X) (x : X) (back : List X) → [] ≡ front ++ x ∷ back → ⊥
 no_middle [] x back e = cc

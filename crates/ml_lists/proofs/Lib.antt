@@ -106,3 +106,5 @@ pub mod Absent
 pub mod Runs
 -- each list has one with the same entries that strictly ascends
 pub mod SortedLists
+-- two tests together
+pub mod BothTests

@@ -38,5 +38,7 @@ pub mod CanonicalParsed
 pub mod SomeOccurrence
 -- formulas made of formulas
 pub mod Connected
+-- formulas whose propositions are replaced
+pub mod SoundReplaced
 -- the canonical text of a formula stands in one line
 pub mod CanonicalLines

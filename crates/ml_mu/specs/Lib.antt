@@ -8,6 +8,8 @@ pub mod Term
 pub mod Meaning
 -- texts by their items
 pub mod TextLaws
+-- propositions replaced by formulas
+pub mod Replaced
 -- bound and positive variables
 pub mod Variables
 -- which words are propositions, variables and actions

@@ -14,3 +14,5 @@ pub mod VariableViews
 pub mod Environment
 -- the code of formulas
 pub mod FormulaCode
+-- what a formula keeps whose propositions are replaced
+pub mod AsSound

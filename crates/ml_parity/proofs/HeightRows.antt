@@ -106,21 +106,22 @@ falls-from rows a xs ys r f = record {
       r.ends (f.falls even);
 }
 
+-- where heights fall along an arc, no number of a row below its priority grows
+pub rows_stay : (rows : List (List ℕ)) (a : Arc) → FallsAlong rows a → (k : ℕ) → k ≤ a.priority / 2
+    → get_or (get_or rows a.to []) k 0 ≤ get_or (get_or rows a.from []) k 0
+rows_stay rows a f k low =
+    let e : 2 * k / 2 ≡ k = omega arith in
+    subst (λ (i : ℕ). get_or (get_or rows a.to []) i 0 ≤ get_or (get_or rows a.from []) i 0) e
+    (f.stays (2 * k) (omega arith) (omega arith))
+
 -- and only then
 pub falls-to : (rows : List (List ℕ)) (a : Arc) (xs ys : List ℕ) → ArcRows rows a xs ys
     → FallsAlong rows a → RowsFall a.priority xs ys
 falls-to rows a xs ys r f = record {
-  stays = λ k low. subst₂ (λ (fs ts : List ℕ). get_or ts k 0 ≤ get_or fs k 0) (sym r.begins) (sym r.ends) (stays k low);
+  stays = λ k low. subst₂ (λ (fs ts : List ℕ). get_or ts k 0 ≤ get_or fs k 0) (sym r.begins) (sym r.ends) (rows_stay rows a f k low);
   falls = λ even. subst₂ (λ (fs ts : List ℕ). get_or ts (a.priority / 2) 0 < get_or fs (a.priority / 2) 0)
       (sym r.begins) (sym r.ends) (f.falls even);
 }
-  where
-    stays : (k : ℕ) → k ≤ a.priority / 2
-        → get_or (get_or rows a.to []) k 0 ≤ get_or (get_or rows a.from []) k 0
-    stays k low =
-        let e : 2 * k / 2 ≡ k = omega arith in
-        subst (λ (i : ℕ). get_or (get_or rows a.to []) i 0 ≤ get_or (get_or rows a.from []) i 0) e
-        (f.stays (2 * k) (omega arith) (omega arith))
 
 -- one arc more along which they fall
 pub falls_more : (rows : List (List ℕ)) (arcs : List Arc) (i : ℕ) (e a : Arc) → i < length arcs → get_or arcs i e ≡ a

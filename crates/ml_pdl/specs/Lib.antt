@@ -8,6 +8,8 @@ pub mod MarkLaws
 pub mod Meaning
 -- problems
 pub mod Problem
+-- propositions replaced by formulas
+pub mod Replaced
 -- stars and infinite repetitions without iterates
 pub mod Laws
 -- the plain formula of a term

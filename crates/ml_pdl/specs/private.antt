@@ -10,3 +10,5 @@ pub mod Reader
 pub mod Alike
 -- marks, told from bytes
 pub mod MarkTests
+-- what a formula or a program keeps whose propositions are replaced
+pub mod AsSound

@@ -21,8 +21,9 @@ pub fn copy(alloc: Global, formula: &Formula) -> Result<Formula, NoMemory>
     Ok(Formula::new(root))
 }
 
+// an equal tree
 #[cycle(copier)]
-fn copy_term(alloc: Global, term: &Term) -> Result<Term, NoMemory>
+pub(crate) fn copy_term(alloc: Global, term: &Term) -> Result<Term, NoMemory>
     ensures { IfOk result (λ copied. formula_of copied ≡ formula_of term.now) }
 {
     match term {

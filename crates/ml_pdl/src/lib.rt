@@ -18,6 +18,7 @@ mod marking;
 mod notation;
 mod parsing;
 mod printing;
+mod replacing;
 mod signs;
 mod term;
 
@@ -26,4 +27,5 @@ pub use copying::{copy, occurrences};
 pub use formula::Formula;
 pub use parsing::parse;
 pub use printing::{append_text, print};
+pub use replacing::replaced;
 pub use term::{Modality, Program, Term};

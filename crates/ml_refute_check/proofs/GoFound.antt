@@ -5,13 +5,14 @@
 --                 exactly whether nodes are among them
 --   AtGo, at_go == leaving an entry by a step along a diamond of a spread of it, to another entry
 --   within_told, names_told, falls_told == the tests tell exactly whether the rules are kept
-use Rattle.std.proofs.Common.{◌≡◌, ◌↔◌, ℕ, ◌*◌, ◌/◌, ◌≤◌, Bool, List, [], All, get_or, IsTrue, sym, ap, ◌∙◌, subst, arith}
+use Rattle.std.proofs.Common.{◌≡◌, ◌↔◌, ℕ, ◌*◌, ◌/◌, Bool, List, [], All, get_or, IsTrue, sym, ap, ◌∙◌, subst, arith}
 use Rattle.std.proofs.Math.ListN.{get_or-map}
 use Rattle.ml_lists.specs.Member.{IsMember}
 use Rattle.ml_graph.specs.Graph.{Graph, IsGraph, odd_priorities}
 use Rattle.ml_parity.specs.declared.one_sided.graph.Arc.{Arc}
 use Rattle.ml_parity.specs.Heights.{FallsAlong}
 use Rattle.ml_parity.specs.HeightLists.{RowsFall}
+use Rattle.ml_parity.proofs.HeightRows.{rows_stay}
 use Rattle.ml_trace.specs.declared.letters.Triple.{Triple}
 use Rattle.ml_trace.specs.declared.marks.Mark.{Mark}
 use Rattle.ml_trace.specs.Marks.{priority}
@@ -36,13 +37,7 @@ rows_there rows a f = record { stays = λ p even low. f.stays (p / 2) (omega ari
 rows_back : (rows : List (List ℕ)) (a : Arc)
     → FallsAlong rows a
     → RowsFall a.priority (get_or rows a.from []) (get_or rows a.to [])
-rows_back rows a f = record { stays = stays; falls = f.falls }
-  where
-    stays : (k : ℕ) → k ≤ a.priority / 2 → get_or (get_or rows a.to []) k 0 ≤ get_or (get_or rows a.from []) k 0
-    stays k low =
-        let e : 2 * k / 2 ≡ k = omega arith in
-        subst (λ (i : ℕ). get_or (get_or rows a.to []) i 0 ≤ get_or (get_or rows a.from []) i 0) e
-        (f.stays (2 * k) (omega arith) (omega arith))
+rows_back rows a f = record { stays = rows_stay rows a f; falls = f.falls }
 
 heights_at : (r : Refutation) (e : ℕ) → get_or (heights_of r) e [] ≡ (entry_at r e).heights
 heights_at r e = get_or-map (λ (x : Entry). x.heights) r.entries e no_entry

@@ -1,6 +1,7 @@
 -- Names with their kinds.
 --
 --   spelled_both, spelled_parts, spelled_all == names that are spelled as they must be, in two lists and one by one
+--   short_both, spelled_both_keep == names of two lists stay short and spelled as they must be where those of each do
 --   of_kind_append            == the names of a kind of two lists
 --   kind_append               == to add those of two lists is to add those of the one and then those of the other
 --   few_added                 == no more are added than there are names
@@ -13,7 +14,7 @@ use Rattle.std.proofs.Common.{◌≡◌, ℕ, ◌+◌, ◌≤◌, Bool, true, fa
 use Rattle.std.specs.List.{AllByRecursion, list_any}
 use Rattle.std.proofs.lemmas.Bool.{and_from, and_parts}
 use Rattle.std.proofs.lemmas.List.Folds.{list_all-append}
-use Rattle.ml_lists.proofs.AllOf.{all_parts}
+use Rattle.ml_lists.proofs.AllOf.{all_both, all_parts}
 use Rattle.ml_text.specs.NameLists.{with_names}
 use Rattle.ml_text.specs.Names.{Kind, Proposition, Variable, Action, KindedName, AreShort, IsShortName, are_spelled, is_kind, is_spelled_name, of_kind}
 use Rattle.ml_text.specs.Bytes.{is_upper}
@@ -31,6 +32,14 @@ use Rattle.ml_text.proofs.WordNames.{name_length}
 pub short_parts : (xs ys : List KindedName) → AreShort (xs ++ ys) → AreShort xs × AreShort ys
 short_parts xs ys all = all_parts IsShortName xs ys all
 
+pub short_both : (xs ys zs us : List KindedName)
+    → (AreShort xs → AreShort ys)
+    → (AreShort zs → AreShort us)
+    → AreShort (xs ++ zs)
+    → AreShort (ys ++ us)
+short_both xs ys zs us one other both =
+    let parts = all_parts IsShortName xs zs both in all_both IsShortName ys us (one parts.0) (other parts.1)
+
 module _ {X : Type 0} (own : OwnSigns X) where
   abbrev pub IsSpelledName : KindedName → Type 0
   IsSpelledName x = is_spelled_name own x ≡ true
@@ -47,6 +56,14 @@ module _ {X : Type 0} (own : OwnSigns X) where
       → (are_spelled own xs ≡ true) × (are_spelled own ys ≡ true)
   spelled_parts xs ys all =
       and_parts (are_spelled own xs) (are_spelled own ys) (sym (list_all-append (is_spelled_name own) xs ys) ∙ all)
+
+  pub spelled_both_keep : (xs ys zs us : List KindedName)
+      → (are_spelled own xs ≡ true → are_spelled own ys ≡ true)
+      → (are_spelled own zs ≡ true → are_spelled own us ≡ true)
+      → are_spelled own (xs ++ zs) ≡ true
+      → are_spelled own (ys ++ us) ≡ true
+  spelled_both_keep xs ys zs us one other both =
+      let parts = spelled_parts xs zs both in spelled_both ys us (one parts.0) (other parts.1)
 
   pub spelled_all : (xs : List KindedName) → AllByRecursion IsSpelledName xs → are_spelled own xs ≡ true
   spelled_all [] all = refl

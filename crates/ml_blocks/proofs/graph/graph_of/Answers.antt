@@ -7,14 +7,14 @@ use Rattle.ml_blocks.specs.Closures.{HasMoreThan}
 use Rattle.ml_blocks.specs.Places.{Root}
 use Rattle.ml_blocks.specs.private.Views.{start_place}
 use Rattle.ml_blocks.proofs.Agreement.{graphs_hold}
-use Rattle.ml_blocks.proofs.OkResults.{ok_more}
+use Rattle.std.proofs.lemmas.Result.{IfOk-weaker}
 use Rattle.ml_blocks.proofs.graph.graph_of.Goals as goal
 
 pub returns-clause-agrees : goal.returns-clause-agrees
 returns-clause-agrees c =
     let f = c.args.formula.now in
     let negated = c.args.negated in
-    ok_more c.made.result (λ g. IsGraphAt g (start_place None (formula_of c.root.result.now) (not negated)))
+    IfOk-weaker c.made.result (λ g. IsGraphAt g (start_place None (formula_of c.root.result.now) (not negated)))
     (λ g. HoldsWhere g (λ m s. HoldsAt m s f negated))
     (λ g is. graphs_hold f negated g c.root.ensures.well_formed.is_of_logic
     (subst (λ h. IsGraphAt g (start_place None h (not negated))) c.root.ensures.tree is))
@@ -23,7 +23,7 @@ returns-clause-agrees c =
 pub returns-clause-graph : goal.returns-clause-graph
 returns-clause-graph c =
     let negated = c.args.negated in
-    ok_more c.made.result (λ g. IsGraphAt g (start_place None (formula_of c.root.result.now) (not negated)))
+    IfOk-weaker c.made.result (λ g. IsGraphAt g (start_place None (formula_of c.root.result.now) (not negated)))
     (λ g. IsGraphAt g (start_of c.args.formula.now negated))
     (λ g. subst (λ h. IsGraphAt g (start_place None h (not negated))) c.root.ensures.tree)
     c.made.ensures.graph

@@ -7,14 +7,14 @@ use Rattle.ml_blocks.specs.Closures.{HasMoreThan}
 use Rattle.ml_blocks.specs.Places.{Root}
 use Rattle.ml_blocks.specs.private.Views.{start_place}
 use Rattle.ml_blocks.proofs.Agreement.{linear_graphs_hold}
-use Rattle.ml_blocks.proofs.OkResults.{ok_more}
+use Rattle.std.proofs.lemmas.Result.{IfOk-weaker}
 use Rattle.ml_blocks.proofs.graph.ltl_graph_of.Goals as goal
 
 pub returns-clause-agrees : goal.returns-clause-agrees
 returns-clause-agrees c =
     let f = c.args.formula.now in
     let negated = c.args.negated in
-    ok_more c.made.result (λ g. IsGraphAt g (start_place (Some (not negated)) (formula_of c.root.result.now) true))
+    IfOk-weaker c.made.result (λ g. IsGraphAt g (start_place (Some (not negated)) (formula_of c.root.result.now) true))
     (λ g. HoldsWhere g (λ m s. ltl.HoldsAt m s f negated))
     (λ g is. linear_graphs_hold f negated g
     (subst (λ h. IsGraphAt g (start_place (Some (not negated)) h true)) c.root.ensures.tree is))
@@ -23,7 +23,7 @@ returns-clause-agrees c =
 pub returns-clause-graph : goal.returns-clause-graph
 returns-clause-graph c =
     let negated = c.args.negated in
-    ok_more c.made.result (λ g. IsGraphAt g (start_place (Some (not negated)) (formula_of c.root.result.now) true))
+    IfOk-weaker c.made.result (λ g. IsGraphAt g (start_place (Some (not negated)) (formula_of c.root.result.now) true))
     (λ g. IsGraphAt g (linear_start_of c.args.formula.now negated))
     (λ g. subst (λ h. IsGraphAt g (start_place (Some (not negated)) h true)) c.root.ensures.tree)
     c.made.ensures.graph

@@ -1,11 +1,12 @@
 use Rattle.std.proofs.Common.{◌≡◌, ◌+◌, ◌-◌, length, slice_get, None, ap, sym, subst, ◌∙◌, arith}
+use Rattle.std.proofs.lemmas.Result.{IfErr-weaker}
 use Rattle.ml_lines.specs.Reading.{lines_of, words_of}
 use Rattle.ml_kripke.specs.BodyRules.{AtEdge, AtNothing}
 use Rattle.ml_kripke.specs.private.BodyParts.{IsEdgeLine}
 use Rattle.ml_kripke.specs.private.Refusals.{TellsRule, TellsFault}
 use Rattle.ml_lists.proofs.Chains.{last_is}
 use Rattle.ml_kripke.proofs.BodyReads.{AreEdgesTo, edge_read}
-use Rattle.ml_kripke.proofs.BodyFaults.{edge_refused, edge_missing, end_refused, if_err_weaker}
+use Rattle.ml_kripke.proofs.BodyFaults.{edge_refused, edge_missing, end_refused}
 use Rattle.ml_kripke.proofs.read.read_edges.Goals as goal
 
 pub returns-in-Ok-None-clause-refused : goal.returns-in-Ok-None-clause-refused
@@ -15,7 +16,7 @@ returns-in-Ok-None-clause-refused c =
     let at_is : at ≡ c.args.line + length edges = omega (arith, c.len.ensures, c.deref.ensures.len, ap length c.deref.ensures.value) in
     let is_end = rw c.in-Ok-None.field-0-is at c.in-Ok-None.ensures.read in
     let behind = c.in-Some.behind.now in
-    if_err_weaker c.ended.result (TellsFault AtNothing (at + 1) behind) (TellsFault (AtEdge c.args.states None) c.args.line c.args.text.now)
+    IfErr-weaker c.ended.result (TellsFault AtNothing (at + 1) behind) (TellsFault (AtEdge c.args.states None) c.args.line c.args.text.now)
     (λ told tells.
     end_refused c.args.states c.args.line told c.ranges.states.fits at c.args.text.now c.loop-words.rest.now edges at_is c.loop-words.invariant
     behind (words_of c.in-Some.words.now) c.in-Some.ensures.lines c.in-Some.ensures.left c.in-Some.ensures.shorter is_end tells)

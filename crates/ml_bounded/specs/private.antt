@@ -1,0 +1,12 @@
+-- What private contracts and proofs cite; what texts and formulas mean is said without it.
+
+-- the code of formulas
+pub mod FormulaCode
+-- the grammar as tables
+pub mod Tables
+-- the forms that the program holds
+pub mod FormViews
+-- what the reader of texts asks of a logic
+pub mod Reader
+-- signs of one kind do the same
+pub mod Alike

@@ -1,0 +1,2 @@
+-- a text with an LF behind it
+pub mod LastLines

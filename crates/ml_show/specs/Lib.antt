@@ -1,0 +1,2 @@
+-- texts that end with their last line
+pub mod Pages

@@ -1,0 +1,383 @@
+// What each node of a problem's graph says, as a formula.
+//
+// No number is made here: the root says the problem, and what the nodes say to which a node leads follows from what it says
+// itself, as the definition of the graph has it (`form_of` of `ml_word_graph`, the tables of `ml_mu_graph`, `ml_pdl_graph`).
+// The numbers are those of the graph.
+use crate::formulas::{negation, write_mu, write_path, write_pdl, write_run};
+use ml_base::NoMemory;
+use ml_ctl::{Pairing, Tense};
+use ml_front::{AnyFormula, Problem};
+use ml_graph::{ModalGraph, Node};
+use ml_lines::{write_number, write_word};
+use ml_pdl::{Modality, Program};
+use ml_text::Operator;
+use std::alloc::Global;
+
+// a formula, or its negation
+#[derive(Clone, Copy)]
+pub(crate) enum Part<'a> {
+    Path(&'a ml_ctl::Term, bool),
+    Mu(&'a ml_mu::Term, bool),
+    Pdl(&'a ml_pdl::Term, bool),
+}
+
+#[derive(Clone, Copy)]
+pub(crate) enum Saying<'a> {
+    // the problem, and that each state has a next one
+    Whole(Part<'a>),
+    // that each state has a next one, or a part of this
+    Going,
+    Now(Part<'a>),
+    // at the next moment
+    Later(Part<'a>),
+    // what a formula by U, R or W says beside its right operand
+    Rest(Part<'a>),
+    Both(Part<'a>, Part<'a>),
+    // some run of the program, or else each, leads to where the saying at this place holds
+    Run(&'a Program, bool, usize),
+}
+
+// What the nodes say to which a node leads, left and right: where it leads to one, left. A variable leads to its binder, of
+// which it is known what it says.
+type Children<'a> = (Option<Saying<'a>>, Option<Saying<'a>>);
+
+fn of_path<'a>(term: &'a ml_ctl::Term, positive: bool) -> Children<'a> {
+    match term {
+        ml_ctl::Term::Const(_) | ml_ctl::Term::Prop(_) | ml_ctl::Term::Quantified(_, _) => (
+            None, None,
+        ),
+        ml_ctl::Term::Not(operand) => (Some(Saying::Now(Part::Path(operand, !positive))), None),
+        ml_ctl::Term::Binary(Operator::Iff, left, right) => (
+            Some(Saying::Both(Part::Path(left, true), Part::Path(right, positive))),
+            Some(Saying::Both(Part::Path(left, false), Part::Path(right, !positive))),
+        ),
+        ml_ctl::Term::Binary(operator, left, right) => {
+            let first = positive != (*operator == Operator::Implies);
+            (
+                Some(Saying::Now(Part::Path(left, first))),
+                Some(Saying::Now(Part::Path(right, positive))),
+            )
+        }
+        ml_ctl::Term::Temporal(Tense::Next, operand) => {
+            (Some(Saying::Now(Part::Path(operand, positive))), None)
+        }
+        ml_ctl::Term::Temporal(_, operand) => (
+            Some(Saying::Now(Part::Path(operand, positive))),
+            Some(Saying::Later(Part::Path(term, positive))),
+        ),
+        ml_ctl::Term::Paired(_, _, right) => (
+            Some(Saying::Now(Part::Path(right, positive))),
+            Some(Saying::Rest(Part::Path(term, positive))),
+        ),
+    }
+}
+
+fn of_mu<'a>(term: &'a ml_mu::Term, positive: bool) -> Children<'a> {
+    match term {
+        ml_mu::Term::Const(_) | ml_mu::Term::Prop(_) | ml_mu::Term::Var(_) => (None, None),
+        ml_mu::Term::Not(operand) => (Some(Saying::Now(Part::Mu(operand, !positive))), None),
+        ml_mu::Term::Binary(Operator::Iff, left, right) => (
+            Some(Saying::Both(Part::Mu(left, true), Part::Mu(right, positive))),
+            Some(Saying::Both(Part::Mu(left, false), Part::Mu(right, !positive))),
+        ),
+        ml_mu::Term::Binary(operator, left, right) => {
+            let first = positive != (*operator == Operator::Implies);
+            (
+                Some(Saying::Now(Part::Mu(left, first))),
+                Some(Saying::Now(Part::Mu(right, positive))),
+            )
+        }
+        ml_mu::Term::Modal(_, _, operand) | ml_mu::Term::Binder(_, _, operand) => {
+            (Some(Saying::Now(Part::Mu(operand, positive))), None)
+        }
+    }
+}
+
+// a saying is kept for runs that lead to it, at the place that comes back
+fn keep<'a>(kept: &mut Vec<Saying<'a>>, saying: Saying<'a>) -> Result<usize, NoMemory> {
+    let place = kept.len();
+    kept.push(saying)?;
+    Ok(place)
+}
+
+fn of_pdl<'a>(
+    kept: &mut Vec<Saying<'a>>,
+    term: &'a ml_pdl::Term,
+    positive: bool,
+) -> Result<Children<'a>, NoMemory> {
+    match term {
+        ml_pdl::Term::Const(_) | ml_pdl::Term::Prop(_) => Ok((None, None)),
+        ml_pdl::Term::Not(operand) => Ok((Some(Saying::Now(Part::Pdl(operand, !positive))), None)),
+        ml_pdl::Term::Binary(Operator::Iff, left, right) => Ok((
+            Some(Saying::Both(Part::Pdl(left, true), Part::Pdl(right, positive))),
+            Some(Saying::Both(Part::Pdl(left, false), Part::Pdl(right, !positive))),
+        )),
+        ml_pdl::Term::Binary(operator, left, right) => {
+            let first = positive != (*operator == Operator::Implies);
+            Ok((
+                Some(Saying::Now(Part::Pdl(left, first))),
+                Some(Saying::Now(Part::Pdl(right, positive))),
+            ))
+        }
+        ml_pdl::Term::Modal(modality, program, operand) => {
+            let then = keep(kept, Saying::Now(Part::Pdl(operand, positive)))?;
+            let is_diamond = (*modality == Modality::Diamond) == positive;
+            Ok((Some(Saying::Run(program, is_diamond, then)), None))
+        }
+        ml_pdl::Term::Repeat(program) => {
+            let then = keep(kept, Saying::Now(Part::Pdl(term, positive)))?;
+            Ok((Some(Saying::Run(program, positive, then)), None))
+        }
+    }
+}
+
+// what the runs of a program come to: those of its parts, and what is behind them
+fn of_run<'a>(
+    kept: &mut Vec<Saying<'a>>,
+    program: &'a Program,
+    is_diamond: bool,
+    then: usize,
+) -> Result<Children<'a>, NoMemory> {
+    let behind = kept.get(then).copied();
+    match program {
+        Program::Act(_) => Ok((behind, None)),
+        Program::Seq(left, right) => {
+            let second = keep(kept, Saying::Run(right, is_diamond, then))?;
+            Ok((Some(Saying::Run(left, is_diamond, second)), None))
+        }
+        Program::Alt(left, right) => Ok((
+            Some(Saying::Run(left, is_diamond, then)),
+            Some(Saying::Run(right, is_diamond, then)),
+        )),
+        Program::Star(operand) => {
+            let again = keep(kept, Saying::Run(program, is_diamond, then))?;
+            Ok((behind, Some(Saying::Run(operand, is_diamond, again))))
+        }
+        Program::Test(formula) => {
+            Ok((Some(Saying::Now(Part::Pdl(formula, is_diamond))), behind))
+        }
+    }
+}
+
+// the left operand by U, R or W, and the same formula at the next moment
+fn of_rest<'a>(part: Part<'a>) -> Children<'a> {
+    let first = match part {
+        Part::Path(ml_ctl::Term::Paired(_, left, _), positive) => {
+            Some(Saying::Now(Part::Path(left, positive)))
+        }
+        Part::Path(_, _) | Part::Mu(_, _) | Part::Pdl(_, _) => None,
+    };
+    (first, Some(Saying::Later(part)))
+}
+
+fn children_of<'a>(
+    kept: &mut Vec<Saying<'a>>,
+    saying: Saying<'a>,
+) -> Result<Children<'a>, NoMemory> {
+    match saying {
+        Saying::Whole(part) => Ok((Some(Saying::Now(part)), Some(Saying::Going))),
+        Saying::Going => Ok((Some(Saying::Going), Some(Saying::Going))),
+        Saying::Now(Part::Path(term, positive)) => Ok(of_path(term, positive)),
+        Saying::Now(Part::Mu(term, positive)) => Ok(of_mu(term, positive)),
+        Saying::Now(Part::Pdl(term, positive)) => of_pdl(kept, term, positive),
+        Saying::Later(part) => Ok((Some(Saying::Now(part)), None)),
+        Saying::Rest(part) => Ok(of_rest(part)),
+        Saying::Both(left, right) => Ok((Some(Saying::Now(left)), Some(Saying::Now(right)))),
+        Saying::Run(program, is_diamond, then) => of_run(kept, program, is_diamond, then),
+    }
+}
+
+// what the root says; `None` where nodes stand for blocks
+fn root_of(problem: &Problem) -> Option<Saying<'_>> {
+    let positive = !problem.negated;
+    match &problem.formula {
+        AnyFormula::Mu(formula) => Some(Saying::Now(Part::Mu(formula.root(), positive))),
+        AnyFormula::Word(formula) => Some(Saying::Whole(Part::Path(formula.root(), positive))),
+        AnyFormula::Pdl(formula) => Some(Saying::Now(Part::Pdl(formula.root(), positive))),
+        AnyFormula::Ctl(_) | AnyFormula::Ltl(_) => None,
+    }
+}
+
+fn is_variable(saying: Saying<'_>) -> bool {
+    match saying {
+        Saying::Now(Part::Mu(term, _)) => matches!(term, ml_mu::Term::Var(_)),
+        _ => false,
+    }
+}
+
+// the numbers of the nodes to which a node leads
+fn targets_of(node: Node) -> (Option<u32>, Option<u32>) {
+    match node {
+        Node::True | Node::False | Node::Lit { .. } => (None, None),
+        Node::And { left, right } | Node::Or { left, right } => (Some(left), Some(right)),
+        Node::Diamond { to, .. } | Node::Square { to, .. } => (Some(to), None),
+    }
+}
+
+// a node is met, and what it says is kept if it wasn't known
+fn meet<'a>(
+    said: &mut Vec<Option<Saying<'a>>>,
+    met: &mut Vec<u32>,
+    node: Option<u32>,
+    saying: Option<Saying<'a>>,
+) -> Result<(), NoMemory> {
+    if let (Some(node), Some(saying)) = (node, saying) {
+        if let Some(place) = said.get_mut(node as usize) {
+            if place.is_none() {
+                *place = Some(saying);
+                met.push(node)?;
+            }
+        }
+    }
+    Ok(())
+}
+
+// A graph with what its nodes say.
+#[derive(Drop)]
+pub(crate) struct Nodes<'g, 'a> {
+    pub graph: &'g ModalGraph,
+    said: Vec<Option<Saying<'a>>>,
+    // what stands behind the runs of programs
+    kept: Vec<Saying<'a>>,
+}
+
+impl<'g, 'a> Nodes<'g, 'a> {
+    // Each node is met once at most.
+    pub(crate) fn of(
+        alloc: Global,
+        graph: &'g ModalGraph,
+        problem: &'a Problem,
+    ) -> Result<Nodes<'g, 'a>, NoMemory> {
+        let mut said: Vec<Option<Saying<'a>>> = Vec::with_capacity(alloc, graph.nodes().len())?;
+        for _ in graph.nodes() {
+            said.push(None)?;
+        }
+        let mut met = Vec::new(alloc);
+        let mut kept = Vec::new(alloc);
+        meet(&mut said, &mut met, Some(graph.root()), root_of(problem))?;
+        for (place, _) in graph.nodes().iter().enumerate() {
+            let Some(number) = met.get(place).copied() else {
+                break;
+            };
+            let saying = said.get(number as usize).copied().flatten();
+            let node = graph.nodes().get(number as usize).copied();
+            if let (Some(saying), Some(node)) = (saying, node) {
+                let (left, right) = targets_of(node);
+                let (first, second) = children_of(&mut kept, saying)?;
+                meet(&mut said, &mut met, left, first)?;
+                meet(&mut said, &mut met, right, second)?;
+            }
+        }
+        Ok(Nodes { graph, said, kept })
+    }
+
+    fn saying(&self, node: u32) -> Option<Saying<'a>> {
+        self.said.get(node as usize).copied().flatten()
+    }
+
+    // what a node says; a variable says what its binder does, to which it leads
+    fn bound_saying(&self, node: u32) -> Option<Saying<'a>> {
+        let saying = self.saying(node)?;
+        if !is_variable(saying) {
+            return Some(saying);
+        }
+        let (binder, _) = targets_of(self.node(node)?);
+        self.saying(binder?)
+    }
+
+    // the node of a number
+    pub(crate) fn node(&self, node: u32) -> Option<Node> {
+        self.graph.nodes().get(node as usize).copied()
+    }
+
+    // does a node say anything but that each state has a next one?
+    pub(crate) fn is_told(&self, node: u32) -> bool {
+        !matches!(self.saying(node), Some(Saying::Going))
+    }
+
+    // what a node says, as a text
+    pub(crate) fn text(&self, alloc: Global, node: u32) -> Result<Vec<u8>, NoMemory> {
+        let mut text = Vec::new(alloc);
+        match self.bound_saying(node) {
+            Some(saying) => self.write_saying(&mut text, saying)?,
+            None => self.write_node(&mut text, node)?,
+        }
+        Ok(text)
+    }
+
+    // a saying, behind the modalities that lead to it: each leads to one that was kept before it
+    fn write_saying(&self, text: &mut Vec<u8>, saying: Saying<'a>) -> Result<(), NoMemory> {
+        let mut next = saying;
+        for _ in &self.kept {
+            if let Saying::Run(program, is_diamond, then) = next {
+                write_run(text, program, is_diamond)?;
+                if let Some(behind) = self.kept.get(then) {
+                    next = *behind;
+                }
+            }
+        }
+        write_saying(text, next)
+    }
+
+    // a node of which it isn't known what it says
+    fn write_node(&self, text: &mut Vec<u8>, node: u32) -> Result<(), NoMemory> {
+        match self.node(node) {
+            Some(Node::True) => write_word(text, b"tt"),
+            Some(Node::False) => write_word(text, b"ff"),
+            Some(Node::Lit { prop, positive }) => {
+                write_word(text, negation(positive))?;
+                match self.graph.props().get(prop as usize) {
+                    Some(name) => write_word(text, name.bytes()),
+                    None => Ok(()),
+                }
+            }
+            _ => {
+                write_word(text, b"node ")?;
+                write_number(text, u64::from(node))
+            }
+        }
+    }
+}
+
+fn write_part(text: &mut Vec<u8>, part: Part<'_>) -> Result<(), NoMemory> {
+    match part {
+        Part::Path(term, positive) => write_path(text, term, positive),
+        Part::Mu(term, positive) => write_mu(text, term, positive),
+        Part::Pdl(term, positive) => write_pdl(text, term, positive),
+    }
+}
+
+// what a formula by U, R or W says beside its right operand: its left operand, and or else itself at the next moment
+fn write_rest(text: &mut Vec<u8>, part: Part<'_>) -> Result<(), NoMemory> {
+    if let Part::Path(ml_ctl::Term::Paired(pairing, left, _), positive) = part {
+        let is_all = matches!(pairing, Pairing::Until | Pairing::Weak) == positive;
+        write_word(text, b"(")?;
+        write_path(text, left, positive)?;
+        write_word(text, if is_all { b" & " } else { b" | " })?;
+        write_word(text, b"X ")?;
+        write_part(text, part)?;
+        return write_word(text, b")");
+    }
+    write_part(text, part)
+}
+
+fn write_saying(text: &mut Vec<u8>, saying: Saying<'_>) -> Result<(), NoMemory> {
+    match saying {
+        Saying::Whole(part) | Saying::Now(part) => write_part(text, part),
+        Saying::Going => write_word(text, b"X tt"),
+        // its runs are written before it
+        Saying::Run(_, _, _) => Ok(()),
+        Saying::Later(part) => {
+            write_word(text, b"X ")?;
+            write_part(text, part)
+        }
+        Saying::Rest(part) => write_rest(text, part),
+        Saying::Both(left, right) => {
+            write_word(text, b"(")?;
+            write_part(text, left)?;
+            write_word(text, b" & ")?;
+            write_part(text, right)?;
+            write_word(text, b")")
+        }
+    }
+}
