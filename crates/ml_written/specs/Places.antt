@@ -8,8 +8,8 @@
 --   IsPropositionAt text w k p == at the byte k of the text of w, p stands as a proposition
 --   AreDeclared ps w          == all propositions of w are among the names ps
 --   IsFirstUndeclared ps text w k == at the byte k of the text of w, the first proposition stands that isn't among them
-use Rattle.std.specs.Prelude.{ℕ, ◌<◌, Bool, false, if◌then◌else◌, List, [], ◌∷◌}
-use Rattle.std.specs.List.{AllByRecursion, zip}
+use Rattle.std.specs.Prelude.{ℕ, ◌<◌, Bool, false, List, [], ◌∷◌}
+use Rattle.std.specs.List.{AllByRecursion, filter, zip}
 use Rattle.ml_bounded.specs.Text as bounded
 use Rattle.ml_ctl.specs.Text as ctl
 use Rattle.ml_lists.specs.Member.{IsMember}
@@ -38,8 +38,7 @@ begins_lower [] = false
 begins_lower (b ∷ bs) = is_lower b
 
 abbrev pub lower_names : List KindedName → List KindedName
-lower_names [] = []
-lower_names (x ∷ xs) = if begins_lower x.1 then x ∷ lower_names xs else lower_names xs
+lower_names xs = filter (λ x. begins_lower x.1) xs
 
 abbrev pub places : List ℕ → Written → List ℕ
 places text (Mu f) = lower_places (mu.items text)

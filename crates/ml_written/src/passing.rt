@@ -48,18 +48,26 @@ fn counted(name: &[u8]) -> u32
     u32::from(begins_lower(name))
 }
 
+// Is a name among the keys?
+fn declares<V>(declared: &IndexMap<Name, V>, name: &Name) -> bool
+    ensures { result ≡ declares (keys declared.now) name.now }
+{
+    declared.contains_key(name)
+}
+
 fn passed_name<V>(name: &Name, declared: &IndexMap<Name, V>, before: u32) -> Result<u32, u32>
     requires { before + 1 ≤ most_occurrences }
     ensures value { result ≡ passed_name (keys declared.now) before name.now }
     ensures small { IfOk result (λ n. n ≤ before + 1) }
 {
-    if declared.contains_key(name) {
+    if declares(declared, name) {
         Ok(before + counted(name.bytes()))
     } else {
         Err(before)
     }
 }
 
+#[tactic(auto, using(crate::proofs::PassedNames::stops, crate::proofs::PassedNames::goes_on))]
 fn passed_mu<V>(
     term: &ml_mu::Term,
     declared: &IndexMap<Name, V>,
@@ -87,6 +95,7 @@ fn passed_mu<V>(
 }
 
 #[cycle(passing)]
+#[tactic(auto, using(crate::proofs::PassedNames::stops, crate::proofs::PassedNames::goes_on))]
 fn passed_pdl<V>(
     term: &ml_pdl::Term,
     declared: &IndexMap<Name, V>,
@@ -111,6 +120,7 @@ fn passed_pdl<V>(
 }
 
 #[cycle(passing)]
+#[tactic(auto, using(crate::proofs::PassedNames::stops, crate::proofs::PassedNames::goes_on))]
 fn passed_program<V>(
     program: &ml_pdl::Program,
     declared: &IndexMap<Name, V>,
@@ -130,6 +140,7 @@ fn passed_program<V>(
     }
 }
 
+#[tactic(auto, using(crate::proofs::PassedNames::stops, crate::proofs::PassedNames::goes_on))]
 fn passed_ctl<V>(
     term: &ml_ctl::Term,
     declared: &IndexMap<Name, V>,
@@ -151,6 +162,7 @@ fn passed_ctl<V>(
     }
 }
 
+#[tactic(auto, using(crate::proofs::PassedNames::stops, crate::proofs::PassedNames::goes_on))]
 fn passed_bounded<V>(
     term: &ml_bounded::Term,
     declared: &IndexMap<Name, V>,

@@ -1,7 +1,6 @@
 // Where the first proposition of a text stands that isn't declared.
-ghost use Rattle.std.specs.Prelude.{◌≡◌, MatchOption, slice_get};
-ghost use Rattle.ml_text.specs.Items.{bytes_of, is_word};
-ghost use Rattle.ml_text.specs.Tokens.{tokens};
+ghost use Rattle.std.specs.Prelude.{◌≡◌, ◌≤◌, MatchOption, length, slice_get};
+ghost use Rattle.ml_text.specs.Tokens.{tokens_from};
 ghost use Rattle.indexmap.specs.IndexMap.{keys};
 ghost use Rattle.ml_written.specs.Places.{AreDeclared, IsFirstUndeclared};
 ghost use Rattle.ml_written.specs.Written.{IsWrittenAs, written_logic};
@@ -67,7 +66,8 @@ fn is_lower_word(logic: Logic, text: &[u8], placed: Placed) -> bool
 
 // the place of the word with this number among them
 fn place_of(text: &[u8], logic: Logic, number: u32) -> Option<usize>
-    ensures { result ≡ slice_get (lower_places logic text.now (tokens (words_of logic) text.now)) number }
+    ensures { result
+        ≡ slice_get (lower_places logic text.now (tokens_from (words_of logic) text.now 0)) number }
 {
     let mut from = 0;
     let mut left = number;

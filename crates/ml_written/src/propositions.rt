@@ -1,5 +1,6 @@
 // Which words may be propositions.
 ghost use Rattle.std.specs.Prelude.{◌≡◌};
+ghost use Rattle.std.specs.List.{list_all};
 ghost use Rattle.ml_text.specs.Bytes as bytes;
 ghost use Rattle.ml_text.specs.Words.{is_word_from};
 ghost use Rattle.ml_written.specs.Places.{begins_lower};
@@ -32,8 +33,14 @@ fn is_lower_word(word: &[u8]) -> bool
 {
     match word {
         [] => false,
-        [first, rest @ ..] => is_lower(*first) && rest.iter().all(|byte| is_word_byte(*byte)),
+        [first, rest @ ..] => is_lower(*first) && are_word_bytes(rest),
     }
+}
+
+fn are_word_bytes(text: &[u8]) -> bool
+    ensures { result ≡ list_all bytes.is_word_byte text.now }
+{
+    text.iter().all(|byte| is_word_byte(*byte))
 }
 
 // Does a logic reserve this word?
