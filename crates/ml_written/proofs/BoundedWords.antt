@@ -3,7 +3,7 @@
 --   Passes ts rest   == the signs ts have no such words but those of rest
 --   bound_passes     == a bounded operator has none
 --   bounded_told     == so of what is read from signs
-use Rattle.std.proofs.Common.{◌≡◌, ℕ, List, [], ◌∷◌, ◌++◌, refl, sym, ap, ◌∙◌}
+use Rattle.std.proofs.Common.{◌≡◌, ℕ, List, [], ◌++◌, refl, sym, ap, ◌∙◌}
 use Rattle.ml_text.specs.Levels.{Level}
 use Rattle.ml_text.specs.Names.{Proposition}
 use Rattle.ml_bounded.specs.Formula.{Formula}

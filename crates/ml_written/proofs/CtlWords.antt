@@ -1,7 +1,7 @@
 -- CTL* and LTL: the words of the signs that begin in lower case are the names of the formula that do.
 --
 --   ctl_told   == so of what is read from signs
-use Rattle.std.proofs.Common.{◌≡◌, ℕ, List, [], ◌∷◌, ◌++◌, refl, sym, ap}
+use Rattle.std.proofs.Common.{List, [], ◌++◌, refl, sym, ap}
 use Rattle.ml_text.specs.Levels.{Level}
 use Rattle.ml_text.specs.Names.{Proposition}
 use Rattle.ml_ctl.specs.Formula.{Formula}

@@ -7,8 +7,8 @@
 --   all_known             == where none is missing, all are declared
 --   IsFirstMissing known zs k == at the place k the first proposition stands that isn't declared
 --   first_of              == where one is missing, the place with its number is that of the first
-use Rattle.std.proofs.Common.{◌≡◌, ℕ, zero, suc, ◌+◌, ◌<◌, ◌≤◌, Bool, true, false, List, [], ◌∷◌, map, Option, Some, None, Result, Ok, Err, bytes_eq, cond, inl, inr, refl, sym, ap, subst, ◌∙◌, ⊎_elim, arith}
-use Rattle.std.specs.List.{AllByRecursion, AllZip, slice_get, zip, list_any}
+use Rattle.std.proofs.Common.{◌≡◌, ℕ, suc, ◌+◌, ◌<◌, ◌≤◌, true, false, List, [], ◌∷◌, map, Some, Result, Ok, Err, bytes_eq, cond, inl, inr, refl, sym, ap, subst, ◌∙◌, ⊎_elim, arith}
+use Rattle.std.specs.List.{AllByRecursion, AllZip, slice_get, zip}
 use Rattle.std.proofs.lemmas.Bool.{and_parts, cases_Bool, cond-true, cond-false}
 use Rattle.std.proofs.lemmas.Slice.Eq.{bytes_eq-Decides}
 use Rattle.ml_lists.specs.Member.{IsMember}
@@ -112,10 +112,11 @@ pub all_known : (known : List (List ℕ)) (n m : ℕ) (xs : List KindedName)
 all_known known n m [] is = tt
 all_known known n m ((Proposition, w) ∷ xs) is =
     ⊎_elim
-    (λ (there : declares known w ≡ true).
-    (declared_member known w there,
-    all_known known (n + counted w) m xs
-    (is ∙ ap (λ r. on_ok r (λ k. passed known k xs)) (cond-true (declares known w) (Ok (n + counted w)) (Err n) there))))
+    (λ (there : declares known w ≡ true). (
+      declared_member known w there,
+      all_known known (n + counted w) m xs
+          (is ∙ ap (λ r. on_ok r (λ k. passed known k xs)) (cond-true (declares known w) (Ok (n + counted w)) (Err n) there)),
+    ))
     (λ (gone : declares known w ≡ false).
     let wrong : Ok m ≡ Err n =
     is ∙ ap (λ r. on_ok r (λ k. passed known k xs)) (cond-false (declares known w) (Ok (n + counted w)) (Err n) gone) in
@@ -153,13 +154,16 @@ found_here : (known : List (List ℕ)) (all : List ℕ) (n m k : ℕ) (w : List 
     → declares known w ≡ false
     → m ≡ n
     → IsFound known all m ((k, (Proposition, w)) ∷ zip ps ys)
-found_here known all n m k w ps ys behind here gone same =
-    (k, ap (slice_get all) (let e : m ≡ 0 + n = omega (arith, same) in e) ∙ sym here, record {
-      name = w;
-      stands = inl refl;
-      undeclared = gone;
-      first = none_before;
-    })
+found_here known all n m k w ps ys behind here gone same = (
+  k,
+  ap (slice_get all) (let e : m ≡ 0 + n = omega (arith, same) in e) ∙ sym here,
+  record {
+    name = w;
+    stands = inl refl;
+    undeclared = gone;
+    first = none_before;
+  },
+)
   where
     none_before : (j : ℕ) (p : List ℕ)
         → j < k
@@ -176,13 +180,16 @@ found_later : (known : List (List ℕ)) (all : List ℕ) (m k : ℕ) (x : Kinded
     → IsFound known all m zs
     → IsFound known all m ((k, x) ∷ zs)
 found_later known all m k x zs fine found =
-    let is = found.2 in
-    (found.0, found.1, record {
-      name = is.name;
-      stands = inr is.stands;
-      undeclared = is.undeclared;
-      first = before is;
-    })
+    let is = found.2 in (
+      found.0,
+      found.1,
+      record {
+        name = is.name;
+        stands = inr is.stands;
+        undeclared = is.undeclared;
+        first = before is;
+      },
+    )
   where
     before : IsFirstMissing known zs found.0
         → (j : ℕ) (p : List ℕ)

@@ -2,16 +2,15 @@
 --
 --   filtered_low   == the names that begin in lower case do
 --   placed_first   == the place of the word with its number is where it stands
-use Rattle.std.proofs.Common.{◌≡◌, ℕ, ◌+◌, ◌<◌, Bool, true, false, List, [], ◌∷◌, Option, Some, None, Result, Err, refl, sym, ap, subst, ◌∙◌, ⊎_elim, arith}
+use Rattle.std.proofs.Common.{◌≡◌, ℕ, ◌+◌, true, false, List, [], ◌∷◌, Option, Some, Err, sym, ap, subst, ◌∙◌, ⊎_elim, arith}
 use Rattle.std.specs.Prelude.{MatchOption}
 use Rattle.std.specs.List.{AllByRecursion, slice_get, zip}
 use Rattle.std.proofs.lemmas.Bool.{cases_Bool, cond-true, cond-false}
 use Rattle.ml_front.specs.declared.logic.Logic.{Logic}
-use Rattle.ml_lists.specs.Member.{IsMember}
 use Rattle.ml_text.specs.Names.{KindedName}
 use Rattle.ml_text.specs.Tokens.{tokens_from}
 use Rattle.ml_text.proofs.Cover.{are_tokens}
-use Rattle.ml_written.specs.Places.{AreDeclared, IsFirstUndeclared, IsPropositionAt, begins_lower, lower_names, places}
+use Rattle.ml_written.specs.Places.{AreDeclared, IsFirstUndeclared, begins_lower, lower_names, places}
 use Rattle.ml_written.specs.Propositions.{names}
 use Rattle.ml_written.specs.Written.{IsWrittenAs, written_logic}
 use Rattle.ml_written.specs.declared.written.Written.{Written}

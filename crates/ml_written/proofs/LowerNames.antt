@@ -10,14 +10,14 @@
 --   lower_one, upper_one == of one more name
 --   both_told           == of two lists of names, read one behind the other
 --   named_told          == of a name that is read from one sign
-use Rattle.std.proofs.Common.{◌≡◌, ℕ, Bool, true, false, List, [], ◌∷◌, ◌++◌, map, Option, Some, None, cond, refl, sym, ap, subst, ◌∙◌}
-use Rattle.std.specs.List.{AllByRecursion, filter, list_all}
+use Rattle.std.proofs.Common.{◌≡◌, ℕ, true, false, List, [], ◌∷◌, ◌++◌, map, Some, refl, sym, ap, subst, ◌∙◌}
+use Rattle.std.specs.List.{AllByRecursion, list_all}
 use Rattle.std.proofs.lemmas.Bool.{and_parts, cond-true, cond-false}
 use Rattle.std.proofs.lemmas.List.{append_assoc, map-append}
 use Rattle.std.proofs.lemmas.List.Elements.{filter-append}
 use Rattle.ml_text.specs.Bytes.{is_lower, is_upper, is_word_byte}
 use Rattle.ml_text.specs.Names.{Kind, KindedName}
-use Rattle.ml_text.specs.Signs.{Named, OwnSigns, is_proposition, is_reserved, name_of}
+use Rattle.ml_text.specs.Signs.{Named, OwnSigns, name_of}
 use Rattle.ml_text.specs.Words.{is_word_from}
 use Rattle.ml_text.specs.declared.named_signs.Sign.TheVariants.{Lower, Upper}
 use Rattle.ml_text.proofs.ByteKinds.{upper-no_lower}
@@ -82,9 +82,11 @@ module _ {X : Type 0} where
       → Tells ys us rest
       → Tells (xs ++ ys) ts rest
   both_told xs ys ts us rest one other =
-      let whole = one ∙ ap (λ ws. lower_of xs ++ ws) other.0 in
-      (whole ∙ sym (append_assoc (lower_of xs) (lower_of ys) (lower_words rest))
-      ∙ ap (λ ws. ws ++ lower_words rest) (sym (lower_append xs ys)), other.1)
+      let whole = one ∙ ap (λ ws. lower_of xs ++ ws) other.0 in (
+        whole ∙ sym (append_assoc (lower_of xs) (lower_of ys) (lower_words rest))
+            ∙ ap (λ ws. ws ++ lower_words rest) (sym (lower_append xs ys)),
+        other.1,
+      )
 
   -- a name of which one sign says that it stands there
   pub named_told : (k : Kind) (s : Named X) (w : List ℕ) (ws : List (List ℕ))

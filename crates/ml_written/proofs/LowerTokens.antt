@@ -8,12 +8,12 @@
 --   same_places      == where the items say that they stand, the tokens say so
 --   IsAscending ks   == no number is less than one before it
 --   ascends          == the places ascend
-use Rattle.std.proofs.Common.{◌≡◌, ℕ, zero, suc, ◌-◌, ◌≤◌, ◌==◌, ◌&&◌, Bool, true, false, if◌then◌else◌, List, [], ◌∷◌, length, take, drop, Option, Some, None, cond, refl, sym, ap, subst, ◌∙◌, ⊎_elim, arith}
+use Rattle.std.proofs.Common.{◌≡◌, ℕ, zero, suc, ◌-◌, ◌≤◌, ◌==◌, ◌&&◌, Bool, true, false, if◌then◌else◌, List, [], ◌∷◌, length, take, drop, Option, Some, None, refl, sym, ap, subst, ◌∙◌, ⊎_elim, arith}
 use Rattle.std.specs.List.{AllByRecursion, AllZip}
 use Rattle.std.proofs.lemmas.Bool.{cases_Bool, cond-true, cond-false}
 use Rattle.ml_front.specs.declared.logic.Logic.{Logic}
 use Rattle.ml_text.specs.Items.{SignTable, bytes_of, is_word, items_from}
-use Rattle.ml_text.specs.Refusals.{Item, signs_of}
+use Rattle.ml_text.specs.Refusals.{signs_of}
 use Rattle.ml_text.specs.Signs.{Named, OwnSigns, byte_in, is_proposition, is_upper_word, name_sign, own_or, sign_of, word_in, word_sign_by}
 use Rattle.ml_text.specs.Spelling.{AreTokens}
 use Rattle.ml_text.specs.Words.{constant_of}

@@ -3,7 +3,7 @@
 --   joined      == behind two lists of names, the other behind the one
 --   stops       == where it stops in the first list, it stops in both
 --   goes_on     == and else it goes on in the other
-use Rattle.std.proofs.Common.{◌≡◌, ℕ, ◌+◌, Bool, true, false, ◌||◌, List, [], ◌∷◌, ◌++◌, Result, Ok, Err, bytes_eq, refl, sym, ap, ◌∙◌}
+use Rattle.std.proofs.Common.{◌≡◌, ℕ, List, [], ◌∷◌, ◌++◌, Result, Ok, Err, refl, sym, ap, ◌∙◌}
 use Rattle.ml_text.specs.Names.{KindedName}
 use Rattle.ml_written.specs.private.Passing.{on_ok, passed, passed_one}
 

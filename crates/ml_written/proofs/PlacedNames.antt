@@ -8,11 +8,11 @@
 --   kind_member, member_kind == a name of a kind is one of the names of that kind, and the other way round
 --   propositions_placed     == the propositions of what is written are those that stand somewhere
 --   bytes_at                == and there the text has their bytes
-use Rattle.std.proofs.Common.{◌≡◌, ◌↔◌, ◌⊎◌, ℕ, ◌-◌, Bool, true, false, List, [], ◌∷◌, ◌++◌, map, length, take, drop, cond, inl, inr, refl, sym, ap, subst, ◌∙◌}
+use Rattle.std.proofs.Common.{◌≡◌, ◌↔◌, ℕ, Bool, true, false, List, [], ◌∷◌, map, length, take, drop, cond, inl, inr, refl, sym, ap, subst, ◌∙◌}
 use Rattle.std.specs.List.{AllByRecursion, AllZip, zip}
 use Rattle.std.proofs.lemmas.List.{append-nil}
 use Rattle.ml_lists.specs.Member.{IsMember}
-use Rattle.ml_lists.proofs.Member.{All-member, member-filter, member-filter_from}
+use Rattle.ml_lists.proofs.Member.{member-filter, member-filter_from}
 use Rattle.ml_bounded.proofs.ReadNames as bounded_names
 use Rattle.ml_bounded.specs.Formula as bounded
 use Rattle.ml_bounded.specs.FormulaNames as bounded_formula
@@ -44,12 +44,12 @@ use Rattle.ml_pdl.specs.Marks.{is_test_behind, with_mark}
 use Rattle.ml_pdl.specs.Parsing as pdl_parsing
 use Rattle.ml_pdl.specs.Signs as pdl_signs
 use Rattle.ml_pdl.specs.Text as pdl_text
-use Rattle.ml_text.specs.Items.{SignTable, bytes_of, is_word, items}
-use Rattle.ml_text.specs.Names.{Kind, KindedName, Proposition, Variable, Action, are_spelled, is_kind, of_kind}
+use Rattle.ml_text.specs.Items.{SignTable, bytes_of, items}
+use Rattle.ml_text.specs.Names.{KindedName, Proposition, Variable, Action, are_spelled, of_kind}
 use Rattle.ml_text.specs.Refusals.{signs_of}
 use Rattle.ml_text.specs.Signs.{Named, OwnSigns, sign_of}
 use Rattle.ml_text.specs.Tokens.{tokens, tokens_from}
-use Rattle.ml_text.specs.declared.named_signs.Sign.TheVariants.{Open, Lower, Added}
+use Rattle.ml_text.specs.declared.named_signs.Sign.TheVariants.{Open, Added}
 use Rattle.ml_text.specs.declared.token.Placed.{Placed}
 use Rattle.ml_text.proofs.NamedSigns.{IsSpelledSign, spelled_sign}
 use Rattle.ml_text.proofs.TableItems.{signs_all}
@@ -62,8 +62,8 @@ use Rattle.ml_written.specs.declared.written.Written.TheVariants.{Mu, Pdl, Ctl, 
 use Rattle.ml_written.specs.private.LowerWords.{is_lower_word, lower_places, words_of}
 use Rattle.ml_written.proofs.BoundedWords.{bounded_told}
 use Rattle.ml_written.proofs.CtlWords.{ctl_told}
-use Rattle.ml_written.proofs.FirstMissing.{LowProposition, Lows, lows_spelled}
-use Rattle.ml_written.proofs.LowerNames.{All, Starts, Tells, lower_of, lower_words, spelled_starts}
+use Rattle.ml_written.proofs.FirstMissing.{LowProposition, lows_spelled}
+use Rattle.ml_written.proofs.LowerNames.{All, Starts, Tells, lower_of, spelled_starts}
 use Rattle.ml_written.proofs.LowerTokens.{IsOf, Stands, bytes_sign, placed_sign, same_places, zipped}
 use Rattle.ml_written.proofs.MuWords.{mu_told}
 use Rattle.ml_written.proofs.PdlWords.{pdl_told}

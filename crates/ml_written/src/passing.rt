@@ -68,11 +68,7 @@ fn passed_name<V>(name: &Name, declared: &IndexMap<Name, V>, before: u32) -> Res
 }
 
 #[tactic(auto, using(crate::proofs::PassedNames::stops, crate::proofs::PassedNames::goes_on))]
-fn passed_mu<V>(
-    term: &ml_mu::Term,
-    declared: &IndexMap<Name, V>,
-    before: u32,
-) -> Result<u32, u32>
+fn passed_mu<V>(term: &ml_mu::Term, declared: &IndexMap<Name, V>, before: u32) -> Result<u32, u32>
     requires { before + mu_formula.occurrences (mu.formula_of term.now) ≤ most_occurrences }
     ensures value { result ≡ passed (keys declared.now) before (mu_names.names (mu.formula_of term.now)) }
     ensures small { IfOk result (λ n. n ≤ before + mu_formula.occurrences (mu.formula_of term.now)) }
@@ -96,11 +92,7 @@ fn passed_mu<V>(
 
 #[cycle(passing)]
 #[tactic(auto, using(crate::proofs::PassedNames::stops, crate::proofs::PassedNames::goes_on))]
-fn passed_pdl<V>(
-    term: &ml_pdl::Term,
-    declared: &IndexMap<Name, V>,
-    before: u32,
-) -> Result<u32, u32>
+fn passed_pdl<V>(term: &ml_pdl::Term, declared: &IndexMap<Name, V>, before: u32) -> Result<u32, u32>
     requires { before + pdl_formula.occurrences (pdl.formula_of term.now) ≤ most_occurrences }
     ensures value { result ≡ passed (keys declared.now) before (pdl_names.names (pdl.formula_of term.now)) }
     ensures small { IfOk result (λ n. n ≤ before + pdl_formula.occurrences (pdl.formula_of term.now)) }
@@ -113,7 +105,11 @@ fn passed_pdl<V>(
             passed_pdl(right, declared, passed_pdl(left, declared, before)?)
         }
         ml_pdl::Term::Modal(_, program, operand) => {
-            passed_pdl(operand, declared, passed_program(program, declared, before)?)
+            passed_pdl(
+                operand,
+                declared,
+                passed_program(program, declared, before)?,
+            )
         }
         ml_pdl::Term::Repeat(program) => passed_program(program, declared, before),
     }
@@ -141,11 +137,7 @@ fn passed_program<V>(
 }
 
 #[tactic(auto, using(crate::proofs::PassedNames::stops, crate::proofs::PassedNames::goes_on))]
-fn passed_ctl<V>(
-    term: &ml_ctl::Term,
-    declared: &IndexMap<Name, V>,
-    before: u32,
-) -> Result<u32, u32>
+fn passed_ctl<V>(term: &ml_ctl::Term, declared: &IndexMap<Name, V>, before: u32) -> Result<u32, u32>
     requires { before + ctl_formula.occurrences (ctl.formula_of term.now) ≤ most_occurrences }
     ensures value { result ≡ passed (keys declared.now) before (ctl_names.names (ctl.formula_of term.now)) }
     ensures small { IfOk result (λ n. n ≤ before + ctl_formula.occurrences (ctl.formula_of term.now)) }
