@@ -22,3 +22,7 @@ pub mod WellWritten
 pub mod OneAnswer
 -- the first proposition of a text that isn't declared
 pub mod FirstPlaced
+-- items with other signs
+pub mod HeldItems
+-- texts without bounded operators
+pub mod UnboundedTexts

@@ -80,7 +80,9 @@ one_written l text v w one other =
     let here = of_logic l v one.0 in
     let there = of_logic l w other.0 in
     here.1
-    ∙ ap (written l) ((answers l).parsed text here.0 there.0 (subst (IsWrittenAs text) here.1 one.1) (subst (IsWrittenAs text) there.1 other.1))
+    ∙ ap (written l)
+    ((answers l).parsed text here.0 there.0 (subst (IsWrittenAs text) here.1 one.1)
+    (subst (IsWrittenAs text) there.1 other.1))
     ∙ sym there.1
 
 none_refused : (l : Logic) (text : List ℕ) (w : Written) (e : ParseRefusal)

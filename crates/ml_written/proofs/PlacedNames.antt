@@ -1,5 +1,8 @@
 -- The propositions of a formula stand in its text, each at the place that is told of it.
 --
+--   AreIn l text ks xs      == the words of the text that begin in lower case stand at the places ks, and are those of the
+--                              names xs
+--   IsBy own text p s       == as far as words go, s is the sign that the token is by itself
 --   AreFound text w         == the words of the text that begin in lower case stand at the places of w and are its names, and
 --                              its propositions begin so
 --   found                   == so it is of what is written
@@ -10,6 +13,7 @@
 --   bytes_at                == and there the text has their bytes
 use Rattle.std.proofs.Common.{◌≡◌, ◌↔◌, ℕ, Bool, true, false, List, [], ◌∷◌, map, length, take, drop, cond, inl, inr, refl, sym, ap, subst, ◌∙◌}
 use Rattle.std.specs.List.{AllByRecursion, AllZip, zip}
+use Rattle.std.proofs.lemmas.Bool.{cond-true}
 use Rattle.std.proofs.lemmas.List.{append-nil}
 use Rattle.ml_lists.specs.Member.{IsMember}
 use Rattle.ml_lists.proofs.Member.{member-filter, member-filter_from}
@@ -45,7 +49,7 @@ use Rattle.ml_pdl.specs.Parsing as pdl_parsing
 use Rattle.ml_pdl.specs.Signs as pdl_signs
 use Rattle.ml_pdl.specs.Text as pdl_text
 use Rattle.ml_text.specs.Items.{SignTable, bytes_of, items}
-use Rattle.ml_text.specs.Names.{KindedName, Proposition, Variable, Action, are_spelled, of_kind}
+use Rattle.ml_text.specs.Names.{Kind, KindedName, Proposition, Variable, Action, are_spelled, is_kind, of_kind}
 use Rattle.ml_text.specs.Refusals.{signs_of}
 use Rattle.ml_text.specs.Signs.{Named, OwnSigns, sign_of}
 use Rattle.ml_text.specs.Tokens.{tokens, tokens_from}
@@ -207,23 +211,43 @@ module _ (Q : ℕ → List ℕ → Type 0) where
   zip_stands k x (j ∷ ks) (y ∷ ys) all (inl same) = subst (λ (z : ℕ × KindedName). Q z.0 (z.1).1) (sym same) all.0
   zip_stands k x (j ∷ ks) (y ∷ ys) all (inr m) = zip_stands k x ks ys all.1 m
 
-pub kind_member : (p : List ℕ) (xs : List KindedName) → IsMember p (of_kind Proposition xs) → IsMember (Proposition, p) xs
-kind_member p [] m = absurd m
-kind_member p ((Proposition, w) ∷ xs) (inl same) = inl (ap (λ v. (Proposition, v)) same)
-kind_member p ((Proposition, w) ∷ xs) (inr m) = inr (kind_member p xs m)
-kind_member p ((Variable, w) ∷ xs) m = inr (kind_member p xs m)
-kind_member p ((Action, w) ∷ xs) m = inr (kind_member p xs m)
+kept_member : (k l : Kind) (p w : List ℕ) (ws : List (List ℕ)) (xs : List KindedName)
+    → (IsMember p ws → IsMember (k, p) xs)
+    → IsMember p (cond (is_kind k l) (w ∷ ws) ws)
+    → IsMember (k, p) ((l, w) ∷ xs)
+kept_member Proposition Proposition p w ws xs later (inl same) = inl (ap (λ v. (Proposition, v)) same)
+kept_member Proposition Proposition p w ws xs later (inr m) = inr (later m)
+kept_member Variable Variable p w ws xs later (inl same) = inl (ap (λ v. (Variable, v)) same)
+kept_member Variable Variable p w ws xs later (inr m) = inr (later m)
+kept_member Action Action p w ws xs later (inl same) = inl (ap (λ v. (Action, v)) same)
+kept_member Action Action p w ws xs later (inr m) = inr (later m)
+kept_member Proposition Variable p w ws xs later m = inr (later m)
+kept_member Proposition Action p w ws xs later m = inr (later m)
+kept_member Variable Proposition p w ws xs later m = inr (later m)
+kept_member Variable Action p w ws xs later m = inr (later m)
+kept_member Action Proposition p w ws xs later m = inr (later m)
+kept_member Action Variable p w ws xs later m = inr (later m)
 
-pub member_kind : (p : List ℕ) (xs : List KindedName) → IsMember (Proposition, p) xs → IsMember p (of_kind Proposition xs)
-member_kind p [] m = absurd m
-member_kind p ((Proposition, w) ∷ xs) (inl same) = inl (ap (λ (x : KindedName). x.1) same)
-member_kind p ((Proposition, w) ∷ xs) (inr m) = inr (member_kind p xs m)
-member_kind p ((Variable, w) ∷ xs) (inl same) =
-    let one : Proposition ≡ Variable = ap (λ (x : KindedName). x.0) same in absurd (cc)
-member_kind p ((Variable, w) ∷ xs) (inr m) = member_kind p xs m
-member_kind p ((Action, w) ∷ xs) (inl same) =
-    let one : Proposition ≡ Action = ap (λ (x : KindedName). x.0) same in absurd (cc)
-member_kind p ((Action, w) ∷ xs) (inr m) = member_kind p xs m
+pub kind_member : (k : Kind) (p : List ℕ) (xs : List KindedName) → IsMember p (of_kind k xs) → IsMember (k, p) xs
+kind_member k p [] m = absurd m
+kind_member k p (x ∷ xs) m = kept_member k x.0 p x.1 (of_kind k xs) xs (kind_member k p xs) m
+
+-- a name is of its own kind
+own_kind : (k : Kind) → is_kind k k ≡ true
+own_kind Proposition = refl
+own_kind Variable = refl
+own_kind Action = refl
+
+member_behind : (b : Bool) (p w : List ℕ) (ws : List (List ℕ)) → IsMember p ws → IsMember p (cond b (w ∷ ws) ws)
+member_behind true p w ws m = inr m
+member_behind false p w ws m = m
+
+pub member_kind : (k : Kind) (p : List ℕ) (xs : List KindedName) → IsMember (k, p) xs → IsMember p (of_kind k xs)
+member_kind k p [] m = absurd m
+member_kind k p (x ∷ xs) (inl same) =
+    subst (λ (y : KindedName). IsMember p (of_kind k (y ∷ xs))) same
+    (subst (IsMember p) (sym (cond-true (is_kind k k) (p ∷ of_kind k xs) (of_kind k xs) (own_kind k))) (inl refl))
+member_kind k p (x ∷ xs) (inr m) = member_behind (is_kind k x.0) p x.1 (of_kind k xs) (member_kind k p xs m)
 
 low_member : (p : List ℕ) (xs : List KindedName)
     → AllByRecursion LowProposition xs
@@ -237,11 +261,11 @@ pub propositions_placed : (text : List ℕ) (w : Written) (p : List ℕ)
     → IsWrittenAs text w
     → IsMember p (propositions w) ↔ ((k : ℕ) × IsPropositionAt text w k p)
 propositions_placed text w p is = (
-  λ m. let member = kind_member p (names w) m in
+  λ m. let member = kind_member Proposition p (names w) m in
       member_zip (Stands text) (Proposition, p) (places text w) (lower_names (names w)) in_text.stand
       (member-filter (λ (x : KindedName). begins_lower x.1) (Proposition, p) (names w) member
       (low_member p (names w) in_text.lows member)),
-  λ at. member_kind p (names w)
+  λ at. member_kind Proposition p (names w)
       (member-filter_from (λ (x : KindedName). begins_lower x.1) (Proposition, p) (names w)
       (zip_member at.0 (Proposition, p) (places text w) (lower_names (names w)) at.1)).0,
 )

@@ -4,8 +4,9 @@ ghost use Rattle.ml_text.specs.Answers.{HaveOneAnswer};
 ghost use Rattle.ml_text.specs.Limits.{most_occurrences};
 ghost use Rattle.ml_lists.specs.Member.{IsMember};
 ghost use Rattle.ml_front.specs.Connectives.{occurrences};
-ghost use Rattle.ml_front.specs.Logics.{logic_of};
+ghost use Rattle.ml_front.specs.Logics.{IsParsedAs, logic_of};
 ghost use Rattle.ml_front.specs.WellFormed.{IsWellFormed};
+ghost use Rattle.ml_front.specs.declared.problem.AnyFormula as any;
 ghost use Rattle.ml_written.specs.Places.{IsPropositionAt};
 ghost use Rattle.ml_written.specs.Propositions.{propositions};
 ghost use Rattle.ml_written.specs.Written.{IsRefusedIn, IsWrittenAs, meaning, written_logic};
@@ -39,4 +40,12 @@ pub fn propositions_have_places()
         → IsWrittenAs text w
         → IsPropositionAt text w k p
         → take (length p) (drop k text) ≡ p }
+{}
+
+/// A text that stands for a formula of a logic where bounded operators aren't read is written as one that means this formula.
+#[tactic(auto, using(crate::proofs::UnboundedTexts::means_the_same))]
+pub fn texts_mean_the_same()
+    ensures { (text : List ℕ) (f : any.AnyFormula)
+        → IsParsedAs text f
+        → (w : declared.Written) × IsWrittenAs text w × (meaning w ≡ f) }
 {}

@@ -2,7 +2,7 @@
 //
 // Names that begin with a lower-case letter are counted, actions too. What comes back is how many there are behind all names
 // (`Ok`), or before the first proposition that isn't declared (`Err`).
-ghost use Rattle.std.specs.Prelude.{◌≡◌, ◌+◌, ◌≤◌, ℕ, IfOk, Result};
+ghost use Rattle.std.specs.Prelude.{◌≡◌, ◌+◌, ◌≤◌, IfOk};
 ghost use Rattle.ml_bounded.specs.Formula as bounded_formula;
 ghost use Rattle.ml_bounded.specs.FormulaNames as bounded_names;
 ghost use Rattle.ml_bounded.specs.Term as bounded;
@@ -17,7 +17,6 @@ ghost use Rattle.ml_pdl.specs.FormulaNames as pdl_names;
 ghost use Rattle.ml_pdl.specs.Term as pdl;
 ghost use Rattle.ml_text.specs.Limits.{most_occurrences};
 ghost use Rattle.indexmap.specs.IndexMap.{keys};
-ghost use Rattle.ml_written.specs.Places.{begins_lower};
 ghost use Rattle.ml_written.specs.Propositions.{names};
 ghost use Rattle.ml_written.specs.private.Passing.{counted, declares, passed, passed_name};
 

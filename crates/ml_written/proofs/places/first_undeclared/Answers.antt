@@ -11,5 +11,5 @@ returns-in-Ok g c =
 
 pub returns-in-Err : goal.returns-in-Err
 returns-in-Err g c =
-    placed_first (keys c.args.declared.now) c.args.text.now c.args.written.now c.in-Err.number c.logic_of.result c.place_of.result
-    c.requires (sym c.in-Err.is ∙ c.passed.ensures) c.logic_of.ensures c.place_of.ensures
+    placed_first (keys c.args.declared.now) c.args.text.now c.args.written.now c.in-Err.number c.logic_of.result
+    c.place_of.result c.requires (sym c.in-Err.is ∙ c.passed.ensures) c.logic_of.ensures c.place_of.ensures
