@@ -7,16 +7,16 @@ ghost use Rattle.ml_spec.specs.Joined.{requirements};
 ghost use Rattle.ml_spec.specs.Questions.{asking};
 ghost use Rattle.ml_replies.specs.Meeting.{everything};
 ghost use Rattle.ml_replies.specs.Replies.{AreConflicts, AreOfAll, AreReplies};
-ghost use Rattle.ml_ask.specs.Answers.{replied_of};
+ghost use Rattle.ml_replies.specs.Answers.{replied_of};
 ghost use Rattle.ml_ask.specs.private.Steps.{AreAnswered, IsAdded, IsAnswerTo, IsAsked, IsRestOf};
 
-use crate::answer::{Answer, Answered};
 use crate::asked::Asked;
 use crate::leaving::needed;
 use crate::seeking::seek;
 use crate::sets::{for_all, left_beside};
 use crate::sought::Sought;
 use ml_base::NoMemory;
+use ml_replies::{Answer, Answered};
 use ml_spec::{Item, Question, Specification};
 use std::alloc::Global;
 

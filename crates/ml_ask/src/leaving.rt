@@ -7,13 +7,13 @@ ghost use Rattle.ml_spec.specs.Questions.{is_in};
 ghost use Rattle.ml_replies.specs.Meeting.{without};
 ghost use Rattle.ml_ask.specs.private.Steps.{ArePartsOf, IsAsked, IsCoreOf, IsLook, IsRefuted, IsSmaller};
 
-use crate::answer::{Core, Part, Without};
 use crate::asked::Asked;
 use crate::deciding::{Judged, judge};
 use crate::sets::left_out;
 use crate::sought::Refuted;
 use ml_base::NoMemory;
 use ml_refutation::Refutation;
+use ml_replies::{Core, Part, Without};
 use std::alloc::Global;
 
 /// The requirements of these that are needed, with what is known without each of them.

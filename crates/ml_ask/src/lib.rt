@@ -5,8 +5,7 @@
 // one question: has some structure a state at which the joined formula of requirements and a question holds?
 //
 // An answer is a structure for all requirements of which the question is asked; or some that have none, with a refutation, and
-// for each of them a structure for the others; or it stays open. What answers say as plain values stands in `ml_replies`, and
-// how those of this crate are read as such in `specs/Answers.antt`.
+// for each of them a structure for the others; or it stays open. Answers and what they say stand in `ml_replies`.
 //
 // Inside, `seeking` looks for a structure of all requirements: by `earlier` answers; by `searching`, one search with all
 // formulas at once, of which nothing is claimed; by `narrowing`, with few of them first; and at last with all together.
@@ -16,7 +15,6 @@
 // (`ml_decide`) and the search with all formulas at once (`ml_joined_graph`).
 #![tactic(auto)]
 
-mod answer;
 mod asked;
 mod asking;
 mod copying;
@@ -29,5 +27,4 @@ mod seeking;
 mod sets;
 mod sought;
 
-pub use answer::{Answer, Answered, Core, Part, Without};
 pub use asking::ask;

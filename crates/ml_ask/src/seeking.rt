@@ -6,7 +6,6 @@ ghost use Rattle.std.specs.Prelude.{IfOk};
 ghost use Rattle.ml_spec.specs.Questions.{is_in};
 ghost use Rattle.ml_ask.specs.private.Steps.{AreProblemsOf, AreRefutedBy, IsAsked, IsSought};
 
-use crate::answer::Answered;
 use crate::asked::Asked;
 use crate::deciding::{Judged, judge};
 use crate::earlier::seek_earlier;
@@ -16,7 +15,7 @@ use crate::sought::{Refuted, Sought};
 use ml_base::NoMemory;
 use ml_front::Problem;
 use ml_refutation::Refutation;
-use ml_replies::problems_of;
+use ml_replies::{Answered, problems_of};
 use std::alloc::Global;
 
 /// A structure for all requirements of which the question is asked, or some that have none; or it stays open.
