@@ -19,6 +19,11 @@ impl Hints {
     }
 
     /// Keeps a structure for requirements without the one with this number.
+    ///
+    /// # Errors
+    /// `NoMemory` alone.
+    ///
+    /// Cost: linear in the number, where it is the greatest so far, and else constant.
     pub(crate) fn keep(&mut self, number: usize, model: Model) -> Result<(), NoMemory> {
         for _ in self.models.len()..=number {
             self.models.push(None)?;
