@@ -29,11 +29,11 @@ use Rattle.ml_answers.specs.Laws.{AnswersAreRight, AreSettled, IsOf, IsSettledRe
 use Rattle.ml_answers.specs.Texts.{first_line, line_count, one_text}
 use Rattle.ml_answers.specs.declared.finding.AnswersFinding.{AnswersFinding}
 use Rattle.ml_answers.specs.declared.finding.AnswersFinding.TheVariants.{OpenAt, Right}
+use Rattle.ml_answers.proofs.AnswerTexts.{as_many}
 use Rattle.ml_answers.proofs.CleanedCores.{block_cleaned, cleaned, cleaned_reply}
 use Rattle.ml_answers.proofs.Found.{found_from}
 use Rattle.ml_answers.proofs.NeverWrong.{never_fails, never_refuted}
 use Rattle.ml_answers.proofs.RightAnswers.{asking_both}
-use Rattle.ml_answers.proofs.RightIsTrue.{as_many}
 use Rattle.ml_answers.proofs.StandingAnswers.{all_go, GoesOn, IsAnswered}
 use Rattle.ml_answers.proofs.TitleFirst.{title_behind}
 

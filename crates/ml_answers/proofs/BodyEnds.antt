@@ -18,6 +18,7 @@ use Rattle.ml_lines.specs.Lines.{Line, Word, number, text_of}
 use Rattle.ml_lines.specs.Reading.{is_line_end, left_of, lines_of, words_of}
 use Rattle.ml_lines.proofs.Cuts.{line_at, line_none}
 use Rattle.ml_lines.proofs.WrittenLines.{lines_read, text_read}
+use Rattle.ml_lists.proofs.Entries.{same_head, same_tail}
 use Rattle.ml_answers.specs.Documents.{last_line}
 use Rattle.ml_answers.specs.Texts.{line_from, up_to_end, up_to_line_at}
 use Rattle.ml_answers.proofs.FirstLines.{first_in_line, line_passed, text_at}
@@ -27,15 +28,9 @@ abbrev pub IsEnded : List Line → Type 0
 IsEnded [] = ⊥
 IsEnded (line ∷ lines) = ((line ≡ last_line) × (lines ≡ [])) ⊎ ((line ≢ last_line) × IsEnded lines)
 
-pub head_same : {X : Type 0} (x y : X) (xs ys : List X) → x ∷ xs ≡ y ∷ ys → x ≡ y
-head_same x y xs ys e = cc
-
-pub tail_same : {X : Type 0} (x y : X) (xs ys : List X) → x ∷ xs ≡ y ∷ ys → xs ≡ ys
-tail_same x y xs ys e = cc
-
 -- `end` has three letters
 pub not_last : (w : Word) (ws : Line) → (length w == 3) ≡ false → (w ∷ ws) ≢ last_line
-not_last w ws other e = false≢true (sym other ∙ ap (λ v. length v == 3) (head_same w (codes "end") ws [] e))
+not_last w ws other e = false≢true (sym other ∙ ap (λ v. length v == 3) (same_head w (codes "end") ws [] e))
 
 -- ---- the line that is found
 
@@ -49,11 +44,11 @@ module _ (text : List ℕ) (i : ℕ) (there : position is_line_end text ≡ Some
     (are : lines_of text ≡ line ∷ lines) (none : left_of text ≡ []) where
   first_words : words_of (take i text) ≡ line
   first_words =
-      head_same (words_of (take i text)) line (lines_of (drop (i + 1) text)) lines (sym (line_at text i there).0 ∙ are)
+      same_head (words_of (take i text)) line (lines_of (drop (i + 1) text)) lines (sym (line_at text i there).0 ∙ are)
 
   later_lines : lines_of (drop (i + 1) text) ≡ lines
   later_lines =
-      tail_same (words_of (take i text)) line (lines_of (drop (i + 1) text)) lines (sym (line_at text i there).0 ∙ are)
+      same_tail (words_of (take i text)) line (lines_of (drop (i + 1) text)) lines (sym (line_at text i there).0 ∙ are)
 
   later_none : left_of (drop (i + 1) text) ≡ []
   later_none = sym (line_at text i there).1 ∙ none

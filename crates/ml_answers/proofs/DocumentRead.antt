@@ -10,12 +10,10 @@
 --   other_begin, other_skip, other_more, other_end, other_fault == the further questions
 --   end_missing, end_followed, end_taken, read_whole, end_fault == `end`
 --   title_taken, no_title, behind_title, fault_behind_title == the title
-use Rattle.std.proofs.Common.{◌≡◌, ◌≢◌, ℕ, suc, ◌+◌, ◌<◌, ◌≤◌, ◌⊎◌, ◌&&◌, ◌||◌, Bool, true, false, not, cond, List, [], ◌∷◌, ◌++◌, codes, length, map, drop, filter, get_or, replicate, inl, inr, refl, sym, ap, subst, ◌∙◌, arith}
-use Rattle.std.specs.Prelude.{⊤}
+use Rattle.std.proofs.Common.{◌≡◌, ◌≢◌, ℕ, ◌+◌, ◌<◌, ◌≤◌, ◌&&◌, ◌||◌, Bool, true, false, not, cond, List, [], ◌∷◌, ◌++◌, codes, length, map, drop, filter, replicate, inl, inr, refl, sym, ap, subst, ◌∙◌, arith}
 use Rattle.std.specs.List.{join_with_byte, list_any}
 use Rattle.std.proofs.lemmas.Bool.{false≢true}
-use Rattle.std.proofs.lemmas.List.{append-nil, append_assoc, drop_all, drop_more, get_or-replicate, length-append, map-append}
-use Rattle.ml_base.specs.declared.doc_fault.DocFault.{DocFault}
+use Rattle.std.proofs.lemmas.List.{append-nil, append_assoc, drop_all, get_or-replicate, length-append, map-append}
 use Rattle.ml_base.specs.declared.doc_refusal.DocRefusal.{DocRefusal}
 use Rattle.ml_base.specs.declared.doc_refusal.DocRefusal.TheVariants as refusal
 use Rattle.ml_front.specs.declared.problem.AnyFormula.{AnyFormula}
@@ -29,26 +27,27 @@ use Rattle.ml_spec.specs.Questions.{asking, asking_from, is_in}
 use Rattle.ml_spec.specs.declared.question.Question.{Question}
 use Rattle.ml_spec.specs.declared.question.Question.TheVariants.{Consistent, Rest, Asks}
 use Rattle.ml_spec.specs.declared.specification.Item.{Item}
-use Rattle.ml_replies.specs.Meeting.{beside, everything}
+use Rattle.ml_replies.specs.Answers.{reply_of}
+use Rattle.ml_replies.specs.Meeting.{everything}
 use Rattle.ml_replies.specs.Replies.{Replied, Reply, LeftOpen, Met, Unmet}
 use Rattle.ml_answers.specs.Checked.{lines_from, AreTexts}
 use Rattle.ml_answers.specs.Documents.{last_line, title_line, AreBlocks, IsBlock, IsBody}
-use Rattle.ml_answers.specs.Due.{asked_of, begun, due_behind, is_of_conflict, rest_behind, with_consistency, AreAll, Due, Fits, LeadTo, MayStand}
+use Rattle.ml_answers.specs.Due.{asked_of, begun, is_of_conflict, rest_behind, with_consistency, Due, Fits, LeadTo, MayStand}
 use Rattle.ml_answers.specs.Due as due
 use Rattle.ml_answers.specs.Lines.{line_of, question_words}
 use Rattle.ml_answers.specs.RuleNumbers.{rule_number}
-use Rattle.ml_answers.specs.Rules.{answer_rules, fixed_rules, replied, IsAnswerFault, IsAnswerLine, IsAnswersFault, IsBehind, IsBodyFault, IsDueFault, IsEndFault, IsLineFault, IsMore}
+use Rattle.ml_answers.specs.Rules.{answer_rules, fixed_rules, replied, IsAnswerFault, IsAnswersFault, IsBehind, IsBodyFault, IsDueFault, IsEndFault, IsLineFault, IsMore}
 use Rattle.ml_answers.specs.Texts.{first_of, line_count, next_line, one_text, IsLine, IsThen}
 use Rattle.ml_answers.specs.declared.line.ToldLine.{ToldLine}
 use Rattle.ml_answers.specs.declared.rest.Rest as declared
 use Rattle.ml_answers.specs.declared.rule.AnswersRule.TheVariants.{OfKind}
 use Rattle.ml_answers.specs.declared.stated.Stated.{Stated}
-use Rattle.ml_answers.specs.private.Plain as plain
 use Rattle.ml_answers.specs.private.Plain.{replied_of, replies_of}
 use Rattle.ml_answers.specs.private.Reads.{AreRead, AreReadBehind, HasRoom, IsConflict, IsFaultBehind, IsMadeOf, IsNext, IsReadTo, IsReadUpTo, IsTold, Takes, TellsFault}
 use Rattle.ml_answers.specs.private.Words.{Agrees}
+use Rattle.ml_answers.proofs.AnswerTexts.{blocks_of, lines_more, one_text_more, texts_more}
 use Rattle.ml_answers.proofs.AnswerLines.{made_fits, not_of_kind, some_made}
-use Rattle.ml_answers.proofs.Reading.{count_append, fault_as, fault_behind, other_line, takes_as, takes_both, told_here}
+use Rattle.ml_answers.proofs.Reading.{count_append, fault_as, fault_behind, other_line, takes_both, told_here}
 
 -- ---- one answer
 
@@ -118,39 +117,6 @@ shorter line at mid rest P next takes =
 
 -- ---- what is read
 
-texts_blocks : (xs : List Item) (rs : List Replied) (ts : List (List ℕ)) → AreTexts xs rs ts → AreBlocks xs rs (one_text ts)
-texts_blocks xs [] [] are = refl
-texts_blocks xs [] (t ∷ ts) are = absurd are
-texts_blocks xs (r ∷ rs) [] are = absurd are
-texts_blocks xs (r ∷ rs) (t ∷ ts) are = record {
-  first = t;
-  second = one_text ts;
-  are_both = refl;
-  is_first = are.0;
-  is_second = texts_blocks xs rs ts are.1;
-}
-
-texts_more : (xs : List Item) (rs : List Replied) (ts : List (List ℕ)) (r : Replied) (t : List ℕ)
-    → AreTexts xs rs ts
-    → IsBlock xs r t
-    → AreTexts xs (rs ++ r ∷ []) (ts ++ t ∷ [])
-texts_more xs [] [] r t are is = (is, tt)
-texts_more xs [] (u ∷ ts) r t are is = absurd are
-texts_more xs (s ∷ rs) [] r t are is = absurd are
-texts_more xs (s ∷ rs) (u ∷ ts) r t are is = (are.0, texts_more xs rs ts r t are.1 is)
-
-one_text_more : (ts : List (List ℕ)) (t : List ℕ) → one_text (ts ++ t ∷ []) ≡ one_text ts ++ t
-one_text_more [] t = append-nil t
-one_text_more (u ∷ ts) t = ap (λ v. u ++ v) (one_text_more ts t) ∙ sym (append_assoc u (one_text ts) t)
-
-lines_more : (k : ℕ) (ts : List (List ℕ)) (t : List ℕ)
-    → lines_from k (ts ++ t ∷ []) ≡ lines_from k ts ++ (k + line_count (one_text ts)) ∷ []
-lines_more k [] t = let same : k ≡ k + 0 = omega arith in ap (λ n. n ∷ []) same
-lines_more k (u ∷ ts) t =
-    let same : k + line_count u + line_count (one_text ts) ≡ k + line_count (u ++ one_text ts) =
-    omega (arith, count_append u (one_text ts)) in
-    ap (λ ks. k ∷ ks) (lines_more (k + line_count u) ts t ∙ ap (λ n. lines_from (k + line_count u) ts ++ n ∷ []) same)
-
 lead_more : (xs : List Item) (d e : Due) (rs : List Replied) (r : Replied)
     → LeadTo xs d rs e
     → MayStand xs e r
@@ -214,7 +180,7 @@ module _ (xs : List Item) (at : declared.Rest) (stated : List Stated) (rest : de
       front = one_text is.texts;
       rest = rest.text.now;
       are_both = is.are_both;
-      is_front = texts_blocks xs (replies_of stated) is.texts is.are_texts;
+      is_front = blocks_of xs (replies_of stated) is.texts is.are_texts;
       is_fault = subst (λ k. IsDueFault xs d k rest.text.now fault) is.is_line tells;
     };
   }
@@ -336,37 +302,37 @@ module _ (xs : List Item) (at : declared.Rest) (stated : List Stated) (rest : de
 
   module _ (s : Stated) (end : declared.Rest)
       (is_question : s.question ≡ q)
-      (fits : (S : ℕ → Bool) → Agrees xs S among → Fits xs S q (plain.reply_of s.statement))
+      (fits : (S : ℕ → Bool) → Agrees xs S among → Fits xs S q (reply_of s.statement))
       (line : s.line ≡ rest.line)
-      (takes : Takes (IsBlock xs (replied q (plain.reply_of s.statement))) rest end) where
-    same : replied_of s ≡ replied q (plain.reply_of s.statement)
-    same = ap (λ k. replied k (plain.reply_of s.statement)) is_question
+      (takes : Takes (IsBlock xs (replied q (reply_of s.statement))) rest end) where
+    same : replied_of s ≡ replied q (reply_of s.statement)
+    same = ap (λ k. replied k (reply_of s.statement)) is_question
 
     more : IsReadTo xs at (stated ++ s ∷ []) end
-        (due.behind (record { rest = is.left; questions = q ∷ asking xs }) (replied q (plain.reply_of s.statement)))
+        (due.behind (record { rest = is.left; questions = q ∷ asking xs }) (replied q (reply_of s.statement)))
     more =
         subst (λ r. IsReadTo xs at (stated ++ s ∷ []) end (due.behind (record { rest = is.left; questions = q ∷ asking xs }) r))
         same
         (read_more xs at stated rest (record { rest = is.left; questions = q ∷ asking xs }) is.is_read s end (
           is_question,
-          subst (λ S. Fits xs S q (plain.reply_of s.statement)) (sym (asked_left q is.of_conflict))
+          subst (λ S. Fits xs S q (reply_of s.statement)) (sym (asked_left q is.of_conflict))
               (fits is.left is.agrees),
         )
         line
         (subst (λ r. Takes (IsBlock xs r) rest end) (sym same) takes))
 
     pub conflict_more : (later : List Bool)
-        → IsConflict true (plain.reply_of s.statement)
+        → IsConflict true (reply_of s.statement)
         → length later ≡ length among
-        → ((k : ℕ) → is_in later k ≡ rest_behind (is_in among) Rest (plain.reply_of s.statement) k)
+        → ((k : ℕ) → is_in later k ≡ rest_behind (is_in among) Rest (reply_of s.statement) k)
         → HasRoom end
         → InConflicts xs at (stated ++ s ∷ []) end Rest later
     conflict_more later conflict told now room = record {
-      left = rest_behind is.left Rest (plain.reply_of s.statement);
+      left = rest_behind is.left Rest (reply_of s.statement);
       is_read =
           subst (IsReadTo xs at (stated ++ s ∷ []) end)
-          (behind_conflict q (plain.reply_of s.statement) is.of_conflict conflict) more;
-      agrees = left_agrees (plain.reply_of s.statement) now;
+          (behind_conflict q (reply_of s.statement) is.of_conflict conflict) more;
+      agrees = left_agrees (reply_of s.statement) now;
       of_conflict = refl;
       told = told ∙ is.told;
       has_room = room;
@@ -380,13 +346,13 @@ module _ (xs : List Item) (at : declared.Rest) (stated : List Stated) (rest : de
         left_agrees (Unmet c) now = λ k low.
             ap (λ b. b && not (is_in c.taken k)) (is.agrees k low) ∙ sym (now k)
 
-    pub conflict_last : IsConflict false (plain.reply_of s.statement)
+    pub conflict_last : IsConflict false (reply_of s.statement)
         → IsReadUpTo xs at (stated ++ s ∷ []) end (asking xs)
     conflict_last conflict = record {
       among = is.left;
       is_read =
           subst (IsReadTo xs at (stated ++ s ∷ []) end)
-          (behind_other q (plain.reply_of s.statement) is.of_conflict conflict) more;
+          (behind_other q (reply_of s.statement) is.of_conflict conflict) more;
     }
 
 -- ---- the further questions
@@ -442,15 +408,15 @@ module _ (xs : List Item) (at : declared.Rest) (stated : List Stated) (rest : de
       → is_requirement x.kind ≡ false
       → Others
       → s.question ≡ Asks n
-      → Fits xs everything (Asks n) (plain.reply_of s.statement)
+      → Fits xs everything (Asks n) (reply_of s.statement)
       → s.line ≡ rest.line
-      → Takes (IsBlock xs (replied (Asks n) (plain.reply_of s.statement))) rest end
+      → Takes (IsBlock xs (replied (Asks n) (reply_of s.statement))) rest end
       → IsReadUpTo xs at (stated ++ s ∷ []) end (asking_from (n + 1) (drop (n + 1) xs))
   other_more x s end is_next required others is_question fits line takes =
       let read = next_due x is_next required others in
       let d : Due = record { rest = read.among; questions = Asks n ∷ asking_from (n + 1) (drop (n + 1) xs) } in
-      let same : replied_of s ≡ replied (Asks n) (plain.reply_of s.statement) =
-      ap (λ k. replied k (plain.reply_of s.statement)) is_question in
+      let same : replied_of s ≡ replied (Asks n) (reply_of s.statement) =
+      ap (λ k. replied k (reply_of s.statement)) is_question in
       record {
         among = read.among;
         is_read =

@@ -1,56 +1,33 @@
 -- Texts cut at their lines.
 --
---   parts_in_line   == what is cut at the LFs of a text has none
---   first_in_line   == nor has what stands before its first LF
---   none_in_line    == nor a text in which none is found
+--   first_in_line   == what stands before the first LF of a text has none
+--   none_in_line    == nor has a text in which none is found
 --   text_at         == a text is what stands before its first LF, an LF, and the rest
 --   line_passed     == a search for a line compares the first one, and goes on behind it
 --   no_line         == it finds none where there is no LF
 --   found_within    == it finds a whole line
-use Rattle.std.proofs.Common.{◌≡◌, ℕ, ◌+◌, ◌<◌, ◌≤◌, Bool, true, false, ◌||◌, cond, List, [], ◌∷◌, ◌++◌, Option, None, Some, length, take, drop, get_or, position, refl, sym, ap, subst, ◌∙◌, arith}
-use Rattle.std.specs.List.{slice_split, AllByRecursion, list_any, onto_first, count_by}
+use Rattle.std.proofs.Common.{◌≡◌, ℕ, ◌+◌, ◌≤◌, Bool, true, false, cond, List, [], ◌∷◌, ◌++◌, None, Some, length, take, drop, get_or, position, refl, sym, ap, subst, ◌∙◌, arith}
+use Rattle.std.specs.List.{AllByRecursion, list_any}
 use Rattle.std.specs.Str.{bytes_eq}
 use Rattle.std.proofs.lemmas.Bool.{or_parts}
 use Rattle.std.proofs.lemmas.Bool.Decides.{nat_tests}
 use Rattle.std.proofs.lemmas.List.{append-nil, append_assoc, length-append, length-drop, length-take-le, take-append-drop, drop_more}
 use Rattle.std.proofs.lemmas.List.Quantifiers.{position-Some}
-use Rattle.std.proofs.lemmas.List.Splits.{slice_split-cons_yes, slice_split-cons_no}
 use Rattle.std.proofs.lemmas.Option.{none-some}
 use Rattle.std.proofs.lemmas.Slice.Eq.{bytes_eq-Decides}
 use Rattle.ml_lines.specs.Reading.{is_line_end}
 use Rattle.ml_lines.proofs.Cuts.{cut_at, cut_none}
-use Rattle.ml_lines.proofs.LineFronts.{IsInLine}
-use Rattle.ml_answers.specs.Texts.{first_line, line_from, up_to_end}
+use Rattle.ml_lines.proofs.LineFronts.{parts_plain, IsInLine}
+use Rattle.ml_answers.specs.Texts.{line_from}
 
--- ---- parts without an LF
-
-onto_plain : (x : ℕ) (parts : List (List ℕ))
-    → is_line_end x ≡ false
-    → AllByRecursion IsInLine parts
-    → AllByRecursion IsInLine (onto_first x parts)
-onto_plain x [] other all = (ap (λ b. b || false) other, tt)
-onto_plain x (part ∷ parts) other all = (ap (λ b. b || list_any is_line_end part) other ∙ all.0, all.1)
-
--- belongs in ml_lines, which has it without `pub`
-pub parts_in_line : (text : List ℕ) → AllByRecursion IsInLine (slice_split is_line_end text)
-parts_in_line [] = (refl, tt)
-parts_in_line (x ∷ xs) = go (is_line_end x) refl (parts_in_line xs)
-  where
-    go : (b : Bool)
-        → is_line_end x ≡ b
-        → AllByRecursion IsInLine (slice_split is_line_end xs)
-        → AllByRecursion IsInLine (slice_split is_line_end (x ∷ xs))
-    go true is rest = subst (AllByRecursion IsInLine) (sym (slice_split-cons_yes is_line_end x xs is)) (refl, rest)
-    go false is rest =
-        subst (AllByRecursion IsInLine) (sym (slice_split-cons_no is_line_end x xs is))
-        (onto_plain x (slice_split is_line_end xs) is rest)
+-- ---- the first line
 
 pub first_in_line : (text : List ℕ) (i : ℕ) → position is_line_end text ≡ Some i → IsInLine (take i text)
 first_in_line text i some =
-    (subst (AllByRecursion IsInLine) (cut_at is_line_end text i some).1 (parts_in_line text)).0
+    (subst (AllByRecursion IsInLine) (cut_at is_line_end text i some).1 (parts_plain text)).0
 
 pub none_in_line : (text : List ℕ) → position is_line_end text ≡ None → IsInLine text
-none_in_line text none = (subst (AllByRecursion IsInLine) (cut_none is_line_end text none) (parts_in_line text)).0
+none_in_line text none = (subst (AllByRecursion IsInLine) (cut_none is_line_end text none) (parts_plain text)).0
 
 is_lf : (b : ℕ) → is_line_end b ≡ true → b ≡ 10
 is_lf b is = grind (arith, nat_tests)

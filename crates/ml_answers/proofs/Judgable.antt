@@ -1,54 +1,31 @@
 -- What is read answers questions of the specification.
 --
---   asking_are      == what the items ask are questions
+--   begun_are       == what is due at first are questions of the items
 --   behind_are, tail_are == what is due behind an answer are questions where those that were due are
 --   lead_judgable   == answers that may stand one by one answer such, and fit the items
 --   are_judgable    == so does what is stated
-use Rattle.std.proofs.Common.{◌≡◌, ℕ, zero, suc, ◌+◌, ◌<◌, Bool, true, false, cond, List, [], ◌∷◌, Option, None, Some, drop, length, map, slice_get, refl, sym, ap, subst, ◌∙◌, arith}
-use Rattle.std.specs.Prelude.{⊤}
+use Rattle.std.proofs.Common.{ℕ, Bool, List, [], ◌∷◌, drop, sym, subst}
 use Rattle.std.specs.List.{AllByRecursion}
 use Rattle.ml_front.specs.declared.problem.AnyFormula.{AnyFormula}
 use Rattle.ml_spec.specs.Joined.{requirements}
-use Rattle.ml_spec.specs.Kinds.{is_requirement}
-use Rattle.ml_spec.specs.Questions.{asking, asking_from, IsQuestion}
+use Rattle.ml_spec.specs.Questions.{asking, IsQuestion}
 use Rattle.ml_spec.specs.declared.question.Question.{Question}
 use Rattle.ml_spec.specs.declared.question.Question.TheVariants.{Consistent, Rest, Asks}
 use Rattle.ml_spec.specs.declared.specification.Item.{Item}
 use Rattle.ml_replies.specs.Replies.{Replied, Reply, LeftOpen, Met, Unmet}
+use Rattle.ml_replies.proofs.SomeReplies.{all_asked}
 use Rattle.ml_answers.specs.Due as due
 use Rattle.ml_answers.specs.Due.{asked_of, begun, due_behind, with_consistency, AreAll, Due, Fits, LeadTo, MayStandFirst}
 use Rattle.ml_answers.specs.declared.stated.Stated.{Stated}
 use Rattle.ml_answers.specs.private.Judged.{FitsItems, IsJudgable}
-use Rattle.ml_answers.specs.private.Plain.{replied_of, replies_of}
-
-abbrev ItemsFrom : List Item → ℕ → List Item → Type 0
-ItemsFrom ys n xs = (j : ℕ) → slice_get ys (n + j) ≡ slice_get xs j
-
-asking_there : (ys : List Item) (n : ℕ) (xs : List Item) → ItemsFrom ys n xs → AllByRecursion (IsQuestion ys) (asking_from n xs)
-asking_there ys n [] items = tt
-asking_there ys n (x ∷ xs) items =
-    go (is_requirement x.kind) refl
-    (asking_there ys (n + 1) xs
-    (λ j. let same : n + suc j ≡ n + 1 + j = omega arith in subst (λ k. slice_get ys k ≡ slice_get xs j) same (items (suc j))))
-  where
-    go : (b : Bool)
-        → is_requirement x.kind ≡ b
-        → AllByRecursion (IsQuestion ys) (asking_from (n + 1) xs)
-        → AllByRecursion (IsQuestion ys) (cond b (asking_from (n + 1) xs) (Asks n ∷ asking_from (n + 1) xs))
-    go true is rest = rest
-    go false is rest =
-        let same : n + 0 ≡ n = omega arith in
-        ((x, subst (λ k. slice_get ys k ≡ Some x) same (items 0), is), rest)
-
-pub asking_are : (xs : List Item) → AllByRecursion (IsQuestion xs) (asking xs)
-asking_are xs = asking_there xs 0 xs (λ j. let same : 0 + j ≡ j = omega arith in ap (slice_get xs) same)
+use Rattle.ml_answers.specs.private.Plain.{replies_of}
 
 pub begun_are : (xs : List Item) → AllByRecursion (IsQuestion xs) (begun xs).questions
 begun_are xs = go (requirements xs)
   where
     go : (fs : List AnyFormula) → AllByRecursion (IsQuestion xs) (with_consistency fs (asking xs))
-    go [] = asking_are xs
-    go (f ∷ fs) = (tt, asking_are xs)
+    go [] = all_asked xs
+    go (f ∷ fs) = (tt, all_asked xs)
 
 abbrev pub IsJudgableReply : List Item → Replied → Type 0
 IsJudgableReply xs r = IsQuestion xs r.question × FitsItems xs r.reply

@@ -5,17 +5,17 @@
 --   AreJudgedTo      == what is known behind the first answers
 --   judged_begin, judged_shown, judged_open == it stays so
 --   wrong_at, right_at, open_at == what comes of all
-use Rattle.std.proofs.Common.{◌≡◌, ℕ, ◌+◌, ◌<◌, ◌≤◌, ◌⊎◌, Bool, true, false, List, [], ◌∷◌, ◌++◌, Option, None, Some, length, map, drop, take, get_or, inl, inr, refl, sym, ap, subst, ◌∙◌, arith}
-use Rattle.std.specs.Prelude.{⊤}
+use Rattle.std.proofs.Common.{◌≡◌, ℕ, ◌+◌, ◌≤◌, ◌⊎◌, Bool, List, [], ◌∷◌, ◌++◌, Option, None, Some, length, drop, inl, inr, refl, sym, ap, subst, ◌∙◌}
 use Rattle.std.specs.List.{AllByRecursion}
-use Rattle.std.proofs.lemmas.List.{append-nil, append_assoc, drop_all, drop_more}
+use Rattle.std.proofs.lemmas.List.{append-nil, append_assoc, drop_all}
 use Rattle.ml_front.specs.declared.logic.Logic.{Logic}
 use Rattle.ml_spec.specs.declared.question.Question.{Question}
 use Rattle.ml_spec.specs.declared.specification.Item.{Item}
+use Rattle.ml_replies.specs.Answers.{reply_of}
 use Rattle.ml_replies.specs.Meeting.{everything, without}
-use Rattle.ml_replies.specs.Replies.{Part, Replied, Reply}
+use Rattle.ml_replies.specs.Replies.{Part}
 use Rattle.ml_answers.specs.Checked as checked
-use Rattle.ml_answers.specs.Checked.{placed, AreShown, IsFirst, IsShownAt, IsShownBy, IsShownWithout, IsVerdict, IsWrongAt, IsWrongWithout, Placed, SomeWrong}
+use Rattle.ml_answers.specs.Checked.{placed, AreShown, IsFirst, IsShownAt, IsShownWithout, IsVerdict, IsWrongAt, IsWrongWithout, Placed, SomeWrong}
 use Rattle.ml_answers.specs.Due.{asked_of, rest_behind}
 use Rattle.ml_answers.specs.declared.finding.AnswersFinding.TheVariants.{OpenAt, Right, WrongAt}
 use Rattle.ml_answers.specs.declared.judging.Standing.{Standing}
@@ -23,7 +23,7 @@ use Rattle.ml_answers.specs.declared.judging.Standing.TheVariants.{Shown, Unsett
 use Rattle.ml_answers.specs.declared.stated.Stated.{Stated}
 use Rattle.ml_answers.specs.private.Judged.{worse, AreShownTo, ComesTo, IsJudgedTo}
 use Rattle.ml_answers.specs.private.Plain as plain
-use Rattle.ml_answers.specs.private.Plain.{part_of, replied_of, replies_of, reply_of}
+use Rattle.ml_answers.specs.private.Plain.{replies_of}
 use Rattle.ml_answers.specs.private.Words.{Agrees}
 use Rattle.ml_answers.proofs.SameSets.{comes_same}
 

@@ -14,6 +14,8 @@ pub mod Reading
 pub mod AnswerLines
 -- bodies that name requirements, read part by part
 pub mod PartsRead
+-- texts of answers, one behind the other
+pub mod AnswerTexts
 -- documents, read answer by answer
 pub mod DocumentRead
 -- requirements that are told by flags

@@ -7,16 +7,16 @@
 --   scan_finds         == a scan finds the marks by which words are the items' names
 --   names_named        == the names of such items are such names
 --   none_named         == where an item is marked, some is named
-use Rattle.std.proofs.Common.{◌≡◌, ◌≢◌, ℕ, suc, ◌+◌, ◌<◌, ◌||◌, ◌&&◌, Bool, true, false, cond, List, [], ◌∷◌, ◌++◌, Option, None, Some, codes, length, map, drop, refl, sym, ap, subst, ◌∙◌, arith}
+use Rattle.std.proofs.Common.{◌≡◌, ◌≢◌, ℕ, suc, ◌+◌, ◌||◌, ◌&&◌, Bool, true, false, cond, List, [], ◌∷◌, ◌++◌, codes, drop, refl, sym, ap, subst, ◌∙◌, arith}
 use Rattle.std.specs.Prelude.{⊤}
 use Rattle.std.specs.List.{AllByRecursion, list_any}
 use Rattle.std.specs.Str.{bytes_eq}
-use Rattle.std.proofs.lemmas.Bool.{and_parts, false_from_ne_true, cond-true, cond-false}
+use Rattle.std.proofs.lemmas.Bool.{false_from_ne_true}
 use Rattle.std.proofs.lemmas.List.{append-nil, append_assoc}
 use Rattle.std.proofs.lemmas.Slice.Eq.{bytes_eq-Decides}
 use Rattle.ml_lines.specs.Lines.{Word}
 use Rattle.ml_spec.specs.Items.{is_name}
-use Rattle.ml_spec.specs.Specification.{names, AreNew}
+use Rattle.ml_spec.specs.Specification.{AreNew}
 use Rattle.ml_spec.specs.declared.specification.Item.{Item}
 use Rattle.ml_answers.specs.private.Marks.{heads, is_named, is_needed, is_over, is_unsettled, left_by, mark_at, may_mark, names_by, scan, with_mark, AreMarks, Scanned}
 use Rattle.ml_answers.specs.declared.names.Mark.{Mark}
@@ -74,7 +74,8 @@ IsScanned S n xs a b s =
     × (a ≡ names_by is_needed xs s.marks ++ s.needed)
     × (b ≡ names_by is_unsettled xs s.marks ++ s.unsettled)
 
-head_is : (ws : List Word) (w : Word) → heads ws w ≡ true → ws ≡ w ∷ drop 1 ws
+-- a list that a word heads
+pub head_is : (ws : List Word) (w : Word) → heads ws w ≡ true → ws ≡ w ∷ drop 1 ws
 head_is [] w e = absurd cc
 head_is (v ∷ vs) w e = ap (λ u. u ∷ vs) (same_word v w e)
 

@@ -5,7 +5,7 @@
 --   IsOfLine         == the answer may stand where q is asked of the requirements in S, and this is its line
 --   one_marks        == words behind `because` are those of one list of marks
 --   body_once        == so there is one body, of one answer, behind a line
-use Rattle.std.proofs.Common.{◌≡◌, ℕ, ◌+◌, ◌⊎◌, ◌==◌, Bool, true, false, not, List, [], ◌∷◌, ◌++◌, Some, codes, length, map, inl, inr, refl, sym, ap, subst, ◌∙◌}
+use Rattle.std.proofs.Common.{◌≡◌, ℕ, ◌+◌, ◌⊎◌, ◌==◌, Bool, true, false, not, List, [], ◌∷◌, ◌++◌, codes, length, map, inl, inr, refl, sym, ap, subst, ◌∙◌}
 use Rattle.std.proofs.lemmas.Bool.{false≢true}
 use Rattle.std.proofs.lemmas.List.{append_cancel_left}
 use Rattle.std.specs.List.{list_any}
@@ -17,6 +17,7 @@ use Rattle.ml_kripke.specs.Laws.{IsModelText}
 use Rattle.ml_kripke.proofs.OneFault as model_faults
 use Rattle.ml_kripke.proofs.OneText.{one_text}
 use Rattle.ml_lines.specs.Lines.{Line, Word}
+use Rattle.ml_lists.proofs.Entries.{same_head, same_tail}
 use Rattle.ml_refutation.specs.Refutation.{Refutation}
 use Rattle.ml_refutation_text.specs.BodyRules as refutation
 use Rattle.ml_refutation_text.specs.Laws.{IsRefutationText}
@@ -33,13 +34,13 @@ use Rattle.ml_answers.specs.private.Marks.{is_named, is_needed, is_unsettled, na
 use Rattle.ml_answers.specs.private.Reads.{ArePartsOf}
 use Rattle.ml_answers.specs.declared.names.Mark.{Mark}
 use Rattle.ml_answers.specs.declared.names.Mark.TheVariants.{Unnamed, Needed, Perhaps}
-use Rattle.ml_answers.proofs.BodyEnds.{head_same, model_front, tail_same}
+use Rattle.ml_answers.proofs.BodyEnds.{model_front}
 use Rattle.ml_answers.proofs.MarkedCores.{core_marks, parts_words, some_named, IsMadeBy}
 use Rattle.ml_answers.proofs.Marking.{AreNamed, Differ}
 use Rattle.ml_answers.proofs.OnlyOnce.{behind_as, behind_both, once_as, once_behind_line, once_then, Once}
 use Rattle.ml_answers.proofs.PlainAnswers.{without_plain}
 use Rattle.ml_answers.proofs.RefutationEnds.{refutation_front}
-use Rattle.ml_answers.proofs.Splitting.{marked_found}
+use Rattle.ml_answers.proofs.Splitting.{marked_found, some_same}
 
 -- ---- structures and refutations
 
@@ -227,9 +228,6 @@ parts_once xs named n (Perhaps ∷ ms) = perhaps_once xs named n ms (parts_once 
 
 -- ---- marks
 
-some_inner : {X : Type 0} (x y : X) → Some x ≡ Some y → x ≡ y
-some_inner x y e = cc
-
 pub one_marks : (S : ℕ → Bool) (wants : Bool) (xs : List Item) (words : List Word) (ms ks : List Mark)
     → Differ xs
     → AreNamed xs
@@ -243,7 +241,7 @@ one_marks S wants xs words ms ks differ named x y =
     (names_by is_needed xs ms ++ perhaps (names_by is_unsettled xs ms), names_by is_unsettled xs ms) in
     let b : List Word × List Word =
     (names_by is_needed xs ks ++ perhaps (names_by is_unsettled xs ks), names_by is_unsettled xs ks) in
-    let same : a ≡ b = some_inner a b (sym f.are_split ∙ g.are_split) in
+    let same : a ≡ b = some_same a b (sym f.are_split ∙ g.are_split) in
     sym f.is_scan ∙ ap (λ (p : List Word × List Word). (scan S 0 xs p.0 p.1).marks) same ∙ g.is_scan
 
 -- ---- the body behind a line
@@ -253,12 +251,12 @@ pub record IsOfLine (xs : List Item) (S : ℕ → Bool) (q : Question) (ws : Lin
   pub is_line : line_of xs (replied q r) ≡ ws
 
 yes_not_open : (b : Bool) (ws : Line) → yes_or_no b ∷ ws ≡ codes "open" ∷ [] → ⊥
-yes_not_open true ws e = false≢true (ap (λ w. length w == 4) (head_same (yes_or_no true) (codes "open") ws [] e))
-yes_not_open false ws e = false≢true (ap (λ w. length w == 4) (head_same (yes_or_no false) (codes "open") ws [] e))
+yes_not_open true ws e = false≢true (ap (λ w. length w == 4) (same_head (yes_or_no true) (codes "open") ws [] e))
+yes_not_open false ws e = false≢true (ap (λ w. length w == 4) (same_head (yes_or_no false) (codes "open") ws [] e))
 
 one_or_more : (v w u : Word) (ws : Line) → v ∷ [] ≡ w ∷ u ∷ ws → ⊥
 one_or_more v w u ws e =
-    let none : [] ≡ u ∷ ws = tail_same v w [] (u ∷ ws) e in absurd cc
+    let none : [] ≡ u ∷ ws = same_tail v w [] (u ∷ ws) e in absurd cc
 
 module _ (xs : List Item) (S : ℕ → Bool) (q : Question) where
   abbrev pub BodyText : Line → Reply → List ℕ → Type 0
@@ -355,8 +353,8 @@ module _ (xs : List Item) (S : ℕ → Bool) (q : Question) where
       same_names d of =
           let e : WordsSame (Unmet d) (Unmet c) = words_same (Unmet d) (Unmet c) of is in
           let no = yes_or_no (not (wants_structure xs q)) in
-          tail_same (codes "because") (codes "because") (names_of d) (names_of c)
-          (tail_same no no (codes "because" ∷ names_of d) (codes "because" ∷ names_of c) e)
+          same_tail (codes "because") (codes "because") (names_of d) (names_of c)
+          (same_tail no no (codes "because" ∷ names_of d) (codes "because" ∷ names_of c) e)
 
       made_alike : (d : Core) → IsOfLine xs S q ws (Unmet d) → IsMadeBy S 0 xs d.taken d.parts the_marks
       unfolding the_marks

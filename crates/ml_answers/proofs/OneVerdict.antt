@@ -6,6 +6,7 @@
 --   one_verdict      == of answers to questions of a specification one thing comes at most
 use Rattle.std.proofs.Common.{◌≡◌, ℕ, Bool, List, [], ◌∷◌, ◌++◌, refl, sym, ap, subst, ◌∙◌}
 use Rattle.std.specs.List.{AllByRecursion}
+use Rattle.ml_lists.proofs.Entries.{same_head, same_tail}
 use Rattle.ml_front.specs.declared.logic.Logic.{Logic}
 use Rattle.ml_spec.specs.Questions.{IsQuestion}
 use Rattle.ml_spec.specs.Specification.{IsSpecified}
@@ -16,7 +17,6 @@ use Rattle.ml_answers.specs.Checked.{placed, IsFirst, IsShownAt, IsVerdict, IsWr
 use Rattle.ml_answers.specs.Due.{rest_behind}
 use Rattle.ml_answers.specs.declared.finding.AnswersFinding.{AnswersFinding}
 use Rattle.ml_answers.specs.declared.finding.AnswersFinding.TheVariants.{NoDocument, OpenAt, Refused, Right, TooLong, Unreadable, WrongAt}
-use Rattle.ml_answers.proofs.BodyEnds.{head_same, tail_same}
 use Rattle.ml_answers.proofs.Judgable.{IsJudgableReply}
 use Rattle.ml_answers.proofs.NeverWrong.{never_both}
 
@@ -33,13 +33,13 @@ module _ (P : Placed → Type 0) where
       → P b
       → bs ++ a ∷ us ≡ cs ++ b ∷ vs
       → a ≡ b
-  firsts_same [] [] a b us vs none free is so e = head_same a b us vs e
+  firsts_same [] [] a b us vs none free is so e = same_head a b us vs e
   firsts_same [] (c ∷ cs) a b us vs none free is so e =
-      absurd (free.0 (subst P (head_same a c us (cs ++ b ∷ vs) e) is))
+      absurd (free.0 (subst P (same_head a c us (cs ++ b ∷ vs) e) is))
   firsts_same (x ∷ bs) [] a b us vs none free is so e =
-      absurd (none.0 (subst P (sym (head_same x b (bs ++ a ∷ us) vs e)) so))
+      absurd (none.0 (subst P (sym (same_head x b (bs ++ a ∷ us) vs e)) so))
   firsts_same (x ∷ bs) (c ∷ cs) a b us vs none free is so e =
-      firsts_same bs cs a b us vs none.1 free.1 is so (tail_same x c (bs ++ a ∷ us) (cs ++ b ∷ vs) e)
+      firsts_same bs cs a b us vs none.1 free.1 is so (same_tail x c (bs ++ a ∷ us) (cs ++ b ∷ vs) e)
 
   pub first_once : (ps : List Placed) (k j : ℕ) → IsFirst P ps k → IsFirst P ps j → k ≡ j
   first_once ps k j x y =

@@ -14,13 +14,13 @@
 --   other_line       == a line of other words does
 --   model_taken, tells_model, refutation_taken, tells_refutation == bodies
 --   line_fits, body_taken == the body that comes next
---   if_ok_weaker, if_ok_both, if_err_weaker == what is true of a result
-use Rattle.std.proofs.Common.{◌≡◌, ℕ, ◌+◌, ◌<◌, ◌≤◌, ◌^◌, ◌||◌, Bool, true, false, cond, List, [], ◌∷◌, ◌++◌, Option, None, Some, Ok, Err, Result, length, take, drop, position, inl, inr, refl, sym, ap, subst, ◌∙◌, arith}
-use Rattle.std.specs.Prelude.{⊤, IfErr, IfOk}
+--   if_ok_both == what is true of a result where two things are
+use Rattle.std.proofs.Common.{◌≡◌, ℕ, ◌+◌, ◌<◌, ◌≤◌, ◌^◌, cond, List, [], ◌∷◌, ◌++◌, None, Some, Ok, Err, Result, length, take, drop, position, inl, refl, sym, ap, subst, ◌∙◌, arith}
+use Rattle.std.specs.Prelude.{IfOk}
 use Rattle.std.specs.List.{list_any}
 use Rattle.std.specs.Result.{IsErrOf}
 use Rattle.std.proofs.lemmas.Bool.{or_parts}
-use Rattle.std.proofs.lemmas.List.{append-nil, append_assoc, length-append}
+use Rattle.std.proofs.lemmas.List.{append_assoc, length-append}
 use Rattle.std.proofs.lemmas.List.Splits.{join_with_byte-slice_split}
 use Rattle.std.proofs.lemmas.List.Sums.{count_by-le-length, sum_by-append, sum_by-cons}
 use Rattle.ml_base.specs.Structure.{IsStructure}
@@ -32,7 +32,7 @@ use Rattle.ml_kripke.specs.BodyRules as model
 use Rattle.ml_kripke.specs.ModelText.{model_text}
 use Rattle.ml_kripke.specs.Ordered.{HasNames, IsOrdered}
 use Rattle.ml_kripke.specs.declared.model.Model.{Model}
-use Rattle.ml_lines.specs.Lines.{Line, line_text}
+use Rattle.ml_lines.specs.Lines.{Line}
 use Rattle.ml_lines.specs.Reading.{is_line_end, words_of}
 use Rattle.ml_lines.proofs.Cuts.{line_at, line_none}
 use Rattle.ml_lines.proofs.LineFronts.{IsInLine}
@@ -225,10 +225,6 @@ line_taken at rest line ws next is = subst (λ vs. Takes (IsLine vs) at rest) is
 pub next_room : (at rest : Rest) (line : List ℕ) → IsNext at line rest → HasRoom at → HasRoom rest
 next_room at rest line next room = room_behind (IsLine (words_of line)) (IsLine (words_of line)) at rest next.takes room
 
-pub if_ok_weaker : {R E : Type 0} (r : Result R E) (P Q : R → Type 0) → ((x : R) → P x → Q x) → IfOk r P → IfOk r Q
-if_ok_weaker (Ok x) P Q turn is = turn x is
-if_ok_weaker (Err e) P Q turn is = tt
-
 pub if_ok_both : {R E : Type 0} (r : Result R E) (P Q W : R → Type 0)
     → ((x : R) → P x → Q x → W x)
     → IfOk r P
@@ -236,7 +232,3 @@ pub if_ok_both : {R E : Type 0} (r : Result R E) (P Q W : R → Type 0)
     → IfOk r W
 if_ok_both (Ok x) P Q W turn is so = turn x is so
 if_ok_both (Err e) P Q W turn is so = tt
-
-pub if_err_weaker : {R E : Type 0} (r : Result R E) (P Q : E → Type 0) → ((x : E) → P x → Q x) → IfErr r P → IfErr r Q
-if_err_weaker (Ok x) P Q turn is = tt
-if_err_weaker (Err e) P Q turn is = turn e is

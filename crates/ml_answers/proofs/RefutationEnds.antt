@@ -12,6 +12,7 @@ use Rattle.ml_base.specs.declared.version.Version.TheVariants.{Two}
 use Rattle.ml_lines.specs.Lines.{Line}
 use Rattle.ml_lines.specs.Reading.{lines_of, value, word}
 use Rattle.ml_lines.proofs.Fronts.{have_words, HaveWords}
+use Rattle.ml_lists.proofs.Entries.{same_head}
 use Rattle.ml_lists.specs.Documents.{IsGood}
 use Rattle.ml_lists.specs.Readings.{Runs}
 use Rattle.ml_refutation.specs.Refutation.{Decision, Entry, Refutation, Split}
@@ -23,7 +24,7 @@ use Rattle.ml_refutation_text.specs.Laws.{IsRefutationText}
 use Rattle.ml_refutation_text.specs.LineKinds.{AGuess, ANumber, AnySize, Fixed, InSlots, IsOfKinds, Kind, Slot}
 use Rattle.ml_answers.specs.Documents.{last_line}
 use Rattle.ml_answers.specs.Texts.{up_to_end}
-use Rattle.ml_answers.proofs.BodyEnds.{body_front, head_same, IsEnded}
+use Rattle.ml_answers.proofs.BodyEnds.{body_front, IsEnded}
 
 -- ---- kinds of lines
 
@@ -43,7 +44,7 @@ slots_other : (further : Bool) (slots : List Slot) (line : Line)
 slots_other further [] line other is = absurd other
 slots_other further (Fixed w ∷ slots) [] other is = absurd is
 slots_other further (Fixed w ∷ slots) (v ∷ line) other is = λ e.
-    false≢true (sym other ∙ ap (λ u. length u == 3) (sym is.0 ∙ head_same v (codes "end") line [] e))
+    false≢true (sym other ∙ ap (λ u. length u == 3) (sym is.0 ∙ same_head v (codes "end") line [] e))
 slots_other further (ANumber ∷ slots) line other is = absurd other
 slots_other further (AGuess ∷ slots) line other is = absurd other
 slots_other further (AnySize ∷ slots) line other is = absurd other

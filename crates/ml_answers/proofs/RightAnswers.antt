@@ -4,7 +4,7 @@
 --   others_so     == so are those to the questions of the items
 --   conflicts_so  == and those that tell of conflicts
 --   replies_so    == so they are the answers of the specification
-use Rattle.std.proofs.Common.{◌≡◌, ◌≢◌, ℕ, ◌+◌, ◌<◌, ◌&&◌, Bool, true, false, cond, List, [], ◌∷◌, ◌++◌, drop, length, map, refl, sym, ap, subst, ◌∙◌, arith}
+use Rattle.std.proofs.Common.{◌≡◌, ◌≢◌, ℕ, ◌+◌, Bool, true, false, cond, List, [], ◌∷◌, ◌++◌, length, map, refl, sym, ap, subst, ◌∙◌, arith}
 use Rattle.std.specs.Prelude.{⊤}
 use Rattle.std.specs.List.{AllByRecursion}
 use Rattle.std.proofs.lemmas.Bool.{and_parts, false≢true}
@@ -18,14 +18,14 @@ use Rattle.ml_spec.specs.Kinds.{is_requirement}
 use Rattle.ml_spec.specs.declared.question.Question.{Question}
 use Rattle.ml_spec.specs.declared.question.Question.TheVariants.{Consistent, Rest, Asks}
 use Rattle.ml_spec.specs.declared.specification.Item.{Item}
-use Rattle.ml_replies.specs.Meeting.{beside, everything, numbers_in, problem_of, without}
+use Rattle.ml_replies.specs.Meeting.{beside, everything, problem_of, without}
 use Rattle.ml_replies.specs.Replies as replies
-use Rattle.ml_replies.specs.Replies.{AreBehind, AreConflicts, AreOfAll, AreReplies, Core, IsCore, IsPart, IsReply, Part, Replied, Reply, LeftOpen, Met, StillMet, StillOpen, Unmet, Without}
-use Rattle.ml_answers.specs.Checked.{placed, AreShown, IsRefuted, IsShownAt, IsShownBy, IsShownWithout, Placed}
-use Rattle.ml_answers.specs.Documents.{AreBlocks, IsBlock, IsBody}
+use Rattle.ml_replies.specs.Replies.{AreBehind, AreConflicts, AreOfAll, AreReplies, IsPart, IsReply, Part, Replied, Reply, LeftOpen, Met, StillMet, StillOpen, Unmet, Without}
+use Rattle.ml_replies.proofs.SomeReplies.{all_asked}
+use Rattle.ml_answers.specs.Checked.{placed, AreShown, IsRefuted, IsShownAt, IsShownBy, IsShownWithout}
+use Rattle.ml_answers.specs.Documents.{AreBlocks, IsBody}
 use Rattle.ml_answers.specs.Due as due
-use Rattle.ml_answers.specs.Due.{asked_of, begun, due_behind, is_of_conflict, is_required, rest_behind, with_consistency, Due, Fits, FitsCore, LeadTo}
-use Rattle.ml_answers.proofs.Judgable.{asking_are}
+use Rattle.ml_answers.specs.Due.{asked_of, begun, due_behind, is_of_conflict, is_required, rest_behind, with_consistency, Due, Fits, LeadTo}
 
 -- the refutations of a document are such
 abbrev pub HasRefutation : Reply → Type 0
@@ -279,4 +279,4 @@ both_all P Q [] one other = tt
 both_all P Q (q ∷ qs) one other = ((one.0, other.0), both_all P Q qs one.1 other.1)
 
 pub asking_both : (xs : List Item) → AllByRecursion (λ q. IsQuestion xs q × (is_of_conflict q ≡ false)) (asking xs)
-asking_both xs = both_all (IsQuestion xs) (λ q. is_of_conflict q ≡ false) (asking xs) (asking_are xs) (asking_of_items xs 0 xs)
+asking_both xs = both_all (IsQuestion xs) (λ q. is_of_conflict q ≡ false) (asking xs) (all_asked xs) (asking_of_items xs 0 xs)

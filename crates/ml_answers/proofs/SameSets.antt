@@ -6,16 +6,14 @@
 --   judged_same     == so the same comes of an answer
 --   comes_all, comes_rest == also where it isn't asked of conflicts, and where it is
 --   left_all, left_rest == and the flags agree with the rest behind the answer
-use Rattle.std.proofs.Common.{◌≡◌, ◌≢◌, ℕ, zero, suc, ◌+◌, ◌<◌, ◌≤◌, ◌⊎◌, Bool, true, false, not, ◌&&◌, cond, replicate, List, [], ◌∷◌, ◌++◌, Contains, length, map, inl, inr, refl, sym, ap, subst, ◌∙◌, arith}
+use Rattle.std.proofs.Common.{◌≡◌, ◌≢◌, ℕ, ◌+◌, Bool, true, false, not, ◌&&◌, replicate, List, ◌++◌, Contains, length, map, refl, sym, ap, subst, ◌∙◌, arith}
 use Rattle.std.specs.List.{AllByRecursion}
 use Rattle.ml_base.specs.Structure.{Structure}
 use Rattle.ml_front.specs.Connectives.{joined}
 use Rattle.ml_front.specs.Problems.{HoldsAt}
 use Rattle.ml_front.specs.declared.logic.Logic.{Logic}
-use Rattle.ml_front.specs.declared.problem.AnyFormula.{AnyFormula}
-use Rattle.ml_front.specs.declared.problem.Problem.{Problem}
 use Rattle.ml_spec.specs.Joined.{requirements}
-use Rattle.ml_spec.specs.Questions.{asked_by, chosen, chosen_from, is_in}
+use Rattle.ml_spec.specs.Questions.{asked_by, chosen, is_in}
 use Rattle.ml_spec.specs.declared.question.Question.{Question}
 use Rattle.ml_spec.specs.declared.question.Question.TheVariants.{Consistent, Rest, Asks}
 use Rattle.std.proofs.lemmas.Bool.{false≢true}
@@ -23,6 +21,7 @@ use Rattle.std.proofs.lemmas.List.{get_or-replicate}
 use Rattle.ml_spec.specs.declared.specification.Item.{Item}
 use Rattle.ml_replies.specs.Meeting.{everything, plain, problem_of, problems_asked, problems_of, CanBeChecked, IsHeld, IsSmall, by_all, by_each}
 use Rattle.ml_replies.specs.Replies.{FailsByCheck, IsMet, IsShown, Reply, LeftOpen, Met, Unmet, by_joined, by_one, not_admitted}
+use Rattle.ml_replies.proofs.Chosen.{chosen_from_same}
 use Rattle.ml_answers.specs.Checked as checked
 use Rattle.ml_answers.specs.Checked.{IsShownBy}
 use Rattle.ml_answers.specs.Due.{asked_of, is_of_conflict, rest_behind}
@@ -33,23 +32,9 @@ use Rattle.ml_answers.specs.declared.judging.Standing.TheVariants.{Shown, Unsett
 
 -- ---- chosen items
 
-chosen_alike : (S T : ℕ → Bool) (n : ℕ) (xs : List Item)
-    → ((j : ℕ) → j < length xs → S (n + j) ≡ T (n + j))
-    → chosen_from S n xs ≡ chosen_from T n xs
-chosen_alike S T n [] same = refl
-chosen_alike S T n (x ∷ xs) same =
-    let here : n + 0 ≡ n = omega arith in
-    let head : S n ≡ T n = subst (λ k. S k ≡ T k) here (same 0 (omega arith)) in
-    let rest =
-    chosen_alike S T (n + 1) xs
-    (λ j low. let there : n + suc j ≡ n + 1 + j = omega arith in
-    subst (λ k. S k ≡ T k) there (same (suc j) (omega (arith, low)))) in
-    ap (λ b. cond b (x ∷ chosen_from S (n + 1) xs) (chosen_from S (n + 1) xs)) head
-    ∙ ap (λ ys. cond (T n) (x ∷ ys) ys) rest
-
 pub chosen_same : (xs : List Item) (S : ℕ → Bool) (among : List Bool) → Agrees xs S among → chosen S xs ≡ chosen (is_in among) xs
 chosen_same xs S among agrees =
-    chosen_alike S (is_in among) 0 xs
+    chosen_from_same S (is_in among) 0 xs
     (λ j low. let same : 0 + j ≡ j = omega arith in subst (λ k. S k ≡ is_in among k) (sym same) (agrees j low))
 
 -- ---- structures

@@ -6,15 +6,15 @@
 use Rattle.std.proofs.Common.{◌≡◌, ℕ, ◌+◌, ◌<◌, ◌≤◌, ◌⊎◌, List, Option, None, Some, codes, drop, length, take, inl, inr, refl, sym, subst}
 use Rattle.std.proofs.lemmas.Bool.{cases_lt}
 use Rattle.ml_front.specs.declared.logic.Logic.{Logic}
-use Rattle.ml_spec.specs.Comments.{uncommented}
 use Rattle.ml_spec.specs.Faults.{IsRefused}
 use Rattle.ml_spec.specs.Places.{column_at, line_at}
-use Rattle.ml_spec.specs.Specification.{items_behind, IsSpecification}
+use Rattle.ml_spec.specs.Specification.{IsSpecification}
 use Rattle.ml_spec.specs.declared.rule.SpecRule.{SpecRule}
 use Rattle.ml_spec.specs.declared.specification.Item.{Item}
 use Rattle.ml_spec.proofs.OneAnswer.{some_reading}
 use Rattle.ml_spec.proofs.Readings.{specified}
 use Rattle.ml_replies.specs.Meeting.{everything}
+use Rattle.ml_replies.proofs.WellFormedItems.{items_well}
 use Rattle.ml_answers.specs.Checked.{lines_from, longest_specification, placed, IsCheckedAs, IsFoundFrom, IsFoundIn}
 use Rattle.ml_answers.specs.Documents.{title_line}
 use Rattle.ml_answers.specs.Due.{begun}
@@ -26,7 +26,6 @@ use Rattle.ml_answers.specs.declared.finding.AnswersFinding.TheVariants.{NoDocum
 use Rattle.ml_answers.proofs.Found.{title_there}
 use Rattle.ml_answers.proofs.Judgable.{begun_are, lead_judgable}
 use Rattle.ml_answers.proofs.Marking.{items_differ}
-use Rattle.ml_answers.proofs.RightIsTrue.{items_well}
 use Rattle.ml_answers.proofs.SomeBody.{FaultOf}
 use Rattle.ml_answers.proofs.SomeDocument.{some_document, IsRead}
 use Rattle.ml_answers.proofs.SomeVerdict.{all_decided, some_verdict}
@@ -50,7 +49,7 @@ module _ (spec text : List ℕ) (short : length spec ≤ longest_specification) 
   pub read_found : IsRead xs text → SomeFrom spec text
   read_found read =
       let items = specified spec l xs is in
-      let well = items_well l (items_behind (uncommented spec)) xs is.are_items in
+      let well = items_well spec l xs is in
       let ks = lines_from (1 + line_count spec + 1) read.texts in
       let judgable = lead_judgable xs (begun xs) read.are_all.0 read.replies read.are_all.1 (begun_are xs) in
       let all = all_decided l xs items well everything read.replies ks read.texts read.are_texts judgable in

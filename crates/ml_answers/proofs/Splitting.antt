@@ -6,10 +6,8 @@
 --   found_marked     == where a scan of the parts ends as it should, its marks name the items by the words
 --   marked_found     == where marks name the items by the words, the parts are there, and a scan of them finds these and ends
 --                       so
-use Rattle.std.proofs.Common.{◌≡◌, ◌≢◌, ℕ, ◌+◌, ◌||◌, ◌&&◌, Bool, true, false, cond, List, [], ◌∷◌, ◌++◌, Option, None, Some, codes, drop, length, ◌<◌, refl, sym, ap, subst, ◌∙◌, arith}
-use Rattle.std.specs.Prelude.{⊤}
+use Rattle.std.proofs.Common.{◌≡◌, ◌≢◌, ℕ, ◌+◌, ◌&&◌, Bool, true, false, cond, List, [], ◌∷◌, ◌++◌, Option, None, Some, codes, drop, length, ◌<◌, refl, sym, ap, subst, ◌∙◌, arith}
 use Rattle.std.specs.List.{AllByRecursion, list_any}
-use Rattle.std.specs.Str.{bytes_eq}
 use Rattle.std.proofs.lemmas.Bool.{false≢true}
 use Rattle.std.proofs.lemmas.List.{append-nil}
 use Rattle.std.proofs.lemmas.Option.{none-some}
@@ -25,9 +23,9 @@ use Rattle.ml_answers.specs.declared.names.Names.{Names}
 use Rattle.ml_spec.specs.Items.{is_name}
 use Rattle.ml_spec.specs.declared.specification.Item.{Item}
 use Rattle.ml_answers.specs.private.Marks as marks
-use Rattle.ml_answers.specs.private.Marks.{behind_perhaps, heads, is_empty, is_named, is_needed, is_over, is_unsettled, lacks, left_by, names_by, or_dash, perhaps, scan, some_words, split_at, split_words, AreMarks, MarkedBy, Scanned}
+use Rattle.ml_answers.specs.private.Marks.{behind_perhaps, heads, is_empty, is_named, is_needed, is_over, is_unsettled, lacks, left_by, names_by, or_dash, perhaps, scan, some_words, split_at, split_words, AreMarks, MarkedBy}
 use Rattle.ml_answers.specs.declared.names.Mark.{Mark}
-use Rattle.ml_answers.proofs.Marking.{named_no_dash, named_no_mark, needed_names, none_named, names_named, other_word, same_word, scan_finds, scan_is, some_marked, unsettled_names, AreNamed, Differ}
+use Rattle.ml_answers.proofs.Marking.{head_is, named_no_dash, named_no_mark, needed_names, none_named, names_named, other_word, same_word, scan_finds, scan_is, some_marked, unsettled_names, AreNamed, Differ}
 
 abbrev Named : List Word → Type 0
 Named ws = AllByRecursion (λ w. is_name w ≡ true) ws
@@ -132,7 +130,7 @@ no_some : {X : Type 0} (t : Bool) (x : Option X) (y : X) → cond t None x ≡ S
 no_some true x y e = absurd (none-some y e)
 no_some false x y e = (refl, e)
 
-some_same : {X : Type 0} (x y : X) → Some x ≡ Some y → x ≡ y
+pub some_same : {X : Type 0} (x y : X) → Some x ≡ Some y → x ≡ y
 some_same x y e = cc
 
 pub split_is : (wants : Bool) (words a b : List Word) → split_words wants words ≡ Some (a, b) → IsSplit wants words a b
@@ -178,11 +176,6 @@ split_is wants words a b e = by (heads words (codes "-")) refl e
           no_dash = λ _. (sym is_a, ap is_over (sym is_a) ∙ two.0);
         }
 
--- the front of a word list that a word heads
-headed : (ws : List Word) (w : Word) → heads ws w ≡ true → ws ≡ w ∷ drop 1 ws
-headed [] w e = absurd cc
-headed (v ∷ vs) w e = ap (λ u. u ∷ vs) (same_word v w e)
-
 over_front : (n : Word) (ns ends : List Word) → is_name n ≡ true → is_over ((n ∷ ns) ++ ends) ≡ false
 over_front n ns ends named = other_word n (codes "perhaps:") (named_no_mark n named)
 
@@ -216,7 +209,7 @@ split_marked wants words a b ns ends split named is_a over = by (heads words (co
     by true is [] named is_a =
         let d = split.by_dash is in
         let words_are : words ≡ codes "-" ∷ ends =
-        headed words (codes "-") is ∙ ap (λ ws. codes "-" ∷ ws) (sym d.0 ∙ is_a) in
+        head_is words (codes "-") is ∙ ap (λ ws. codes "-" ∷ ws) (sym d.0 ∙ is_a) in
         let same : behind_perhaps words ≡ behind_perhaps ends = ap behind_perhaps words_are in (
           words_are
               ∙ ap (λ ws. codes "-" ∷ ws) (sym (joined_ends words b ends split.is_behind split.some_behind same over)),

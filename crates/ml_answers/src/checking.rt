@@ -1,6 +1,7 @@
 // What comes of all answers of a document.
 ghost use Rattle.std.specs.Prelude.{ℕ, ◌≡◌, Bool, true, length, replicate, IfOk, OnOk};
 ghost use Rattle.std.specs.List.{AllByRecursion};
+ghost use Rattle.ml_replies.specs.Answers.{reply_of};
 ghost use Rattle.ml_replies.specs.Laws.{OneCheck};
 ghost use Rattle.ml_replies.specs.Meeting.{everything};
 ghost use Rattle.ml_spec.specs.Specification.{IsSpecified};
@@ -9,7 +10,7 @@ ghost use Rattle.ml_answers.specs.Checked.{IsShownBy, IsVerdict, placed};
 ghost use Rattle.ml_answers.specs.Due.{asked_of, rest_behind};
 ghost use Rattle.ml_answers.specs.private.Judged.{ComesTo, IsJudgable};
 ghost use Rattle.ml_answers.specs.private.Plain as plain;
-ghost use Rattle.ml_answers.specs.private.Plain.{replies_of, reply_of};
+ghost use Rattle.ml_answers.specs.private.Plain.{replies_of};
 ghost use Rattle.ml_answers.specs.private.Words.{Agrees};
 
 use crate::document::leave_out;

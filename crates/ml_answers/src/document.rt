@@ -3,6 +3,7 @@ ghost use Rattle.std.specs.Prelude.{ℕ, ◌≡◌, ◌+◌, ◌<◌, Bool, [], 
 ghost use Rattle.std.specs.List.{AllByRecursion, list_any};
 ghost use Rattle.ml_lines.specs.Lines.{line_text};
 ghost use Rattle.ml_lines.specs.Reading.{words_of};
+ghost use Rattle.ml_replies.specs.Answers.{reply_of};
 ghost use Rattle.ml_replies.specs.Replies as replies;
 ghost use Rattle.ml_spec.specs.Items.{is_name};
 ghost use Rattle.ml_spec.specs.Kinds.{is_requirement};
@@ -12,7 +13,6 @@ ghost use Rattle.ml_answers.specs.Documents.{IsBlock, IsBody, last_line, title_l
 ghost use Rattle.ml_answers.specs.Due.{rest_behind, Fits};
 ghost use Rattle.ml_answers.specs.Texts.{IsLine, IsThen};
 ghost use Rattle.ml_answers.specs.Rules.{IsAnswerFault, IsAnswersFault, IsBodyFault, IsEndFault, IsMore, replied};
-ghost use Rattle.ml_answers.specs.private.Plain.{reply_of};
 ghost use Rattle.ml_answers.specs.private.Reads.{AreRead, AreReadBehind, HasRoom, IsConflict, IsFaultBehind, IsMadeOf, IsReadUpTo, Takes, TellsFault};
 ghost use Rattle.ml_answers.specs.private.Words.{Agrees};
 
@@ -20,9 +20,10 @@ use crate::line::{ToldLine, read_line};
 use crate::parts::{read_core, read_structure};
 use crate::rest::{Rest, fault, next_line};
 use crate::rule::AnswersRule;
-use crate::stated::{Stated, Statement};
+use crate::stated::Stated;
 use ml_base::{DocRefusal, NoMemory};
 use ml_lines::{LineRefusal, one_word};
+use ml_replies::Answer;
 use ml_spec::{Item, Question};
 use std::alloc::Global;
 
@@ -183,17 +184,17 @@ fn has_requirement(items: &[Item]) -> bool
 }
 
 /// Leaves out the requirements that a conflict names, and tells whether it is one.
-pub(crate) fn leave_out(among: &mut [bool], statement: &Statement) -> bool
+pub(crate) fn leave_out(among: &mut [bool], statement: &Answer) -> bool
     ensures length { length among.new ≡ length among.old }
     ensures conflict { IsConflict result (reply_of statement.now) }
     ensures left { (k : ℕ) → is_in among.new k ≡ rest_behind (is_in among.old) Question.Rest (reply_of statement.now) k }
 {
     match statement {
-        Statement::Unmet(core) => {
+        Answer::No(core) => {
             leave(among, &core.taken);
             true
         }
-        Statement::Met(_) | Statement::LeftOpen => false,
+        Answer::Yes(_) | Answer::Open => false,
     }
 }
 
@@ -290,7 +291,7 @@ fn read_answer<'a>(
     among: &[bool],
     question: Question,
     at: Rest<'a>,
-) -> Result<(Statement, Rest<'a>), DocRefusal>
+) -> Result<(Answer, Rest<'a>), DocRefusal>
     requires room { HasRoom at }
     requires among { length among.now ≡ length items.now }
     requires new { AreNew items.now }
@@ -318,7 +319,7 @@ fn read_body<'a>(
     items: &[Item],
     told: &ToldLine,
     at: Rest<'a>,
-) -> Result<(Statement, Rest<'a>), DocRefusal>
+) -> Result<(Answer, Rest<'a>), DocRefusal>
     requires room { HasRoom at }
     ensures made { IfOk result (λ r. IsMadeOf told.now (reply_of r.0)) }
     ensures read { IfOk result (λ r. Takes (IsBody items.now (reply_of r.0)) at.entry r.1) }
@@ -326,13 +327,13 @@ fn read_body<'a>(
 {
     match told {
         ToldLine::Structure => match read_structure(alloc, at) {
-            Ok((model, rest)) => Ok((Statement::Met(model), rest)),
+            Ok((model, rest)) => Ok((Answer::Yes(model), rest)),
             Err(refusal) => Err(refusal),
         },
         ToldLine::Names(marks) => match read_core(alloc, items, marks, at) {
-            Ok((core, rest)) => Ok((Statement::Unmet(core), rest)),
+            Ok((core, rest)) => Ok((Answer::No(core), rest)),
             Err(refusal) => Err(refusal),
         },
-        ToldLine::LeftOpen => Ok((Statement::LeftOpen, at)),
+        ToldLine::LeftOpen => Ok((Answer::Open, at)),
     }
 }

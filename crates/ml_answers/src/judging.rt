@@ -1,6 +1,7 @@
 // What comes of an answer.
 ghost use Rattle.std.specs.Prelude.{◌≡◌, ◌⊎◌, length, map, IfOk};
 ghost use Rattle.ml_front.specs.Graphs.{IsGraphOf};
+ghost use Rattle.ml_replies.specs.Answers.{part_of, reply_of};
 ghost use Rattle.ml_replies.specs.Laws.{OneCheck};
 ghost use Rattle.ml_replies.specs.Meeting.{IsHeld, IsSmall, problem_of, without};
 ghost use Rattle.ml_replies.specs.Replies.{FailsByCheck, IsShown};
@@ -9,16 +10,15 @@ ghost use Rattle.ml_spec.specs.Specification.{IsSpecified};
 ghost use Rattle.ml_answers.specs.Checked as checked;
 ghost use Rattle.ml_answers.specs.Checked.{AreShown, IsNotRefuted, IsRefuted, IsShownBy, IsShownWithout, IsWrongWithout, SomeWrong};
 ghost use Rattle.ml_answers.specs.private.Judged.{ComesTo, FitsItems, worse};
-ghost use Rattle.ml_answers.specs.private.Plain.{part_of, plain, reply_of};
+ghost use Rattle.ml_answers.specs.private.Plain.{plain};
 
-use crate::stated::{StatedCore, StatedPart, Statement};
 use ml_base::NoMemory;
 use ml_front::{MOST_NODES, Problem, graph};
 use ml_graph::{ClosureRefusal, ModalGraph};
 use ml_kripke::Model;
 use ml_refutation::Refutation;
 use ml_refute_check::{Finding, check_refutation};
-use ml_replies::{Meets, meets};
+use ml_replies::{Answer, Core, Meets, Part, Without, meets};
 use ml_spec::{Question, Specification, joined};
 use std::alloc::Global;
 
@@ -54,7 +54,7 @@ pub(crate) fn judge(
     specification: &Specification,
     among: &[bool],
     question: Question,
-    statement: &Statement,
+    statement: &Answer,
 ) -> Result<Standing, NoMemory>
     requires specified { IsSpecified specification.now.logic specification.now.items.items }
     requires among { length among.now ≡ length specification.now.items.items }
@@ -66,9 +66,9 @@ pub(crate) fn judge(
         (checked.IsWrong specification.now.logic specification.now.items.items (is_in among.now) question (reply_of statement.now))) }
 {
     match statement {
-        Statement::Met(model) => judge_model(alloc, specification, among, question, model),
-        Statement::Unmet(core) => judge_core(alloc, specification, question, core),
-        Statement::LeftOpen => Ok(Standing::Unsettled),
+        Answer::Yes(model) => judge_model(alloc, specification, among, question, model),
+        Answer::No(core) => judge_core(alloc, specification, question, core),
+        Answer::Open => Ok(Standing::Unsettled),
     }
 }
 
@@ -107,7 +107,7 @@ fn judge_core(
     alloc: Global,
     specification: &Specification,
     question: Question,
-    core: &StatedCore,
+    core: &Core,
 ) -> Result<Standing, NoMemory>
     requires specified { IsSpecified specification.now.logic specification.now.items.items }
     requires taken { length core.now.taken.items ≡ length specification.now.items.items }
@@ -133,7 +133,7 @@ fn judge_refuted(
     alloc: Global,
     specification: &Specification,
     question: Question,
-    core: &StatedCore,
+    core: &Core,
 ) -> Result<Standing, NoMemory>
     requires specified { IsSpecified specification.now.logic specification.now.items.items }
     requires taken { length core.now.taken.items ≡ length specification.now.items.items }
@@ -192,7 +192,7 @@ fn judge_parts(
     specification: &Specification,
     taken: &[bool],
     question: Question,
-    parts: &[StatedPart],
+    parts: &[Part],
 ) -> Result<Standing, NoMemory>
     requires specified { IsSpecified specification.now.logic specification.now.items.items }
     requires taken { length taken.now ≡ length specification.now.items.items }
@@ -216,7 +216,7 @@ fn judge_part(
     specification: &Specification,
     taken: &[bool],
     question: Question,
-    part: &StatedPart,
+    part: &Part,
 ) -> Result<Standing, NoMemory>
     requires specified { IsSpecified specification.now.logic specification.now.items.items }
     requires taken { length taken.now ≡ length specification.now.items.items }
@@ -228,11 +228,11 @@ fn judge_part(
         (part_of part.now).without)) }
 {
     match &part.without {
-        Some(model) => {
+        Without::Met(model) => {
             let others = left_out(alloc, taken, part.requirement)?;
             judge_model(alloc, specification, &others, question, model)
         }
-        None => Ok(Standing::Unsettled),
+        Without::Open => Ok(Standing::Unsettled),
     }
 }
 

@@ -1,6 +1,7 @@
 // The bodies behind the line of an answer, read.
 ghost use Rattle.std.specs.Prelude.{◌≡◌, ◌+◌, List, ◌∷◌, drop, map, IfErr, IfOk, IsTrue, ◌↔◌};
 ghost use Rattle.ml_lines.specs.Reading.{words_of};
+ghost use Rattle.ml_replies.specs.Answers.{core_of, part_of};
 ghost use Rattle.ml_replies.specs.Replies as replies;
 ghost use Rattle.ml_replies.specs.Replies.{StillMet};
 ghost use Rattle.ml_answers.specs.Documents.{ArePartsText, IsBody, IsModel, IsRefutationOf, IsWithoutText, without_line};
@@ -8,18 +9,18 @@ ghost use Rattle.ml_answers.specs.Rules.{ArePartsFault, IsBodyFault, IsModelFaul
 ghost use Rattle.ml_answers.specs.private.Marks as naming;
 ghost use Rattle.ml_answers.specs.declared.names.Mark as spec;
 ghost use Rattle.ml_answers.specs.declared.rest.Rest as declared;
-ghost use Rattle.ml_answers.specs.private.Plain.{core_of, part_of, plain};
+ghost use Rattle.ml_answers.specs.private.Plain.{plain};
 ghost use Rattle.ml_answers.specs.private.Reads.{ArePartsOf, ArePartsReadTo, HasRoom, Takes, TellsFault};
 
 use crate::names::Mark;
 use crate::rest::{Rest, fault, next_body, next_line};
 use crate::rule::AnswersRule;
-use crate::stated::{StatedCore, StatedPart};
 use crate::words::name_at;
 use ml_base::{DocRefusal, NoMemory, Version};
 use ml_kripke::{Model, read_model};
 use ml_lines::two_words;
 use ml_refutation::Refutation;
+use ml_replies::{Core, Part, Without};
 use ml_spec::Item;
 use std::alloc::Global;
 
@@ -61,7 +62,7 @@ pub(crate) fn read_core<'a>(
     items: &[Item],
     marks: &[Mark],
     at: Rest<'a>,
-) -> Result<(StatedCore, Rest<'a>), DocRefusal>
+) -> Result<(Core, Rest<'a>), DocRefusal>
     requires { HasRoom at }
     ensures taken { IfOk result (λ r. r.0.taken.items ≡ map naming.is_named marks.now) }
     ensures parts { IfOk result (λ r. ArePartsOf 0 marks.now (map part_of r.0.parts.items)) }
@@ -79,7 +80,7 @@ pub(crate) fn read_core<'a>(
     };
     match taken_by(alloc, marks) {
         Ok(taken) => Ok((
-            StatedCore {
+            Core {
                 taken,
                 parts,
                 refutation,
@@ -116,7 +117,7 @@ fn read_parts<'a>(
     items: &[Item],
     marks: &[Mark],
     at: Rest<'a>,
-) -> Result<(Vec<StatedPart>, Rest<'a>), DocRefusal>
+) -> Result<(Vec<Part>, Rest<'a>), DocRefusal>
     requires { HasRoom at }
     ensures parts { IfOk result (λ r. ArePartsOf 0 marks.now (map part_of r.0.items)) }
     ensures read { IfOk result (λ r. Takes (ArePartsText items.now (map part_of r.0.items)) at.entry r.1) }
@@ -140,7 +141,7 @@ fn read_part<'a>(
     items: &[Item],
     mark: Mark,
     number: usize,
-    parts: &mut Vec<StatedPart>,
+    parts: &mut Vec<Part>,
     at: Rest<'a>,
 ) -> Result<Rest<'a>, DocRefusal>
     requires { HasRoom at }
@@ -158,17 +159,17 @@ fn read_part<'a>(
     match mark {
         Mark::Unnamed => Ok(at),
         Mark::Perhaps => {
-            parts.push(StatedPart {
+            parts.push(Part {
                 requirement: number,
-                without: None,
+                without: Without::Open,
             })?;
             Ok(at)
         }
         Mark::Needed => match read_without(alloc, items, number, at) {
             Ok((model, behind)) => {
-                parts.push(StatedPart {
+                parts.push(Part {
                     requirement: number,
-                    without: Some(model),
+                    without: Without::Met(model),
                 })?;
                 Ok(behind)
             }

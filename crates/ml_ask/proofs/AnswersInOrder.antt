@@ -7,7 +7,7 @@
 --                                          line
 --   fewer_left    == behind a conflict fewer are left
 --   all_replies   == these lines and the answers to the further questions are the answers
-use Rattle.std.proofs.Common.{◌≡◌, ℕ, suc, ◌+◌, ◌<◌, Bool, true, false, ◌||◌, cond, List, [], ◌∷◌, ◌++◌, Option, None, Some, filter, get_or, length, map, replicate, take, refl, sym, ap, subst, ◌∙◌, append_assoc, arith, length-take}
+use Rattle.std.proofs.Common.{◌≡◌, ℕ, suc, ◌+◌, ◌<◌, Bool, true, false, ◌||◌, cond, List, [], ◌∷◌, ◌++◌, None, Some, filter, get_or, length, map, replicate, take, refl, sym, ap, subst, ◌∙◌, append_assoc, arith, length-take}
 use Rattle.std.specs.List.{list_any, AllByRecursion}
 use Rattle.std.specs.Global.{Vec}
 use Rattle.std.proofs.lemmas.List.{append-nil, map-append, take_more}
@@ -20,15 +20,15 @@ use Rattle.ml_spec.specs.Questions.{asked_by, asking, asking_from, is_in, IsQues
 use Rattle.ml_spec.specs.declared.question.Question.{Question}
 use Rattle.ml_spec.specs.declared.question.Question.TheVariants as question
 use Rattle.ml_spec.specs.declared.specification.Item.{Item}
-use Rattle.ml_replies.specs.Meeting.{beside, everything}
+use Rattle.ml_replies.specs.Meeting.{everything}
 use Rattle.ml_replies.specs.Replies.{AreBehind, AreConflicts, AreOfAll, AreReplies, IsReply, Replied}
 use Rattle.ml_replies.proofs.Conflicts.{conflicts_same, reply_same}
 use Rattle.ml_replies.proofs.SomeReplies.{rest_less}
 use Rattle.ml_replies.proofs.Taken.{all_told, count}
-use Rattle.ml_ask.specs.Answers.{core_of, replied_of, reply_of}
-use Rattle.ml_ask.specs.declared.answer.Answer.{Answer}
-use Rattle.ml_ask.specs.declared.answer.Answer.TheVariants as answer
-use Rattle.ml_ask.specs.declared.answer.Answered.{Answered}
+use Rattle.ml_replies.specs.Answers.{core_of, replied_of, reply_of}
+use Rattle.ml_replies.specs.declared.answer.Answer.{Answer}
+use Rattle.ml_replies.specs.declared.answer.Answer.TheVariants as answer
+use Rattle.ml_replies.specs.declared.answer.Answered.{Answered}
 use Rattle.ml_ask.specs.declared.asked.Asked.{Asked}
 use Rattle.ml_ask.specs.private.Steps.{AreAnswered, IsAdded, IsAnswerTo, IsRestOf}
 

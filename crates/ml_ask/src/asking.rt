@@ -7,16 +7,17 @@ ghost use Rattle.ml_spec.specs.Joined.{requirements};
 ghost use Rattle.ml_spec.specs.Questions.{asking};
 ghost use Rattle.ml_replies.specs.Meeting.{everything};
 ghost use Rattle.ml_replies.specs.Replies.{AreConflicts, AreOfAll, AreReplies};
-ghost use Rattle.ml_ask.specs.Answers.{replied_of};
+ghost use Rattle.ml_replies.specs.Answers.{replied_of};
 ghost use Rattle.ml_ask.specs.private.Steps.{AreAnswered, IsAdded, IsAnswerTo, IsAsked, IsRestOf};
 
-use crate::answer::{Answer, Answered};
 use crate::asked::Asked;
+use crate::hints::Hints;
 use crate::leaving::needed;
 use crate::seeking::seek;
 use crate::sets::{for_all, left_beside};
 use crate::sought::Sought;
 use ml_base::NoMemory;
+use ml_replies::{Answer, Answered};
 use ml_spec::{Item, Question, Specification};
 use std::alloc::Global;
 
@@ -30,9 +31,9 @@ use std::alloc::Global;
 /// # Errors
 /// `NoMemory` alone.
 ///
-/// Cost: for each answer that of one search with all formulas at once, of some more with the requirements of a conflict, and of
-/// structures that are checked; where the search with all leads to nothing, of one more for each requirement at most. Each
-/// search is bounded by a fixed multiple of the limit.
+/// Cost: for each answer that of one search with all formulas at once, of about as many more as it found requirements that
+/// clash, and of structures that are checked; where the search with all leads to nothing, of one more for each requirement at
+/// most. Each search is bounded by a fixed multiple of the limit.
 pub fn ask(
     alloc: Global,
     specification: &Specification,
@@ -183,10 +184,24 @@ fn answer_to(alloc: Global, asked: Asked, earlier: &[Answered]) -> Result<Answer
     requires { IsAsked asked }
     ensures { IfOk result (IsAnswerTo asked.entry) }
 {
-    match seek(alloc, asked, earlier)? {
+    let mut hints = Hints::new(alloc);
+    answer_with(alloc, asked, earlier, &mut hints)
+}
+
+// with hints that are found on the way
+fn answer_with(
+    alloc: Global,
+    asked: Asked,
+    earlier: &[Answered],
+    hints: &mut Hints,
+) -> Result<Answer, NoMemory>
+    requires { IsAsked asked }
+    ensures { IfOk result (IsAnswerTo asked.entry) }
+{
+    match seek(alloc, asked, earlier, hints)? {
         Sought::Met(model) => Ok(Answer::Yes(model)),
         Sought::Unmet(refuted) => {
-            let core = needed(alloc, asked, refuted)?;
+            let core = needed(alloc, asked, refuted, hints)?;
             Ok(Answer::No(core))
         }
         Sought::Open => Ok(Answer::Open),

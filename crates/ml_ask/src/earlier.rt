@@ -2,7 +2,6 @@
 ghost use Rattle.std.specs.Prelude.{IfOk, IfSome};
 ghost use Rattle.ml_ask.specs.private.Steps.{AreProblemsOf, IsAsked, IsSought};
 
-use crate::answer::{Answer, Answered};
 use crate::asked::Asked;
 use crate::copying::copied;
 use crate::sets::flagged_among;
@@ -10,6 +9,7 @@ use crate::sought::{Sought, is_shown, refuted_of, shown};
 use ml_base::NoMemory;
 use ml_front::Problem;
 use ml_kripke::Model;
+use ml_replies::{Answer, Answered};
 use ml_spec::Question;
 use std::alloc::Global;
 

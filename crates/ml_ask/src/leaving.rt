@@ -1,19 +1,23 @@
 // Requirements left out that aren't needed.
 //
 // Of requirements that can't be met together one is left out at a time, and stays out where the others can't be met together
-// either. Once none can be left out any more, each has a structure for the others, or that stays open.
-ghost use Rattle.std.specs.Prelude.{◌≡◌, ◌<◌, false, length, slice_set, IfOk, MatchOption, OnOk};
+// either. Where a hint says that it is needed, that isn't tried. Once none can be left out any more, each has a structure for
+// the others, or that stays open: first a hint is checked, and where that fails or there is none, the others are decided.
+ghost use Rattle.std.specs.Prelude.{◌≡◌, ◌<◌, false, length, slice_set, IfOk, IsTrue, MatchOption, OnOk};
 ghost use Rattle.ml_spec.specs.Questions.{is_in};
 ghost use Rattle.ml_replies.specs.Meeting.{without};
+ghost use Rattle.ml_replies.specs.Replies.{IsShown};
 ghost use Rattle.ml_ask.specs.private.Steps.{ArePartsOf, IsAsked, IsCoreOf, IsLook, IsRefuted, IsSmaller};
 
-use crate::answer::{Core, Part, Without};
 use crate::asked::Asked;
 use crate::deciding::{Judged, judge};
+use crate::hints::Hints;
 use crate::sets::left_out;
 use crate::sought::Refuted;
 use ml_base::NoMemory;
+use ml_kripke::Model;
 use ml_refutation::Refutation;
+use ml_replies::{Core, Meets, Part, Without, meets};
 use std::alloc::Global;
 
 /// The requirements of these that are needed, with what is known without each of them.
@@ -21,16 +25,22 @@ use std::alloc::Global;
 /// # Errors
 /// `NoMemory` alone.
 ///
-/// Cost: that of two searches for each requirement, and of one more for each whenever one is left out in the second round.
-pub(crate) fn needed(alloc: Global, asked: Asked, refuted: Refuted) -> Result<Core, NoMemory>
+/// Cost: that of one search for each requirement without a hint, and of the check of a structure for each; whenever a check
+/// fails, or one is left out all the same, that of further searches.
+pub(crate) fn needed(
+    alloc: Global,
+    asked: Asked,
+    refuted: Refuted,
+    hints: &mut Hints,
+) -> Result<Core, NoMemory>
     requires asked { IsAsked asked }
     requires refuted { IsRefuted asked refuted }
     ensures { IfOk result (IsCoreOf asked.entry) }
 {
     let mut refuted = refuted;
-    leave_out(alloc, asked, &mut refuted)?;
+    leave_out(alloc, asked, &mut refuted, hints)?;
     let mut parts = Vec::new(alloc);
-    add_parts(alloc, asked, &mut refuted, &mut parts)?;
+    add_parts(alloc, asked, &mut refuted, hints, &mut parts)?;
     Ok(Core {
         taken: refuted.taken,
         parts,
@@ -38,26 +48,40 @@ pub(crate) fn needed(alloc: Global, asked: Asked, refuted: Refuted) -> Result<Co
     })
 }
 
-// leaves out each requirement in turn, where the others have no structure
-fn leave_out(alloc: Global, asked: Asked, refuted: &mut Refuted) -> Result<(), NoMemory>
+// leaves out each requirement without a hint in turn, where the others have no structure
+fn leave_out(
+    alloc: Global,
+    asked: Asked,
+    refuted: &mut Refuted,
+    hints: &mut Hints,
+) -> Result<(), NoMemory>
     requires asked { IsAsked asked }
     requires refuted { IsRefuted asked refuted.old }
     ensures { IsRefuted asked.entry refuted.new }
 {
     for number in 0..asked.specification.items.len() {
-        if refuted.taken[number] && asked.specification.items[number].kind.is_requirement() {
-            leave_one(alloc, asked, refuted, number)?;
+        if is_to_try(asked, &refuted.taken, number, hints) {
+            leave_one(alloc, asked, refuted, number, hints)?;
         }
     }
     Ok(())
 }
 
-// leaves out a requirement, where the others have no structure
+// is it a requirement of these, and is there no hint that it is needed?
+fn is_to_try(asked: Asked, taken: &[bool], number: usize, hints: &Hints) -> bool
+    requires taken { length taken.now ≡ length asked.specification.now.items.items }
+    requires number { number < length taken.now }
+{
+    taken[number] && asked.specification.items[number].kind.is_requirement() && !hints.has(number)
+}
+
+// leaves out a requirement, where the others have no structure; where they have one, it is kept as a hint
 fn leave_one(
     alloc: Global,
     asked: Asked,
     refuted: &mut Refuted,
     number: usize,
+    hints: &mut Hints,
 ) -> Result<(), NoMemory>
     requires asked { IsAsked asked }
     requires refuted { IsRefuted asked refuted.old }
@@ -69,7 +93,8 @@ fn leave_one(
             drop_one(refuted, number, refutation);
             Ok(())
         }
-        Ok(Look::Keep(_)) => Ok(()),
+        Ok(Look::Keep(Without::Met(model))) => hints.keep(number, model),
+        Ok(Look::Keep(Without::Open)) => Ok(()),
         Err(NoMemory) => Err(NoMemory),
     }
 }
@@ -113,11 +138,80 @@ fn look_without(
     }
 }
 
+// what is found of these requirements without one: by a hint, where it is right
+fn look_again(
+    alloc: Global,
+    asked: Asked,
+    taken: &[bool],
+    number: usize,
+    hints: &mut Hints,
+) -> Result<Look, NoMemory>
+    requires asked { IsAsked asked }
+    requires taken { length taken.now ≡ length asked.specification.now.items.items }
+    requires number { number < length taken.now }
+    ensures { IfOk result (IsLook asked.entry (without (is_in taken.now) number)) }
+{
+    match hints.take(number) {
+        Some(model) => look_by(alloc, asked, taken, number, model),
+        None => look_without(alloc, asked, taken, number),
+    }
+}
+
+// by a structure, where it meets the others
+fn look_by(
+    alloc: Global,
+    asked: Asked,
+    taken: &[bool],
+    number: usize,
+    model: Model,
+) -> Result<Look, NoMemory>
+    requires asked { IsAsked asked }
+    requires taken { length taken.now ≡ length asked.specification.now.items.items }
+    requires number { number < length taken.now }
+    ensures { IfOk result (IsLook asked.entry (without (is_in taken.now) number)) }
+{
+    match meets_without(alloc, asked, taken, number, &model) {
+        Ok(true) => Ok(Look::Keep(Without::Met(model))),
+        Ok(false) => look_without(alloc, asked, taken, number),
+        Err(NoMemory) => Err(NoMemory),
+    }
+}
+
+// does the structure meet these requirements without one, as far as that can be checked?
+fn meets_without(
+    alloc: Global,
+    asked: Asked,
+    taken: &[bool],
+    number: usize,
+    model: &Model,
+) -> Result<bool, NoMemory>
+    requires asked { IsAsked asked }
+    requires taken { length taken.now ≡ length asked.specification.now.items.items }
+    requires number { number < length taken.now }
+    ensures { IfOk result (λ met. IsTrue met → IsShown asked.entry.specification.now.logic asked.entry.specification.now.items.items
+        (without (is_in taken.now) number) asked.entry.question model.now.structure model.now.start) }
+{
+    let rest = left_out(alloc, taken, number)?;
+    match meets(
+        alloc,
+        asked.specification,
+        &rest,
+        asked.question,
+        &model.structure,
+        model.start,
+    ) {
+        Ok(Meets::Yes) => Ok(true),
+        Ok(Meets::No | Meets::Unknown) => Ok(false),
+        Err(NoMemory) => Err(NoMemory),
+    }
+}
+
 // Adds a part for each requirement to none. Where one can be left out all the same, it is, and the parts are begun anew.
 fn add_parts(
     alloc: Global,
     asked: Asked,
     refuted: &mut Refuted,
+    hints: &mut Hints,
     parts: &mut Vec<Part>,
 ) -> Result<(), NoMemory>
     requires asked { IsAsked asked }
@@ -125,7 +219,7 @@ fn add_parts(
     ensures refuted { IsRefuted asked.entry refuted.new }
     ensures parts { OnOk result (ArePartsOf asked.entry (is_in refuted.new.taken.items) parts.new.items) }
 {
-    while let Some((number, refutation)) = add_round(alloc, asked, &refuted.taken, parts)? {
+    while let Some((number, refutation)) = add_round(alloc, asked, &refuted.taken, hints, parts)? {
         drop_one(refuted, number, refutation);
     }
     Ok(())
@@ -136,6 +230,7 @@ fn add_round(
     alloc: Global,
     asked: Asked,
     taken: &[bool],
+    hints: &mut Hints,
     parts: &mut Vec<Part>,
 ) -> Result<Option<(usize, Refutation)>, NoMemory>
     requires asked { IsAsked asked }
@@ -147,7 +242,7 @@ fn add_round(
     parts.clear();
     for number in 0..asked.specification.items.len() {
         if taken[number] && asked.specification.items[number].kind.is_requirement() {
-            match look_without(alloc, asked, taken, number)? {
+            match look_again(alloc, asked, taken, number, hints)? {
                 Look::Keep(without) => parts.push(Part {
                     requirement: number,
                     without,

@@ -1,31 +1,37 @@
-// One search with all formulas at once.
+// One search with all formulas at once, and more with those that clash.
 //
-// Nothing is claimed of what it finds: a structure is checked, and the requirements of a clash are refuted by themselves. Where
-// that fails, each of them is left out in turn, as long as the others clash.
+// Nothing is claimed of what these searches find: a structure is checked, and the requirements of a clash are refuted by
+// themselves. Before that they are made fewer: by searches with them alone, as long as these tell of fewer; and then without
+// each of them in turn, the one with the longest formula first. A structure that is found without one is kept as a hint that
+// it is needed.
 ghost use Rattle.std.specs.Prelude.{ℕ, ◌≡◌, ◌<◌, true, length, IfOk, IfSome};
 ghost use Rattle.ml_spec.specs.Questions.{is_in};
 ghost use Rattle.ml_ask.specs.private.Steps.{AreProblemsOf, IsAsked, IsSought};
 
 use crate::asked::Asked;
-use crate::sets::{flagged_among, left_out};
+use crate::hints::Hints;
+use crate::sets::left_out;
 use crate::sought::{Sought, refuted_of, shown};
 use ml_base::NoMemory;
-use ml_front::{Logic, Problem};
+use ml_front::{Logic, Problem, occurrences};
 use ml_joined_graph::{Conjunct, JoinedFinding, search};
 use ml_spec::{Item, Kind, Question};
 use std::alloc::Global;
 
 /// A structure for all requirements of which the question is asked, or some that have none, where one search with all formulas
-/// leads there. In LTL of paths it never does: there each formula by itself may have a path of its own.
+/// leads there; then the hints are structures without some of these. In LTL of paths it never does: there each formula by
+/// itself may have a path of its own.
 ///
 /// # Errors
 /// `NoMemory` alone.
 ///
-/// Cost: that of the search, and of one more for each requirement of a clash that isn't refuted by itself.
+/// Cost: that of the search; where formulas clash, of as many more as they have requirements and of one further at most, and of
+/// `judge`, twice at most.
 pub(crate) fn seek_at_once(
     alloc: Global,
     asked: Asked,
     problems: &[Problem],
+    hints: &mut Hints,
 ) -> Result<Option<Sought>, NoMemory>
     requires asked { IsAsked asked }
     requires problems { AreProblemsOf asked problems.now }
@@ -36,70 +42,200 @@ pub(crate) fn seek_at_once(
     }
     match search_with(alloc, asked, asked.among)? {
         JoinedFinding::Structure(model) => shown(alloc, asked, problems, model),
-        JoinedFinding::Clash(flags) => by_clash(alloc, asked, &flags),
+        JoinedFinding::Clash(flags) => by_clash(alloc, asked, &flags, hints),
         JoinedFinding::Nothing => Ok(None),
     }
 }
 
-// by the formulas of a clash
-fn by_clash(alloc: Global, asked: Asked, flags: &[bool]) -> Result<Option<Sought>, NoMemory>
+// by fewer formulas of a clash, or by all of them
+fn by_clash(
+    alloc: Global,
+    asked: Asked,
+    flags: &[bool],
+    hints: &mut Hints,
+) -> Result<Option<Sought>, NoMemory>
     requires { IsAsked asked }
     ensures { IfOk result (λ found. IfSome found (IsSought asked.entry)) }
 {
     let clash = clashing(alloc, asked, asked.among, flags)?;
-    match refuted_of(alloc, asked, &clash)? {
+    let fewer = fewer_of(alloc, asked, &clash, hints)?;
+    match refuted_of(alloc, asked, &fewer)? {
         Some(sought) => Ok(Some(sought)),
-        None => by_fewer(alloc, asked, clash),
+        None => {
+            hints.clear();
+            by_more(alloc, asked, &clash, &fewer)
+        }
     }
 }
 
-// by fewer requirements of a clash
-fn by_fewer(alloc: Global, asked: Asked, clash: Vec<bool>) -> Result<Option<Sought>, NoMemory>
+// by the formulas of a clash, where they aren't those that were tried
+fn by_more(
+    alloc: Global,
+    asked: Asked,
+    clash: &[bool],
+    tried: &[bool],
+) -> Result<Option<Sought>, NoMemory>
     requires asked { IsAsked asked }
-    requires told { length clash.items ≡ length asked.specification.now.items.items }
-    requires among { (k : ℕ) → is_in clash.items k ≡ true → is_in asked.among.now k ≡ true }
+    requires told { length clash.now ≡ length asked.specification.now.items.items }
+    requires among { (k : ℕ) → is_in clash.now k ≡ true → is_in asked.among.now k ≡ true }
     ensures { IfOk result (λ found. IfSome found (IsSought asked.entry)) }
 {
-    let mut clash = clash;
-    leave_out(alloc, asked, &mut clash)?;
-    refuted_of(alloc, asked, &clash)
+    if clash == tried {
+        Ok(None)
+    } else {
+        refuted_of(alloc, asked, clash)
+    }
 }
 
-// leaves out each requirement in turn, where the others clash
-fn leave_out(alloc: Global, asked: Asked, clash: &mut Vec<bool>) -> Result<(), NoMemory>
+// as few requirements of a clash as searches tell of
+fn fewer_of(
+    alloc: Global,
+    asked: Asked,
+    clash: &[bool],
+    hints: &mut Hints,
+) -> Result<Vec<bool>, NoMemory>
+    requires asked { IsAsked asked }
+    requires told { length clash.now ≡ length asked.specification.now.items.items }
+    ensures told { IfOk result (λ fewer. length fewer.items ≡ length clash.now) }
+    ensures among { IfOk result (λ fewer. (k : ℕ) → is_in fewer.items k ≡ true → is_in clash.now k ≡ true) }
+{
+    let mut fewer = Vec::from_slice(alloc, clash)?;
+    make_fewer(alloc, asked, &mut fewer, hints)?;
+    Ok(fewer)
+}
+
+fn make_fewer(
+    alloc: Global,
+    asked: Asked,
+    clash: &mut Vec<bool>,
+    hints: &mut Hints,
+) -> Result<(), NoMemory>
     requires asked { IsAsked asked }
     requires told { length clash.old.items ≡ length asked.specification.now.items.items }
     ensures told { length clash.new.items ≡ length clash.old.items }
     ensures among { (k : ℕ) → is_in clash.new.items k ≡ true → is_in clash.old.items k ≡ true }
 {
-    for number in 0..asked.specification.items.len() {
-        if clash[number] && asked.specification.items[number].kind.is_requirement() {
-            if let Some(fewer) = clash_without(alloc, asked, clash, number)? {
-                *clash = fewer;
-            }
+    search_again(alloc, asked, clash)?;
+    leave_out(alloc, asked, clash, hints)
+}
+
+// searches with those that clash alone, as long as fewer of them are told
+fn search_again(alloc: Global, asked: Asked, clash: &mut Vec<bool>) -> Result<(), NoMemory>
+    requires asked { IsAsked asked }
+    requires told { length clash.old.items ≡ length asked.specification.now.items.items }
+    ensures told { length clash.new.items ≡ length clash.old.items }
+    ensures among { (k : ℕ) → is_in clash.new.items k ≡ true → is_in clash.old.items k ≡ true }
+{
+    for _ in 0..asked.among.len() {
+        match fewer_told(alloc, asked, clash)? {
+            Some(fewer) => *clash = fewer,
+            None => return Ok(()),
         }
     }
     Ok(())
 }
 
-// those that clash without one
-fn clash_without(
+// those of these that clash, where they aren't all
+fn fewer_told(alloc: Global, asked: Asked, within: &[bool]) -> Result<Option<Vec<bool>>, NoMemory>
+    requires asked { IsAsked asked }
+    requires told { length within.now ≡ length asked.specification.now.items.items }
+    ensures told { IfOk result (λ found. IfSome found (λ fewer. length fewer.items ≡ length within.now)) }
+    ensures among { IfOk result (λ found. IfSome found
+        (λ fewer. (k : ℕ) → is_in fewer.items k ≡ true → is_in within.now k ≡ true)) }
+{
+    match search_with(alloc, asked, within)? {
+        JoinedFinding::Clash(flags) => fewer_flagged(alloc, asked, within, &flags),
+        JoinedFinding::Structure(_) | JoinedFinding::Nothing => Ok(None),
+    }
+}
+
+fn fewer_flagged(
     alloc: Global,
     asked: Asked,
-    clash: &[bool],
-    number: usize,
+    within: &[bool],
+    flags: &[bool],
 ) -> Result<Option<Vec<bool>>, NoMemory>
-    requires asked { IsAsked asked }
-    requires told { length clash.now ≡ length asked.specification.now.items.items }
-    requires number { number < length clash.now }
-    ensures told { IfOk result (λ found. IfSome found (λ fewer. length fewer.items ≡ length clash.now)) }
+    requires { length within.now ≡ length asked.specification.now.items.items }
+    ensures told { IfOk result (λ found. IfSome found (λ fewer. length fewer.items ≡ length within.now)) }
     ensures among { IfOk result (λ found. IfSome found
-        (λ fewer. (k : ℕ) → is_in fewer.items k ≡ true → is_in clash.now k ≡ true)) }
+        (λ fewer. (k : ℕ) → is_in fewer.items k ≡ true → is_in within.now k ≡ true)) }
+{
+    let clash = clashing(alloc, asked, within, flags)?;
+    if clash.as_slice() == within {
+        Ok(None)
+    } else {
+        Ok(Some(clash))
+    }
+}
+
+// leaves out each requirement in turn, where the others clash
+fn leave_out(
+    alloc: Global,
+    asked: Asked,
+    clash: &mut Vec<bool>,
+    hints: &mut Hints,
+) -> Result<(), NoMemory>
+    requires asked { IsAsked asked }
+    requires told { length clash.old.items ≡ length asked.specification.now.items.items }
+    ensures told { length clash.new.items ≡ length clash.old.items }
+    ensures among { (k : ℕ) → is_in clash.new.items k ≡ true → is_in clash.old.items k ≡ true }
+{
+    let mut untried = Vec::from_slice(alloc, clash)?;
+    for _ in 0..asked.among.len() {
+        match longest(asked, clash, &untried) {
+            Some(number) => {
+                untried[number] = false;
+                leave_one(alloc, asked, clash, number, hints)?;
+            }
+            None => return Ok(()),
+        }
+    }
+    Ok(())
+}
+
+// the requirement with the longest formula of those that clash and weren't tried
+fn longest(asked: Asked, clash: &[bool], untried: &[bool]) -> Option<usize>
+    requires clash { length clash.now ≡ length asked.specification.now.items.items }
+    requires untried { length untried.now ≡ length asked.specification.now.items.items }
+    ensures { IfSome result (λ n. n < length asked.entry.specification.now.items.items) }
+{
+    let mut longest = None;
+    let mut size = 0;
+    for number in 0..asked.specification.items.len() {
+        let item = &asked.specification.items[number];
+        if clash[number] && untried[number] && item.kind.is_requirement() {
+            let own = occurrences(&item.formula);
+            if own > size {
+                longest = Some(number);
+                size = own;
+            }
+        }
+    }
+    longest
+}
+
+// leaves out one, where the others clash; a structure for the others is kept as a hint
+fn leave_one(
+    alloc: Global,
+    asked: Asked,
+    clash: &mut Vec<bool>,
+    number: usize,
+    hints: &mut Hints,
+) -> Result<(), NoMemory>
+    requires asked { IsAsked asked }
+    requires told { length clash.old.items ≡ length asked.specification.now.items.items }
+    requires number { number < length asked.specification.now.items.items }
+    ensures told { length clash.new.items ≡ length clash.old.items }
+    ensures among { (k : ℕ) → is_in clash.new.items k ≡ true → is_in clash.old.items k ≡ true }
 {
     let rest = left_out(alloc, clash, number)?;
     match search_with(alloc, asked, &rest)? {
-        JoinedFinding::Clash(flags) => Ok(Some(clashing(alloc, asked, &rest, &flags)?)),
-        JoinedFinding::Structure(_) | JoinedFinding::Nothing => Ok(None),
+        JoinedFinding::Clash(flags) => {
+            *clash = clashing(alloc, asked, &rest, &flags)?;
+            Ok(())
+        }
+        JoinedFinding::Structure(model) => hints.keep(number, model),
+        JoinedFinding::Nothing => Ok(()),
     }
 }
 

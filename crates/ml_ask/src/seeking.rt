@@ -6,31 +6,38 @@ ghost use Rattle.std.specs.Prelude.{IfOk};
 ghost use Rattle.ml_spec.specs.Questions.{is_in};
 ghost use Rattle.ml_ask.specs.private.Steps.{AreProblemsOf, AreRefutedBy, IsAsked, IsSought};
 
-use crate::answer::Answered;
 use crate::asked::Asked;
 use crate::deciding::{Judged, judge};
 use crate::earlier::seek_earlier;
+use crate::hints::Hints;
 use crate::narrowing::seek_few;
 use crate::searching::seek_at_once;
 use crate::sought::{Refuted, Sought};
 use ml_base::NoMemory;
 use ml_front::Problem;
 use ml_refutation::Refutation;
-use ml_replies::problems_of;
+use ml_replies::{Answered, problems_of};
 use std::alloc::Global;
 
-/// A structure for all requirements of which the question is asked, or some that have none; or it stays open.
+/// A structure for all requirements of which the question is asked, or some that have none; or it stays open. Where some have
+/// none, structures without one of them may be hints.
 ///
 /// # Errors
 /// `NoMemory` alone.
 ///
-/// Cost: that of one search with all formulas, of one with few for each requirement at most, and of the structures' checks.
-pub(crate) fn seek(alloc: Global, asked: Asked, earlier: &[Answered]) -> Result<Sought, NoMemory>
+/// Cost: that of one search with all formulas, of some with those that clash or of one with few for each requirement, and of
+/// the structures' checks.
+pub(crate) fn seek(
+    alloc: Global,
+    asked: Asked,
+    earlier: &[Answered],
+    hints: &mut Hints,
+) -> Result<Sought, NoMemory>
     requires { IsAsked asked }
     ensures { IfOk result (IsSought asked.entry) }
 {
     let problems = problems_of(alloc, asked.specification, asked.among, asked.question)?;
-    seek_by(alloc, asked, &problems, earlier)
+    seek_by(alloc, asked, &problems, earlier, hints)
 }
 
 // by the problems of the formulas, which are made once
@@ -39,6 +46,7 @@ fn seek_by(
     asked: Asked,
     problems: &[Problem],
     earlier: &[Answered],
+    hints: &mut Hints,
 ) -> Result<Sought, NoMemory>
     requires asked { IsAsked asked }
     requires problems { AreProblemsOf asked problems.now }
@@ -47,7 +55,7 @@ fn seek_by(
     if let Some(sought) = seek_earlier(alloc, asked, problems, earlier)? {
         return Ok(sought);
     }
-    if let Some(sought) = seek_at_once(alloc, asked, problems)? {
+    if let Some(sought) = seek_at_once(alloc, asked, problems, hints)? {
         return Ok(sought);
     }
     if let Some(sought) = seek_few(alloc, asked, problems)? {

@@ -4,8 +4,6 @@ pub mod Lists
 pub mod Verdicts
 -- lines, word by word
 pub mod WrittenLines
--- formulas of items are well formed
-pub mod WellFormedItems
 -- the document that is written
 pub mod WrittenDocuments
 -- answers whose structures have a text

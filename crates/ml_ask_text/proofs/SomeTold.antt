@@ -12,6 +12,7 @@ use Rattle.ml_spec.proofs.OneAnswer.{some_reading}
 use Rattle.ml_spec.proofs.Readings.{specified}
 use Rattle.ml_replies.proofs.SomeReplies.{some_replies}
 use Rattle.ml_replies.specs.Replies.{AreReplies, Replied}
+use Rattle.ml_replies.proofs.WellFormedItems.{items_well}
 use Rattle.ml_answers.specs.Lines.{lines_of}
 use Rattle.ml_ask_text.specs.Laws.{SomeTold}
 use Rattle.ml_ask_text.specs.Told.{verdict_of, IsToldOf, IsWrittenAs}
@@ -21,7 +22,6 @@ use Rattle.ml_ask_text.specs.declared.told.Told.{Told}
 use Rattle.ml_ask_text.specs.declared.told.Told.TheVariants.{Answered, Refused}
 use Rattle.ml_ask_text.specs.private.Written.{document_text, AreShown}
 use Rattle.ml_ask_text.proofs.ShownReplies.{some_shown}
-use Rattle.ml_ask_text.proofs.WellFormedItems.{items_well}
 use Rattle.ml_ask_text.proofs.WrittenDocuments.{all_refuted, document_is}
 
 written_as : (f : Form) (l : Logic) (xs : List Item) (n : ℕ) (rs : List Replied)

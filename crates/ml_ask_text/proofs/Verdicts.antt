@@ -4,10 +4,10 @@
 use Rattle.std.proofs.Common.{◌≡◌, Bool, cond, List, map, ap, sym, ◌∙◌}
 use Rattle.std.specs.List.{list_any}
 use Rattle.ml_spec.specs.declared.specification.Item.{Item}
-use Rattle.ml_ask.specs.declared.answer.Answered as asked
+use Rattle.ml_replies.specs.declared.answer.Answered as asked
 use Rattle.ml_ask_text.specs.Told.{is_against, is_left_open, verdict_of}
 use Rattle.ml_ask_text.specs.declared.told.Verdict.TheVariants.{AsMeant, Against, Open}
-use Rattle.ml_ask.specs.Answers.{replied_of}
+use Rattle.ml_replies.specs.Answers.{replied_of}
 use Rattle.ml_ask_text.proofs.Lists.{any_map}
 
 pub verdict_is : (xs : List Item) (answers : List asked.Answered) (b c : Bool)

@@ -10,9 +10,9 @@ use Rattle.std.proofs.lemmas.List.{append-nil}
 use Rattle.ml_lines.specs.Lines.{Line, Word, line_text, next}
 use Rattle.ml_lines.proofs.Words.{line_text-words}
 use Rattle.ml_spec.specs.declared.specification.Item.{Item}
-use Rattle.ml_ask.specs.declared.answer.Part as asked_part
+use Rattle.ml_replies.specs.declared.answer.Part as asked_part
 use Rattle.ml_answers.specs.Lines.{because_words, is_needed, is_unsettled, needed_name, perhaps_words, unsettled_name}
-use Rattle.ml_ask.specs.Answers.{part_of}
+use Rattle.ml_replies.specs.Answers.{part_of}
 use Rattle.ml_ask_text.proofs.Lists.{any_map, names_joined}
 
 pub line_written : (old one two three new : List ℕ) (given word : Word) (words told behind : Line)

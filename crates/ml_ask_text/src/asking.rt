@@ -3,16 +3,17 @@ ghost use Rattle.std.specs.Prelude.{◌≡◌, ◌≤◌, IfOk, map};
 ghost use Rattle.ml_spec.specs.Specification.{IsSpecification, IsSpecified};
 ghost use Rattle.ml_replies.specs.Replies.{AreReplies};
 ghost use Rattle.ml_answers.specs.Lines.{lines_of};
-ghost use Rattle.ml_ask.specs.Answers.{replied_of};
+ghost use Rattle.ml_replies.specs.Answers.{replied_of};
 ghost use Rattle.ml_ask_text.specs.Told.{IsToldOf, IsWrittenAs};
 
 use crate::document::document_of;
 use crate::lines::write_lines;
 use crate::told::{Form, Told, WrittenAnswers};
 use crate::verdict::verdict_of;
-use ml_ask::{Answered, ask};
+use ml_ask::ask;
 use ml_base::NoMemory;
 use ml_front::Logic;
+use ml_replies::Answered;
 use ml_spec::{Item, SpecRefusal, Specification, read};
 use std::alloc::Global;
 

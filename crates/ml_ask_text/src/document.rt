@@ -4,17 +4,17 @@ ghost use Rattle.std.specs.List.{flat_map, AllByRecursion};
 ghost use Rattle.ml_kripke.specs.ModelText.{model_text};
 ghost use Rattle.ml_lines.specs.Lines.{line_text};
 ghost use Rattle.ml_answers.specs.Documents.{last_line, title_line, without_line};
-ghost use Rattle.ml_ask.specs.Answers.{part_of, replied_of, reply_of};
+ghost use Rattle.ml_replies.specs.Answers.{part_of, replied_of, reply_of};
 ghost use Rattle.ml_ask_text.specs.private.Written.{block_text, body_text, document_text, part_text};
 ghost use Rattle.ml_ask_text.specs.private.Written.{AreShown, IsPartShown, IsRepliedShown, IsReplyShown, IsShown};
 
 use crate::lines::write_line;
 use crate::words::name_at;
-use ml_ask::{Answer, Answered, Core, Part, Without};
 use ml_base::{NoMemory, Version};
 use ml_kripke::{Model, append_model};
 use ml_lines::{end_line, write_next_word, write_word};
 use ml_refutation_text::append_refutation;
+use ml_replies::{Answer, Answered, Core, Part, Without};
 use ml_spec::Item;
 use std::alloc::Global;
 

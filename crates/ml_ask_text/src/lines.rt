@@ -4,12 +4,12 @@ ghost use Rattle.std.specs.List.{flat_map, list_any};
 ghost use Rattle.ml_lines.specs.Lines.{line_text, next};
 ghost use Rattle.ml_answers.specs.Lines as lines;
 ghost use Rattle.ml_answers.specs.Lines.{because_words, line_of, lines_of, needed_name, perhaps_words, reply_words, unsettled_name};
-ghost use Rattle.ml_ask.specs.Answers.{part_of, replied_of, reply_of};
+ghost use Rattle.ml_replies.specs.Answers.{part_of, replied_of, reply_of};
 
 use crate::words::{first_word, name_at, wants_structure, write_asked_name};
-use ml_ask::{Answer, Answered, Part, Without};
 use ml_base::NoMemory;
 use ml_lines::{end_line, write_next_word, write_word};
+use ml_replies::{Answer, Answered, Part, Without};
 use ml_spec::Item;
 
 fn yes_or_no(yes: bool) -> &'static [u8]

@@ -1,12 +1,12 @@
 // What answers come to.
 ghost use Rattle.std.specs.Prelude.{◌≡◌, map};
 ghost use Rattle.std.specs.List.{list_any};
-ghost use Rattle.ml_ask.specs.Answers.{replied_of};
+ghost use Rattle.ml_replies.specs.Answers.{replied_of};
 ghost use Rattle.ml_ask_text.specs.Told as told;
 
 use crate::told::Verdict;
 use crate::words::wants_structure;
-use ml_ask::{Answer, Answered};
+use ml_replies::{Answer, Answered};
 use ml_spec::Item;
 
 fn is_against(items: &[Item], answered: &Answered) -> bool

@@ -1,6 +1,6 @@
 -- Which items are chosen, and what is joined of them.
 --
---   chosen_same     == sets that agree on the numbers of items choose the same items
+--   chosen_from_same, chosen_same == sets that agree on the numbers of items choose the same items
 --   problem_same, problems_same == so their problems are the same
 --   none_chosen     == where no number is in a set, no item is chosen
 --   joined_in       == what is joined for a question is of the logic
@@ -25,7 +25,7 @@ use Rattle.ml_spec.specs.declared.specification.Item.{Item}
 use Rattle.ml_spec.proofs.ChosenItems.{parts_in}
 use Rattle.ml_replies.specs.Meeting.{is_negated, plain, problem_by_item, problem_of, problems_asked, problems_of}
 
-chosen_from_same : (S T : ℕ → Bool) (n : ℕ) (xs : List Item)
+pub chosen_from_same : (S T : ℕ → Bool) (n : ℕ) (xs : List Item)
     → ((k : ℕ) → k < length xs → S (n + k) ≡ T (n + k))
     → chosen_from S n xs ≡ chosen_from T n xs
 chosen_from_same S T n [] same = refl

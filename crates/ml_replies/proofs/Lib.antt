@@ -10,6 +10,8 @@ pub mod Checks
 pub mod ProblemLogics
 -- what comes of checking a structure
 pub mod Verdicts
+-- the formulas of a specification are well formed
+pub mod WellFormedItems
 -- formulas that are joined are well formed
 pub mod WellFormedJoins
 -- exactly one thing comes of checking a structure

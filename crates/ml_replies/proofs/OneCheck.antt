@@ -25,10 +25,10 @@ use Rattle.ml_replies.specs.Meeting.{problem_of, problems_of, IsHeld, IsSmall}
 use Rattle.ml_replies.specs.Replies.{not_admitted, MeetsAs}
 use Rattle.ml_replies.specs.declared.outcome.Meets.{Meets}
 use Rattle.ml_replies.specs.declared.outcome.Meets.TheVariants.{Yes, No, Unknown}
-use Rattle.ml_replies.specs.private.Checks.{EachAs, HoldsIfSmall, JoinedAs, OneAs}
+use Rattle.ml_replies.specs.private.Checks.{EachAs, JoinedAs, OneAs}
 use Rattle.ml_replies.proofs.Chosen.{joined_in}
 use Rattle.ml_replies.proofs.ProblemLogics.{all_admitted, IsAdmittedBy}
-use Rattle.ml_replies.proofs.Verdicts.{as_joined, by_each_failed, by_each_met, from_joined, shown_or_fails}
+use Rattle.ml_replies.proofs.Verdicts.{all_if_small, as_joined, by_each_failed, by_each_met, from_joined, shown_or_fails}
 use Rattle.ml_replies.proofs.WellFormedJoins.{joined_well, problems_well, IsOfWell}
 
 -- ---- something
@@ -49,10 +49,6 @@ module _ (m : Structure) (s : ℕ) (below : s < m.states) where
   behind : (p : Problem) (ps : List Problem) → EachAs ps m s No → EachAs (p ∷ ps) m s No
   behind p ps (x, among, small, fails) = (x, contains_later p ps x among, small, fails)
 
-  if_small : (ps : List Problem) → AllByRecursion (HoldsAt m s) ps → AllByRecursion (HoldsIfSmall m s) ps
-  if_small [] all = tt
-  if_small (p ∷ ps) all = ((λ small. all.0), if_small ps all.1)
-
   both : (p : Problem) (ps : List Problem) (a b : Meets) → OneAs p m s a → EachAs ps m s b → (r : Meets) × EachAs (p ∷ ps) m s r
   both p ps No b here rest = (No, (p, contains_head p ps, here.0, here.1))
   both p ps Yes No here rest = (No, behind p ps rest)
@@ -60,7 +56,7 @@ module _ (m : Structure) (s : ℕ) (below : s < m.states) where
   both p ps Yes Yes here rest = (Yes, ((here.0, rest.0), (here.1, rest.1)))
   both p ps Yes Unknown here rest = (Unknown, ((λ all. rest.0 all.1), ((λ small. here.1), rest.1)))
   both p ps Unknown Yes here rest =
-      (Unknown, ((λ all. all.0 here), ((λ small. absurd (small here)), if_small ps rest.1)))
+      (Unknown, ((λ all. all.0 here), ((λ small. absurd (small here)), all_if_small m s ps rest.1)))
   both p ps Unknown Unknown here rest =
       (Unknown, ((λ all. all.0 here), ((λ small. absurd (small here)), rest.1)))
 

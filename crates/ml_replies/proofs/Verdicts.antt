@@ -1,6 +1,7 @@
 -- What comes of checking a structure, by each formula and by the joined one.
 --
 --   all_at        == what holds of all elements of a list holds of each that it contains
+--   all_if_small  == where all problems hold, all small ones do
 --   one_more, one_fails == of problems that were looked at one after the other
 --   as_joined     == of a joined formula that is held
 --   by_each_met, by_each_failed == each formula holds, or some one fails
@@ -36,7 +37,7 @@ all_at P xs x all (k, below, is) = subst P is (at_place P xs k x all below)
 -- ---- one after the other
 
 module _ (m : Structure) (s : ℕ) where
-  all_if_small : (ps : List Problem) → AllByRecursion (HoldsAt m s) ps → AllByRecursion (HoldsIfSmall m s) ps
+  pub all_if_small : (ps : List Problem) → AllByRecursion (HoldsAt m s) ps → AllByRecursion (HoldsIfSmall m s) ps
   all_if_small [] all = tt
   all_if_small (p ∷ ps) all = ((λ small. all.0), all_if_small ps all.1)
 

@@ -11,9 +11,9 @@ use Rattle.std.specs.List.{AllByRecursion}
 use Rattle.ml_front.specs.declared.logic.Logic.{Logic}
 use Rattle.ml_spec.specs.Questions.{IsQuestion}
 use Rattle.ml_spec.specs.declared.specification.Item.{Item}
-use Rattle.ml_replies.specs.Replies.{Reply, LeftOpen, Met, Unmet}
+use Rattle.ml_replies.specs.Answers.{reply_of}
+use Rattle.ml_replies.specs.Replies.{Reply, Unmet}
 use Rattle.ml_answers.specs.Checked.{IsFirst, IsShownAt, IsWrongAt, Placed}
-use Rattle.ml_answers.specs.private.Plain.{reply_of}
 use Rattle.ml_answers.specs.declared.stated.Stated.{Stated}
 use Rattle.ml_answers.specs.declared.judging.Standing.{Standing}
 use Rattle.ml_answers.specs.declared.judging.Standing.TheVariants.{Shown, Unsettled, Wrong}

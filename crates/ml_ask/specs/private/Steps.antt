@@ -30,12 +30,12 @@ use Rattle.ml_spec.specs.declared.question.Question.{Question}
 use Rattle.ml_spec.specs.declared.specification.Item.{Item}
 use Rattle.ml_replies.specs.Meeting.{beside, everything, numbers_in, problem_of, problems_of, without, CanStayOpen, IsHeld, IsSmall}
 use Rattle.ml_replies.specs.Replies.{IsCore, IsPart, IsReply, IsShown, IsWithout}
-use Rattle.ml_ask.specs.Answers.{core_of, part_of, replied_of, reply_of, without_of}
-use Rattle.ml_ask.specs.declared.answer.Answer.{Answer}
-use Rattle.ml_ask.specs.declared.answer.Answer.TheVariants as answer
-use Rattle.ml_ask.specs.declared.answer.Answered.{Answered}
-use Rattle.ml_ask.specs.declared.answer.Core.{Core}
-use Rattle.ml_ask.specs.declared.answer.Part.{Part}
+use Rattle.ml_replies.specs.Answers.{core_of, part_of, replied_of, reply_of, without_of}
+use Rattle.ml_replies.specs.declared.answer.Answer.{Answer}
+use Rattle.ml_replies.specs.declared.answer.Answer.TheVariants as answer
+use Rattle.ml_replies.specs.declared.answer.Answered.{Answered}
+use Rattle.ml_replies.specs.declared.answer.Core.{Core}
+use Rattle.ml_replies.specs.declared.answer.Part.{Part}
 use Rattle.ml_ask.specs.declared.asked.Asked.{Asked}
 use Rattle.ml_ask.specs.declared.deciding.Judged.{Judged}
 use Rattle.ml_ask.specs.declared.deciding.Judged.TheVariants as judged

@@ -1,10 +1,10 @@
 use Rattle.std.proofs.Common.{◌≤◌, ◌^◌, take, length, sym, subst, arith}
+use Rattle.std.proofs.lemmas.Result.{IfOk-weaker}
 use Rattle.ml_lines.proofs.Cuts.{slice_end}
 use Rattle.ml_answers.specs.Checked.{IsFoundIn}
 use Rattle.ml_answers.specs.Documents.{title_line}
 use Rattle.ml_answers.specs.Texts.{IsLine, IsThen}
 use Rattle.ml_answers.proofs.Found.{both_fit, found_from, none_found, title_there}
-use Rattle.ml_answers.proofs.Reading.{if_ok_weaker}
 use Rattle.ml_answers.proofs.check.check_answers.Goals as goal
 
 pub check_behind-requires-clause-title : goal.check_behind-requires-clause-title
@@ -21,7 +21,7 @@ pub returns-in-Some : goal.returns-in-Some
 returns-in-Some c =
     let text = c.args.bytes.now in
     let at = c.in-Some.at in
-    if_ok_weaker c.check_behind.result _ _
+    IfOk-weaker c.check_behind.result _ _
     (λ x found.
     found_from text at x (sym c.in-Some.ensures.found)
     (subst (λ document. IsFoundIn (take at text) document x) (sym (slice_end text at)) found))

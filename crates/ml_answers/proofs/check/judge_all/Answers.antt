@@ -1,6 +1,6 @@
+use Rattle.std.proofs.lemmas.Result.{IfOk-weaker}
 use Rattle.ml_answers.proofs.Found.{checked_found}
 use Rattle.ml_answers.proofs.Judgable.{are_judgable}
-use Rattle.ml_answers.proofs.Reading.{if_ok_weaker}
 use Rattle.ml_answers.proofs.check.judge_all.Goals as goal
 
 pub verdict-requires-clause-judgable : goal.verdict-requires-clause-judgable
@@ -10,7 +10,7 @@ verdict-requires-clause-judgable c =
 pub returns : goal.returns
 returns c =
     let s = c.args.specification.now in
-    if_ok_weaker c.verdict.result _ _
+    IfOk-weaker c.verdict.result _ _
     (λ x is.
     checked_found c.args._text.now s.logic s.items.items c.args._at c.args.stated.now x c.requires.short
     c.requires.is_specification c.requires.line c.requires.read is)

@@ -1,6 +1,6 @@
 use Rattle.std.proofs.Common.{sym, ◌∙◌}
-use Rattle.ml_answers.specs.private.Plain.{reply_of}
-use Rattle.ml_answers.proofs.Reading.{if_ok_weaker}
+use Rattle.std.proofs.lemmas.Result.{IfOk-weaker}
+use Rattle.ml_replies.specs.Answers.{reply_of}
 use Rattle.ml_answers.proofs.SameSets.{comes_all, comes_rest}
 use Rattle.ml_answers.proofs.checking.judge_next.Goals as goal
 
@@ -15,7 +15,7 @@ pub returns-else-is_of_conflict-clause-comes : goal.returns-else-is_of_conflict-
 returns-else-is_of_conflict-clause-comes c =
     let s = c.args.specification.now in
     let a = c.args.answer.now in
-    if_ok_weaker c.judge-else-is_of_conflict.result _ _
+    IfOk-weaker c.judge-else-is_of_conflict.result _ _
     (λ t is R agrees.
     comes_all s.logic s.items.items R c.args.all.now a.question (reply_of a.statement) t
     (sym c.is_of_conflict.ensures ∙ c.if-is_of_conflict.false) c.requires.all is)

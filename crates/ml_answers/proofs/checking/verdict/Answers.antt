@@ -1,11 +1,11 @@
 use Rattle.std.proofs.Common.{◌≡◌, ◌+◌, ◌<◌, ◌≤◌, ◌++◌, ◌∷◌, Some, length, drop, take, sym, ap, subst, ◌∙◌, arith}
 use Rattle.std.specs.Option.{option_or}
 use Rattle.std.proofs.lemmas.List.{drop_more, length-replicate, take_at}
+use Rattle.ml_replies.specs.Answers.{reply_of}
 use Rattle.ml_answers.specs.Checked as checked
 use Rattle.ml_answers.specs.Checked.{IsShownBy}
 use Rattle.ml_answers.specs.Due.{asked_of}
 use Rattle.ml_answers.specs.private.Judged.{ComesTo, IsJudgable}
-use Rattle.ml_answers.specs.private.Plain.{reply_of}
 use Rattle.ml_answers.specs.private.Words.{Agrees}
 use Rattle.ml_answers.proofs.DocumentRead.{agree_all}
 use Rattle.ml_answers.proofs.Judgments.{judged_begin, judged_open, judged_shown, open_at, right_at, wrong_at, AreJudgedTo}

@@ -1,17 +1,18 @@
 use Rattle.std.proofs.Common.{refl}
+use Rattle.std.proofs.lemmas.Result.{IfErr-weaker, IfOk-weaker}
 use Rattle.ml_lines.specs.Reading.{words_of}
 use Rattle.ml_spec.specs.Questions.{is_in}
+use Rattle.ml_replies.specs.Answers.{reply_of}
 use Rattle.ml_answers.specs.Documents.{IsBody}
-use Rattle.ml_answers.specs.private.Plain.{reply_of}
 use Rattle.ml_answers.specs.private.Reads.{IsMadeOf, Takes}
 use Rattle.ml_answers.proofs.AnswerLines.{made_fits}
 use Rattle.ml_answers.proofs.DocumentRead.{answer_refused, answer_taken, shorter}
-use Rattle.ml_answers.proofs.Reading.{if_err_weaker, if_ok_both, if_ok_weaker, next_room, room_behind}
+use Rattle.ml_answers.proofs.Reading.{if_ok_both, next_room, room_behind}
 use Rattle.ml_answers.proofs.document.read_answer.Goals as goal
 
 pub returns-in-Ok-clause-fits : goal.returns-in-Ok-clause-fits
 returns-in-Ok-clause-fits c =
-    if_ok_weaker c.read_body.result _ _
+    IfOk-weaker c.read_body.result _ _
     (λ r made S agrees.
     (made_fits c.args.items.now S c.args.question (words_of c.in-Some.line.now) c.in-Ok.told (reply_of r.0)
     (c.in-Ok.ensures.read S agrees) made).0)
@@ -30,7 +31,7 @@ returns-in-Ok-clause-read c =
 
 pub returns-in-Ok-clause-refused : goal.returns-in-Ok-clause-refused
 returns-in-Ok-clause-refused c =
-    if_err_weaker c.read_body.result _ _
+    IfErr-weaker c.read_body.result _ _
     (λ e tells S agrees.
     answer_refused c.args.items.now S c.args.question c.args.at c.in-Some.line.now c.in-Some.behind c.in-Ok.told e
     c.in-Some.ensures (c.in-Ok.ensures.read S agrees) tells)
@@ -38,7 +39,7 @@ returns-in-Ok-clause-refused c =
 
 pub returns-in-Ok-clause-room : goal.returns-in-Ok-clause-room
 returns-in-Ok-clause-room c =
-    if_ok_weaker c.read_body.result (λ r. Takes (IsBody c.args.items.now (reply_of r.0)) c.in-Some.behind r.1) _
+    IfOk-weaker c.read_body.result (λ r. Takes (IsBody c.args.items.now (reply_of r.0)) c.in-Some.behind r.1) _
     (λ r body.
     room_behind (IsBody c.args.items.now (reply_of r.0)) (IsBody c.args.items.now (reply_of r.0)) c.in-Some.behind r.1 body
     (next_room c.args.at c.in-Some.behind c.in-Some.line.now c.in-Some.ensures c.requires.room))
@@ -46,7 +47,7 @@ returns-in-Ok-clause-room c =
 
 pub returns-in-Ok-clause-shorter : goal.returns-in-Ok-clause-shorter
 returns-in-Ok-clause-shorter c =
-    if_ok_weaker c.read_body.result (λ r. Takes (IsBody c.args.items.now (reply_of r.0)) c.in-Some.behind r.1) _
+    IfOk-weaker c.read_body.result (λ r. Takes (IsBody c.args.items.now (reply_of r.0)) c.in-Some.behind r.1) _
     (λ r body.
     shorter c.in-Some.line.now c.args.at c.in-Some.behind r.1 (IsBody c.args.items.now (reply_of r.0)) c.in-Some.ensures
     body)

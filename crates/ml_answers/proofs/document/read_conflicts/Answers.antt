@@ -4,9 +4,9 @@ use Rattle.std.proofs.lemmas.List.{length-replicate, take_at}
 use Rattle.ml_spec.specs.Kinds.{is_requirement}
 use Rattle.ml_spec.specs.Questions.{asking, is_in}
 use Rattle.ml_spec.specs.declared.question.Question.TheVariants.{Consistent, Rest}
+use Rattle.ml_replies.specs.Answers.{reply_of}
 use Rattle.ml_answers.specs.Due.{rest_behind}
 use Rattle.ml_answers.specs.declared.stated.Stated.{Stated}
-use Rattle.ml_answers.specs.private.Plain.{reply_of}
 use Rattle.ml_answers.specs.private.Reads.{IsConflict, IsReadUpTo}
 use Rattle.ml_answers.specs.private.Words.{Agrees}
 use Rattle.ml_answers.proofs.DocumentRead.{conflict_fault, conflict_first, conflict_last, conflict_more, conflict_none, InConflicts}

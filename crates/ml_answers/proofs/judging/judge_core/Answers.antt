@@ -1,9 +1,10 @@
 use Rattle.std.proofs.Common.{sym, subst, map, ◌⊎◌}
+use Rattle.ml_replies.specs.Answers.{part_of}
 use Rattle.ml_replies.specs.Meeting.{problem_of}
 use Rattle.ml_spec.specs.Questions.{is_in}
 use Rattle.ml_answers.specs.Checked.{AreShown, IsNotRefuted, IsRefuted, SomeWrong}
 use Rattle.ml_answers.specs.private.Judged.{ComesTo}
-use Rattle.ml_answers.specs.private.Plain.{part_of, plain}
+use Rattle.ml_answers.specs.private.Plain.{plain}
 use Rattle.ml_answers.proofs.Judgments.{worse_both, PartsComeTo}
 use Rattle.ml_answers.proofs.NeverWrong.{never_parts, never_refuted}
 use Rattle.ml_answers.proofs.judging.judge_core.Goals as goal

@@ -1,8 +1,8 @@
 use Rattle.std.proofs.Common.{◌≡◌, ◌+◌, ◌<◌, ◌++◌, [], ◌∷◌, length, map, take, ap, sym, subst, ◌∙◌, arith}
 use Rattle.std.proofs.lemmas.List.{map-append, take_more}
 use Rattle.ml_spec.specs.Questions.{is_in}
+use Rattle.ml_replies.specs.Answers.{part_of}
 use Rattle.ml_answers.specs.private.Judged.{worse}
-use Rattle.ml_answers.specs.private.Plain.{part_of}
 use Rattle.ml_answers.proofs.Judgments.{parts_more, PartsComeTo}
 use Rattle.ml_answers.proofs.NeverWrong.{never_parts}
 use Rattle.ml_answers.proofs.judging.judge_parts.Goals as goal

@@ -1,7 +1,7 @@
 use Rattle.std.proofs.Common.{map, take}
 use Rattle.ml_spec.specs.Questions.{is_in}
+use Rattle.ml_replies.specs.Answers.{part_of}
 use Rattle.ml_answers.proofs.Judgments.{PartsComeTo}
-use Rattle.ml_answers.specs.private.Plain.{part_of}
 use Rattle.ml_answers.proofs.judging.judge_parts.Given as goal
 
 abbrev pub invariant-loop-part : goal.invariant-loop-part

@@ -1,4 +1,4 @@
-use Rattle.ml_answers.specs.private.Plain.{core_of}
+use Rattle.ml_replies.specs.Answers.{core_of}
 use Rattle.ml_answers.proofs.PartsRead.{core_taken}
 use Rattle.ml_answers.proofs.parts.read_core.Goals as goal
 

@@ -1,6 +1,6 @@
 use Rattle.std.proofs.Common.{◌<◌, ◌≤◌, length, map, arith}
 use Rattle.std.proofs.lemmas.List.{drop_more}
-use Rattle.ml_answers.specs.private.Plain.{part_of}
+use Rattle.ml_replies.specs.Answers.{part_of}
 use Rattle.ml_answers.proofs.PartsRead.{parts_made, parts_taken}
 use Rattle.ml_answers.proofs.parts.read_parts.Goals as goal
 

@@ -2,7 +2,7 @@ use Rattle.std.proofs.Common.{map, sym, ap, ◌∙◌}
 use Rattle.std.specs.List.{list_any}
 use Rattle.ml_spec.specs.Kinds.{is_requirement}
 use Rattle.ml_spec.specs.declared.specification.Item.{Item}
-use Rattle.ml_ask.specs.Answers.{replied_of}
+use Rattle.ml_replies.specs.Answers.{replied_of}
 use Rattle.ml_ask.proofs.AnswersInOrder.{of_none, of_some}
 use Rattle.ml_ask.proofs.asking.add_conflicts.Goals as goal
 

@@ -8,8 +8,8 @@ use Rattle.ml_spec.specs.Questions.{is_in}
 use Rattle.ml_replies.specs.Meeting.{numbers_in}
 use Rattle.ml_replies.specs.Replies as plain
 use Rattle.ml_replies.specs.Replies.{IsPart}
-use Rattle.ml_ask.specs.Answers.{part_of}
-use Rattle.ml_ask.specs.declared.answer.Part.{Part}
+use Rattle.ml_replies.specs.Answers.{part_of}
+use Rattle.ml_replies.specs.declared.answer.Part.{Part}
 use Rattle.ml_ask.proofs.Numbers.{next_left, next_left_out, next_taken}
 use Rattle.ml_ask.proofs.leaving.add_round.Goals as goal
 use Rattle.ml_ask.proofs.leaving.add_round.Goals.{then-taken-number+then-is_requirement+in_ok-without+in-Keep+in_ok-push-in-Keep, else-taken-number}

@@ -3,7 +3,7 @@ use Rattle.std.specs.List.{AllByRecursion}
 use Rattle.ml_spec.specs.Questions.{is_in}
 use Rattle.ml_replies.specs.Meeting.{numbers_in}
 use Rattle.ml_replies.specs.Replies.{IsPart}
-use Rattle.ml_ask.specs.Answers.{part_of}
+use Rattle.ml_replies.specs.Answers.{part_of}
 use Rattle.ml_ask.proofs.leaving.add_round.Given as goal
 
 abbrev pub invariant-loop-number : goal.invariant-loop-number

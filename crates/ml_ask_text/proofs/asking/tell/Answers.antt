@@ -1,5 +1,5 @@
 use Rattle.std.proofs.Common.{map, sym, ap, subst, ◌∙◌}
-use Rattle.ml_ask.specs.Answers.{replied_of}
+use Rattle.ml_replies.specs.Answers.{replied_of}
 use Rattle.ml_ask_text.specs.Told.{verdict_of, IsWrittenAs}
 use Rattle.ml_ask_text.proofs.asking.tell.Goals as goal
 

@@ -1,5 +1,5 @@
 use Rattle.std.proofs.Common.{IfOk, map, sym, subst}
-use Rattle.ml_ask.specs.Answers.{replied_of}
+use Rattle.ml_replies.specs.Answers.{replied_of}
 use Rattle.ml_ask_text.specs.Told.{IsWrittenAs}
 use Rattle.ml_ask_text.proofs.WrittenDocuments.{document_told}
 use Rattle.ml_ask_text.proofs.asking.written.Goals as goal

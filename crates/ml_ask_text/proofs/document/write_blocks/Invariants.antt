@@ -1,6 +1,6 @@
 use Rattle.std.proofs.Common.{◌≡◌, ◌++◌, map, take}
 use Rattle.std.specs.List.{flat_map}
-use Rattle.ml_ask.specs.Answers.{replied_of}
+use Rattle.ml_replies.specs.Answers.{replied_of}
 use Rattle.ml_ask_text.specs.private.Written.{block_text, AreShown}
 use Rattle.ml_ask_text.proofs.document.write_blocks.Given as goal
 

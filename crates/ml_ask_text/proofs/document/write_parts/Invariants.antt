@@ -1,6 +1,6 @@
 use Rattle.std.proofs.Common.{◌≡◌, ◌++◌, map, take}
 use Rattle.std.specs.List.{flat_map, AllByRecursion}
-use Rattle.ml_ask.specs.Answers.{part_of}
+use Rattle.ml_replies.specs.Answers.{part_of}
 use Rattle.ml_ask_text.specs.private.Written.{part_text, IsPartShown}
 use Rattle.ml_ask_text.proofs.document.write_parts.Given as goal
 

@@ -1,7 +1,7 @@
 use Rattle.std.proofs.Common.{ap}
 use Rattle.std.proofs.lemmas.Result.{on_ok_weaker}
 use Rattle.ml_answers.specs.Lines.{asked_name, first_word, reply_words, wants_structure}
-use Rattle.ml_ask.specs.Answers.{reply_of}
+use Rattle.ml_replies.specs.Answers.{reply_of}
 use Rattle.ml_ask_text.proofs.WrittenLines.{line_written}
 use Rattle.ml_ask_text.proofs.lines.write_line.Goals as goal
 

@@ -1,6 +1,6 @@
 use Rattle.std.proofs.Common.{◌≡◌, ◌++◌, map, take}
 use Rattle.ml_answers.specs.Lines.{lines_of}
-use Rattle.ml_ask.specs.Answers.{replied_of}
+use Rattle.ml_replies.specs.Answers.{replied_of}
 use Rattle.ml_ask_text.proofs.lines.write_lines.Given as goal
 
 abbrev pub invariant-loop-answered : goal.invariant-loop-answered

@@ -1,7 +1,7 @@
 use Rattle.std.proofs.Common.{true, false, sym, refl, ◌∙◌}
 use Rattle.std.specs.List.{list_any}
 use Rattle.ml_ask_text.specs.Told.{is_left_open}
-use Rattle.ml_ask.specs.Answers.{replied_of}
+use Rattle.ml_replies.specs.Answers.{replied_of}
 use Rattle.ml_ask_text.proofs.Verdicts.{verdict_is}
 use Rattle.ml_ask_text.proofs.verdict.verdict_of.Goals as goal
 

@@ -1,19 +1,19 @@
--- What the answers of the program say, as plain values.
+-- What answers, as the program holds them, say as plain values.
 --
---   model_of m, ..    == the plain value of each part of an answer
---   reply_of a        == the plain value of the answer a
---   replied_of a      == that of a question with its answer
-use Rattle.std.specs.Prelude.{List, map}
+--   without_of, part_of, core_of == the plain value of each part of an answer
+--   reply_of a   == the plain value of the answer a
+--   replied_of a == that of a question with its answer
+use Rattle.std.specs.Prelude.{map}
 use Rattle.ml_refutation.specs.Views.{of_parts}
 use Rattle.ml_replies.specs.Replies as plain
 use Rattle.ml_replies.specs.Replies.{Replied, Reply, LeftOpen, Met, StillMet, StillOpen, Unmet}
-use Rattle.ml_ask.specs.declared.answer.Answer.{Answer}
-use Rattle.ml_ask.specs.declared.answer.Answer.TheVariants.{Yes, No, Open}
-use Rattle.ml_ask.specs.declared.answer.Answered.{Answered}
-use Rattle.ml_ask.specs.declared.answer.Core.{Core}
-use Rattle.ml_ask.specs.declared.answer.Part.{Part}
-use Rattle.ml_ask.specs.declared.answer.Without.{Without}
-use Rattle.ml_ask.specs.declared.answer.Without.TheVariants as without
+use Rattle.ml_replies.specs.declared.answer.Answer.{Answer}
+use Rattle.ml_replies.specs.declared.answer.Answer.TheVariants.{Yes, No, Open}
+use Rattle.ml_replies.specs.declared.answer.Answered.{Answered}
+use Rattle.ml_replies.specs.declared.answer.Core.{Core}
+use Rattle.ml_replies.specs.declared.answer.Part.{Part}
+use Rattle.ml_replies.specs.declared.answer.Without.{Without}
+use Rattle.ml_replies.specs.declared.answer.Without.TheVariants as without
 
 abbrev pub without_of : Without → plain.Without
 without_of (without.Met m) = StillMet m.structure m.start
