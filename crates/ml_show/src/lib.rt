@@ -9,6 +9,7 @@
 // `ml_task`) that are shown; above stands the program.
 #![tactic(auto)]
 
+mod blocks;
 mod formulas;
 mod guards;
 mod machines;
