@@ -44,11 +44,8 @@ pub(crate) fn document_fault(
 fn line_read(shape: Shape, input: &[u8], line: usize) -> Option<&[u8]> {
     match shape {
         Shape::Task => line_of(input, line).or(last_line(input, line)),
-        Shape::Model
-        | Shape::Refutation
-        | Shape::Undecided
-        | Shape::Machine
-        | Shape::Answers => line_of(input, line),
+        Shape::Model | Shape::Refutation | Shape::Undecided | Shape::Machine | Shape::Answers =>
+            line_of(input, line),
     }
 }
 

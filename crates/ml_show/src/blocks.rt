@@ -215,8 +215,8 @@ fn connective_row(operator: Operator, positive: bool, left: usize, right: usize)
 fn is_eventuality(term: &Term, positive: bool) -> bool {
     match term {
         Term::Temporal(Tense::Finally, _) | Term::Paired(Pairing::Until, _, _) => positive,
-        Term::Temporal(Tense::Globally, _)
-        | Term::Paired(Pairing::Release | Pairing::Weak, _, _) => !positive,
+        Term::Temporal(Tense::Globally, _) | Term::Paired(Pairing::Release | Pairing::Weak, _, _) =>
+            !positive,
         _ => false,
     }
 }
@@ -308,8 +308,7 @@ impl<'a> Blocks<'a> {
         let (left, right) = self.operands(x.place);
         let same = Item::now(left, x.positive);
         match self.term(x.place) {
-            None
-            | Some(Term::Const(_) | Term::Prop(_) | Term::Quantified(_, _)) => Row::OfState,
+            None | Some(Term::Const(_) | Term::Prop(_) | Term::Quantified(_, _)) => Row::OfState,
             Some(Term::Not(_)) => Row::Becomes((Item::now(left, !x.positive), None)),
             Some(Term::Binary(operator, _, _)) => {
                 connective_row(*operator, x.positive, left, right)
@@ -530,7 +529,11 @@ impl<'a> Blocks<'a> {
     }
 
     // which item of a block is decomposed
-    pub(crate) fn write_decomposed(&self, text: &mut Vec<u8>, place: usize) -> Result<(), NoMemory> {
+    pub(crate) fn write_decomposed(
+        &self,
+        text: &mut Vec<u8>,
+        place: usize,
+    ) -> Result<(), NoMemory> {
         match self.first_open(self.items(place)) {
             Some(x) => self.write_item(text, x, true),
             None => Ok(()),

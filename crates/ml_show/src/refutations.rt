@@ -30,13 +30,20 @@ struct Argument<'n, 'g, 'a, 'r> {
     is_path: bool,
 }
 
-// Which cases of a split are left to tell; where both are, their texts.
-#[derive(Drop)]
+// Which cases of a split are left to tell.
+#[derive(Clone, Copy)]
 enum Left {
     Neither,
     First,
     Second,
-    Both { first: Vec<u8>, second: Vec<u8> },
+    Both,
+}
+
+// The texts of the cases of a split.
+#[derive(Drop)]
+struct Cases {
+    first: Vec<u8>,
+    second: Vec<u8>,
 }
 
 fn indent(depth: usize) -> usize
@@ -185,7 +192,9 @@ impl<'n, 'g, 'a, 'r> Argument<'n, 'g, 'a, 'r> {
             }
             ClashCause::Cycle(node) => {
                 self.formula(page, node, b"")?;
-                page.words(b"is asked for again at the same state, without end, and never comes about.")
+                page.words(
+                    b"is asked for again at the same state, without end, and never comes about.",
+                )
             }
         }
     }
@@ -234,54 +243,84 @@ impl<'n, 'g, 'a, 'r> Argument<'n, 'g, 'a, 'r> {
 
     // is a case none, since its node is false?
     fn is_none(self, node: u32, decision: &Decision) -> bool {
-        matches!(decision, Decision::Clash(_))
-            && matches!(self.nodes.node(node), Some(Node::False))
+        matches!(decision, Decision::Clash(_)) && matches!(self.nodes.node(node), Some(Node::False))
     }
 
-    // What has two cases at a node, unless both are the same or one is none. A case that can't be at once takes no line of its
-    // own.
+    // the case that alone is to be told, as both are the same or the other one is none
+    fn only_case(self, node: u32, left: &Decision, right: &Decision) -> Option<Left> {
+        let (first, second) = self.children(node);
+        if first == second || self.is_none(second, right) {
+            Some(Left::First)
+        } else if self.is_none(first, left) {
+            Some(Left::Second)
+        } else {
+            None
+        }
+    }
+
+    fn cases(self, node: u32) -> Result<Cases, NoMemory> {
+        let (first, second) = self.children(node);
+        let first = self.nodes.case_text(self.alloc, node, first, true)?;
+        let second = self.nodes.case_text(self.alloc, node, second, false)?;
+        Ok(Cases { first, second })
+    }
+
+    // what has two cases at a node
+    fn show_node(self, page: &mut Page, depth: usize, node: u32) -> Result<(), NoMemory> {
+        page.begin(indent(depth), indent(depth) + 2)?;
+        page.words(b"By")?;
+        page.words(&self.nodes.split_text(self.alloc, node)?)?;
+        page.put(b":")
+    }
+
+    // a case that can't be at once takes no line of its own
+    fn begin_cases(
+        self,
+        page: &mut Page,
+        cases: &Cases,
+        left: &Decision,
+        right: &Decision,
+    ) -> Result<Left, NoMemory> {
+        match (left, right) {
+            (Decision::Clash(one), Decision::Clash(other)) => {
+                self.exclude(page, &cases.first, *one)?;
+                page.words(b"And")?;
+                self.exclude(page, &cases.second, *other)?;
+                page.end_line()?;
+                Ok(Left::Neither)
+            }
+            (Decision::Clash(cause), _) => {
+                self.exclude(page, &cases.first, *cause)?;
+                self.show_left(page, &cases.second)?;
+                Ok(Left::Second)
+            }
+            (_, Decision::Clash(cause)) => {
+                self.exclude(page, &cases.second, *cause)?;
+                self.show_left(page, &cases.first)?;
+                Ok(Left::First)
+            }
+            _ => {
+                page.end_line()?;
+                Ok(Left::Both)
+            }
+        }
+    }
+
+    // the cases at a node, as far as they are told before the decisions
     fn begin_split(
         self,
         page: &mut Page,
         depth: usize,
         node: u32,
+        cases: &Cases,
         left: &Decision,
         right: &Decision,
     ) -> Result<Left, NoMemory> {
-        let (first, second) = self.children(node);
-        if first == second || self.is_none(second, right) {
-            return Ok(Left::First);
-        }
-        if self.is_none(first, left) {
-            return Ok(Left::Second);
-        }
-        let first = self.nodes.case_text(self.alloc, node, first, true)?;
-        let second = self.nodes.case_text(self.alloc, node, second, false)?;
-        page.begin(indent(depth), indent(depth) + 2)?;
-        page.words(b"By")?;
-        page.words(&self.nodes.split_text(self.alloc, node)?)?;
-        page.put(b":")?;
-        match (left, right) {
-            (Decision::Clash(one), Decision::Clash(other)) => {
-                self.exclude(page, &first, *one)?;
-                page.words(b"And")?;
-                self.exclude(page, &second, *other)?;
-                page.end_line()?;
-                Ok(Left::Neither)
-            }
-            (Decision::Clash(cause), _) => {
-                self.exclude(page, &first, *cause)?;
-                self.show_left(page, &second)?;
-                Ok(Left::Second)
-            }
-            (_, Decision::Clash(cause)) => {
-                self.exclude(page, &second, *cause)?;
-                self.show_left(page, &first)?;
-                Ok(Left::First)
-            }
-            _ => {
-                page.end_line()?;
-                Ok(Left::Both { first, second })
+        match self.only_case(node, left, right) {
+            Some(only) => Ok(only),
+            None => {
+                self.show_node(page, depth, node)?;
+                self.begin_cases(page, cases, left, right)
             }
         }
     }
@@ -302,15 +341,16 @@ impl<'n, 'g, 'a, 'r> Argument<'n, 'g, 'a, 'r> {
                 mark,
             } => self.show_go(page, here, depth, *diamond, *entry, *mark),
             Decision::Split { node, left, right } => {
-                match self.begin_split(page, depth, *node, left, right)? {
+                let cases = self.cases(*node)?;
+                match self.begin_split(page, depth, *node, &cases, left, right)? {
                     Left::Neither => Ok(()),
                     Left::First => self.show_decision(page, here, depth, left),
                     Left::Second => self.show_decision(page, here, depth, right),
-                    Left::Both { first, second } => {
+                    Left::Both => {
                         let inside = depth.saturating_add(1);
-                        self.show_case(page, depth, &first)?;
+                        self.show_case(page, depth, &cases.first)?;
                         self.show_decision(page, here, inside, left)?;
-                        self.show_case(page, depth, &second)?;
+                        self.show_case(page, depth, &cases.second)?;
                         self.show_decision(page, here, inside, right)
                     }
                 }
@@ -319,11 +359,7 @@ impl<'n, 'g, 'a, 'r> Argument<'n, 'g, 'a, 'r> {
     }
 
     // what the steps of a decision put off
-    fn gather_put_off(
-        self,
-        texts: &mut Vec<Vec<u8>>,
-        decision: &Decision,
-    ) -> Result<(), NoMemory> {
+    fn gather_put_off(self, texts: &mut Vec<Vec<u8>>, decision: &Decision) -> Result<(), NoMemory> {
         match decision {
             Decision::Clash(_) => Ok(()),
             Decision::Go { entry, mark, .. } => {
@@ -341,14 +377,19 @@ impl<'n, 'g, 'a, 'r> Argument<'n, 'g, 'a, 'r> {
         }
     }
 
-    // why no steps are followed for ever
-    fn show_end(self, page: &mut Page) -> Result<(), NoMemory> {
+    // what is put off in some step
+    fn all_put_off(self) -> Result<Vec<Vec<u8>>, NoMemory> {
         let mut texts = Vec::new(self.alloc);
         for entry in &self.refutation.entries {
             self.gather_put_off(&mut texts, &entry.decision)?;
             texts.sort_unstable();
             texts.dedup();
         }
+        Ok(texts)
+    }
+
+    // why no steps are followed for ever, in which these are put off
+    fn show_end(self, page: &mut Page, texts: &[Vec<u8>]) -> Result<(), NoMemory> {
         if texts.is_empty() {
             return page.words(b"No steps lead round, so step 1 holds.");
         }
@@ -430,6 +471,7 @@ pub fn show_refutation(
     }
     page.end_line()?;
     page.begin(0, 0)?;
-    argument.show_end(&mut page)?;
+    let texts = argument.all_put_off()?;
+    argument.show_end(&mut page, &texts)?;
     page.finish()
 }

@@ -194,10 +194,7 @@ fn of_state<'a>(
 ) -> Result<Children<'a>, NoMemory> {
     let (left, right) = blocks.operands(place);
     match blocks.term(place) {
-        Some(ml_ctl::Term::Not(_)) => Ok((
-            Some(Saying::Now(Part::State(left, !positive))),
-            None,
-        )),
+        Some(ml_ctl::Term::Not(_)) => Ok((Some(Saying::Now(Part::State(left, !positive))), None)),
         Some(ml_ctl::Term::Binary(Operator::Iff, _, _)) => Ok((
             Some(Saying::Both(Part::State(left, true), Part::State(right, positive))),
             Some(Saying::Both(Part::State(left, false), Part::State(right, !positive))),
@@ -227,7 +224,10 @@ fn of_block<'a>(
     match blocks.behind(alloc, place)? {
         Behind::State(state, block) => {
             let (at, positive) = state.at();
-            Ok((Some(Saying::Now(Part::State(at, positive))), block_saying(block)))
+            Ok((
+                Some(Saying::Now(Part::State(at, positive))),
+                block_saying(block),
+            ))
         }
         Behind::One(block) => Ok((block_saying(block), None)),
         Behind::Two(first, second) => Ok((block_saying(first), block_saying(second))),

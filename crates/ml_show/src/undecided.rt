@@ -23,11 +23,7 @@ pub enum Cause {
 /// `NoMemory` alone.
 ///
 /// Cost: linear in the text.
-pub fn show_undecided(
-    alloc: Global,
-    problem: &Problem,
-    cause: Cause,
-) -> Result<Vec<u8>, NoMemory>
+pub fn show_undecided(alloc: Global, problem: &Problem, cause: Cause) -> Result<Vec<u8>, NoMemory>
     ensures { IfOk result (λ text. EndsWithLf text.items) }
 {
     let mut page = Page::new(alloc);

@@ -39,8 +39,11 @@ module _ (line : Line) (limit : Word) (words : AreWords line)
       inr (inr positions, inl (refl, ⊎_elim other (λ (spelt : IsNumber (word line 2)). none (subst IsNumber third spelt))))
 
 pub missing_cause : Breaks AtCause [] OfKind
-missing_cause left = inl (refl, ⊎_elim (λ (same : [] ≡ closure_line). cc)
-    (λ (positions : IsPositionsLine []). let apart = positions.1 in cc))
+missing_cause left = inl (
+  refl,
+  ⊎_elim (λ (same : [] ≡ closure_line). cc)
+      (λ (positions : IsPositionsLine []). let apart = positions.1 in cc),
+)
 
 pub missing_end : Breaks AtEnd [] OfKind
 missing_end left = inl (refl, λ (same : [] ≡ codes "end" ∷ []). cc)

@@ -14,7 +14,9 @@ use ml_show::Cause;
 
 // the numbers of the lines
 const CAUSE_LINE: u64 = 6;
+
 const END_LINE: u64 = 7;
+
 const LINE_BEHIND: u64 = 8;
 
 fn fault(line: u64, rule: CauseRule) -> DocFault
