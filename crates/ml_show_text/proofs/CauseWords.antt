@@ -10,7 +10,7 @@ use Rattle.std.proofs.Common.{◌≡◌, ◌≢◌, ℕ, ◌<◌, ◌^◌, List,
 use Rattle.ml_lines.specs.Lines.{Line, Word, number}
 use Rattle.ml_lines.specs.Reading.{AreWords, IsNumber, words_of, word}
 use Rattle.ml_realize_text.proofs.SetReads.{text_is}
-use Rattle.ml_show_text.specs.UndecidedBodies.{AtCause, AtEnd, HasLimit, IsCauseLine, IsPositionsLine, closure_line}
+use Rattle.ml_show_text.specs.UndecidedBodies.{AtCause, AtEnd, IsPositionsLine, closure_line}
 use Rattle.ml_show_text.specs.declared.cause_rule.CauseRule.TheVariants.{OfKind, Numbers}
 use Rattle.ml_show_text.specs.private.CauseLines.{Breaks, IsCause}
 

@@ -2,27 +2,19 @@
 --
 --   document_or_fault, never_both, one_fault == so it is
 use Rattle.std.proofs.Common.{◌≡◌, ◌⊎◌, ℕ, List, ap, inl, inr}
-use Rattle.ml_base.specs.Structure.{Structure}
 use Rattle.ml_base.specs.declared.doc_fault.DocFault.{DocFault}
-use Rattle.ml_base.specs.declared.version.Version.{Version}
 use Rattle.ml_front.specs.Documents.{IsDocumentFault, Shows, first_body_line}
 use Rattle.ml_front.specs.declared.answer.Answer.TheVariants.{Satisfiable, Unsatisfiable, Undecided}
-use Rattle.ml_front.specs.declared.problem.Problem.{Problem}
 use Rattle.ml_front.proofs.Documents.{one_document_fault, shown_no_fault, shown_or_fault}
 use Rattle.ml_lines.proofs.Faults as text
-use Rattle.ml_lines.specs.Reading.{left_of}
 use Rattle.ml_model_check.proofs.OneCheck as structures
 use Rattle.ml_realize_text.proofs.OneAnswer as outcomes
-use Rattle.ml_realize_text.specs.ReadText.{IsRealizeText}
-use Rattle.ml_realize_text.specs.RealizeRules.{IsRealizeFault}
 use Rattle.ml_refutation_text.specs.BodyRules as refutation_rules
 use Rattle.ml_refutation_text.specs.Laws.{IsRefutationText}
 use Rattle.ml_refute_check.proofs.OneVerdict as refutations
 use Rattle.ml_refute_check.proofs.SomeVerdict.{refutation_or_fault}
 use Rattle.ml_refute_check.specs.declared.verdict.Verdict.{Verdict}
 use Rattle.ml_refute_check.specs.declared.verdict.Verdict.TheVariants.{Unreadable}
-use Rattle.ml_synthesis.specs.declared.outcome.Outcome.{Outcome}
-use Rattle.ml_task.specs.Task.{Task}
 use Rattle.ml_show_text.specs.Kinds.{kind_of}
 use Rattle.ml_show_text.specs.Laws.{DocumentOrFault, NeverBoth, OneFault}
 use Rattle.ml_show_text.specs.Shown.{IsFaultOfKind, IsOfKind}
@@ -72,7 +64,7 @@ never_both t fault x bad = both_of_kind (kind_of t) t fault x bad
 -- ---- one bad line
 
 -- the bad line of what can't be read, and this one else
-told_by : DocFault → Verdict → DocFault
+abbrev told_by : DocFault → Verdict → DocFault
 told_by other (Unreadable fault) = fault
 told_by other _ = other
 

@@ -1,12 +1,12 @@
-use Rattle.std.proofs.Common.{codes, ap, ◌∙◌}
+use Rattle.std.proofs.Common.{codes, ap}
 use Rattle.std.proofs.lemmas.Result.{IfErr-weaker, on_ok_weaker}
 use Rattle.ml_lines.specs.Faults.{IsFault}
 use Rattle.ml_lines.specs.Reading.{words_of}
 use Rattle.ml_realize_text.proofs.FixedWords.{other_word, same_word}
 use Rattle.ml_show_text.specs.UndecidedBodies.{AtEnd, AtNothing, body}
 use Rattle.ml_show_text.specs.declared.cause_rule.CauseRule.TheVariants.{OfKind}
-use Rattle.ml_show_text.proofs.CauseBodies.{bad_behind, bad_here, bad_missing, good_line}
-use Rattle.ml_show_text.proofs.CauseWords.{missing_end, other_end}
+use Rattle.ml_show_text.proofs.CauseBodies.{bad_behind, bad_here, good_line}
+use Rattle.ml_show_text.proofs.CauseWords.{other_end}
 use Rattle.ml_show_text.proofs.undecided.read_end.Goals as goal
 
 pub returns-then-eq-clause-read : goal.returns-then-eq-clause-read

@@ -1,8 +1,6 @@
 use Rattle.ml_lines.specs.Reading.{words_of}
 use Rattle.ml_show_text.specs.UndecidedBodies.{AtCause}
-use Rattle.ml_show_text.specs.declared.cause_rule.CauseRule.TheVariants.{OfKind}
-use Rattle.ml_show_text.proofs.CauseBodies.{bad_behind, bad_here, bad_missing, good_line}
-use Rattle.ml_show_text.proofs.CauseWords.{missing_cause}
+use Rattle.ml_show_text.proofs.CauseBodies.{bad_behind, bad_here, good_line}
 use Rattle.ml_show_text.proofs.undecided.read_undecided.Goals as goal
 
 pub returns-in-Ok-read_end-clause-read : goal.returns-in-Ok-read_end-clause-read
