@@ -7,7 +7,7 @@
 --   line_at text i == the bytes of the i-th line of a text, from 0 on; none where there is no such line
 --   answer_in line == the answer that a line tells, or `satisfiable`
 --   kind_of text   == the kind of document that a text is read as
-use Rattle.std.specs.Prelude.{ℕ, List, [], codes, slice_index_or}
+use Rattle.std.specs.Prelude.{ℕ, List, [], codes, slice_index_or, if◌then◌else◌}
 use Rattle.std.specs.List.{join_with_byte}
 use Rattle.std.specs.Str.{bytes_eq}
 use Rattle.ml_front.specs.declared.answer.Answer.{Answer}
