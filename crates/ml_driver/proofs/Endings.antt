@@ -26,7 +26,7 @@ use Rattle.ml_driver.specs.Decision.{IsAnswered, if_open, if_refused, if_refuted
 use Rattle.ml_driver.specs.declared.question.Question.{Question}
 use Rattle.ml_decide.specs.declared.way.Way.TheVariants.{WholeGame, Search}
 use Rattle.ml_driver.specs.declared.command.Command.{Command}
-use Rattle.ml_driver.specs.declared.command.Command.TheVariants.{Decide, Valid, Find, Prove, CheckModel, CheckRefutation, Migrate, Quotient, SolveGame, CheckGame, Path, CheckMachine, CheckAnswers, Determinise, Automaton, Realize, Make, Ask, Gen, Bench}
+use Rattle.ml_driver.specs.declared.command.Command.TheVariants.{Decide, Valid, Find, Prove, CheckModel, CheckRefutation, Migrate, Quotient, SolveGame, CheckGame, Path, Show, CheckMachine, CheckAnswers, Determinise, Automaton, Realize, Make, Ask, Gen, Bench}
 use Rattle.ml_driver.specs.declared.status.Status.{Status}
 use Rattle.ml_driver.specs.declared.status.Status.TheVariants.{Yes, No, Undecided, Text, ReadFault, WriteFault, NoMemory}
 use Rattle.ml_decide.specs.Measures.{answer_of}
@@ -102,6 +102,7 @@ calm_answer c text Undecided out x = omega arith
 calm_answer c text Text out x = omega arith
 calm_answer Migrate text _ out x = absurd x
 calm_answer Quotient text _ out x = absurd x
+calm_answer Show text _ out x = absurd x
 calm_answer (SolveGame e) text _ out x = absurd x
 calm_answer (Determinise n) text _ out x = absurd x
 calm_answer (Automaton n) text _ out x = absurd x

@@ -20,6 +20,8 @@ pub mod CheckedGameAnswers
 pub mod AutomatonAnswers
 -- what is due for `path`
 pub mod PathAnswers
+-- what is due for `show`
+pub mod ShownAnswers
 -- what is due for `check-answers`
 pub mod CheckedAnswers
 -- how a call ends whose answer is delivered

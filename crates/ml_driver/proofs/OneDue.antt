@@ -16,7 +16,7 @@ use Rattle.ml_driver.specs.Decision.{IsAnswered, IsProblem, LeftOpen, Refuted, R
 use Rattle.ml_driver.specs.declared.question.Question.{Question}
 use Rattle.ml_decide.specs.declared.way.Way.TheVariants.{WholeGame, Search}
 use Rattle.ml_model_check.proofs.OneCheck.{one_check}
-use Rattle.ml_driver.specs.declared.command.Command.TheVariants.{Decide, Valid, Find, Prove, CheckModel, CheckRefutation, Migrate, Quotient, SolveGame, CheckGame, Path, CheckMachine, CheckAnswers, Determinise, Automaton, Realize, Make, Ask, Gen, Bench}
+use Rattle.ml_driver.specs.declared.command.Command.TheVariants.{Decide, Valid, Find, Prove, CheckModel, CheckRefutation, Migrate, Quotient, SolveGame, CheckGame, Path, Show, CheckMachine, CheckAnswers, Determinise, Automaton, Realize, Make, Ask, Gen, Bench}
 use Rattle.ml_driver.specs.declared.status.Status.{Status}
 use Rattle.ml_driver.specs.declared.status.Status.TheVariants.{Yes, Undecided, Text}
 use Rattle.ml_driver.specs.Said.{status_said}
@@ -40,6 +40,7 @@ use Rattle.ml_driver.proofs.GameAnswers.{one_solved}
 use Rattle.ml_decide.proofs.Measures.{one_finding}
 use Rattle.ml_driver.proofs.QuotientAnswers.{one_quotient_answer}
 use Rattle.ml_driver.proofs.PathAnswers.{one_path_told}
+use Rattle.ml_driver.proofs.ShownAnswers.{one_shown}
 use Rattle.ml_driver.proofs.MachineAnswers.{one_machine_told}
 use Rattle.ml_driver.proofs.AskedAnswers.{asked_agree}
 use Rattle.ml_driver.proofs.TaskAnswers.{one_told, tasks_agree}
@@ -205,6 +206,7 @@ one_status CheckGame text s t out more whole x y = (one_game_check text s t out 
 one_status (Determinise n) text s t out more whole x y = (one_automaton_answer n text s t out more x y).0
 one_status (Automaton n) text s t out more whole x y = one_translated n text s t out more x y
 one_status Path text s t out more whole x y = one_path_told text s t out more x y
+one_status Show text s t out more whole x y = one_shown text s t out more x y
 one_status CheckMachine text s t out more whole x y = one_machine_told text s t out more x y
 one_status CheckAnswers text s t out more whole x y = one_checked_answers text s t out more x y
 one_status (Make n) text s t out more whole x y = absurd (cc)

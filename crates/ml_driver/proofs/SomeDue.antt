@@ -30,11 +30,12 @@ use Rattle.ml_decide.proofs.Measures.{some_finding}
 use Rattle.ml_decide.specs.declared.way.Way.TheVariants.{WholeGame, Search}
 use Rattle.ml_driver.proofs.QuotientAnswers.{on_structure}
 use Rattle.ml_driver.proofs.PathAnswers.{on_path}
+use Rattle.ml_driver.proofs.ShownAnswers.{on_shown}
 use Rattle.ml_driver.proofs.MachineAnswers.{on_machine}
 use Rattle.ml_driver.proofs.AskedAnswers.{on_requirements}
 use Rattle.ml_driver.proofs.TaskAnswers.{on_task}
 use Rattle.ml_driver.proofs.TranslationAnswers.{on_formula}
-use Rattle.ml_driver.specs.declared.command.Command.TheVariants.{Decide, Valid, Find, Prove, CheckModel, CheckRefutation, Migrate, Quotient, SolveGame, CheckGame, Path, CheckMachine, CheckAnswers, Determinise, Automaton, Realize, Make, Ask, Gen, Bench}
+use Rattle.ml_driver.specs.declared.command.Command.TheVariants.{Decide, Valid, Find, Prove, CheckModel, CheckRefutation, Migrate, Quotient, SolveGame, CheckGame, Path, Show, CheckMachine, CheckAnswers, Determinise, Automaton, Realize, Make, Ask, Gen, Bench}
 use Rattle.ml_driver.specs.declared.status.Status.TheVariants.{Yes, Text}
 use Rattle.ml_driver.specs.Said.{said_text, status_said}
 use Rattle.ml_driver.specs.Statuses.{model_said, refutation_said}
@@ -129,6 +130,7 @@ answered CheckGame text small = on_checked_game text
 answered (Determinise n) text small = on_automaton n text
 answered (Automaton n) text small = on_formula n text
 answered Path text small = on_path text
+answered Show text small = on_shown text
 answered CheckMachine text small = on_machine text
 answered CheckAnswers text small = on_answers text
 answered (Make n) text small = on_task Search n text

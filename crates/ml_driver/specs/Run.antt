@@ -37,7 +37,7 @@ use Rattle.ml_refute_check.specs.Documents.{HoldsNowhere, IsMigrated, IsVerdict}
 use Rattle.ml_refute_check.specs.declared.verdict.Verdict.{Verdict}
 use Rattle.ml_refute_check.specs.declared.verdict.Verdict.TheVariants as verdict
 use Rattle.ml_driver.specs.declared.command.Command.{Command}
-use Rattle.ml_driver.specs.declared.command.Command.TheVariants.{Decide, Valid, Find, Prove, CheckModel, CheckRefutation, Migrate, Quotient, SolveGame, CheckGame, Path, CheckMachine, CheckAnswers, Determinise, Automaton, Realize, Make, Ask, Gen, Bench}
+use Rattle.ml_driver.specs.declared.command.Command.TheVariants.{Decide, Valid, Find, Prove, CheckModel, CheckRefutation, Migrate, Quotient, SolveGame, CheckGame, Path, Show, CheckMachine, CheckAnswers, Determinise, Automaton, Realize, Make, Ask, Gen, Bench}
 use Rattle.ml_driver.specs.declared.command.TheConstants.{LONGEST_DOCUMENT}
 use Rattle.ml_driver.specs.declared.question.Question.{Question}
 use Rattle.ml_decide.specs.declared.way.Way.{Way}
@@ -62,6 +62,7 @@ use Rattle.ml_driver.specs.Tasks.{IsTaskAnswered}
 use Rattle.ml_driver.specs.Texts.{StandsFor}
 use Rattle.ml_driver.specs.Translations.{IsRefusedFormula, IsUntranslated}
 use Rattle.ml_hoa.specs.Refusals.{IsReadAs as IsAutomatonText}
+use Rattle.ml_show_text.specs.Shown.{IsFault, IsShown}
 use Rattle.ml_translate.specs.Output as translation
 
 -- ---- what is answered
@@ -101,6 +102,8 @@ IsAnswer (Automaton n) text Yes out = StandsFor (IsParsedAs Ltl) text (λ f. tra
 IsAnswer (Automaton n) text Undecided out = StandsFor (IsParsedAs Ltl) text (λ f. IsUntranslated f n out)
 IsAnswer (Automaton n) text Text out = IsRefusedFormula text out
 IsAnswer Path text s out = IsPathTold text s out
+IsAnswer Show text Yes out = IsShown text out
+IsAnswer Show text Text out = IsUnreadable (IsFault text) out
 IsAnswer CheckMachine text s out = IsMachineTold text s out
 IsAnswer CheckAnswers text s out = AreAnswersTold text s out
 IsAnswer (Make n) text s out = IsTaskAnswered Search n text s out

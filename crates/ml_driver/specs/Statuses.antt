@@ -23,9 +23,10 @@ use Rattle.ml_model_check.specs.declared.checked.Checked.TheVariants.{Holds, Fai
 use Rattle.ml_pgsolver.specs.declared.limits.TheConstants.{LONGEST_CHECKED_TEXT, LONGEST_GAME_TEXT}
 use Rattle.ml_refute_check.specs.declared.verdict.Verdict.{Verdict}
 use Rattle.ml_refute_check.specs.declared.verdict.Verdict.TheVariants as verdict
+use Rattle.ml_show_text.specs.declared.limits.TheConstants.{LONGEST_SHOWN}
 use Rattle.ml_task.specs.declared.limits.TheConstants.{LONGEST_TASK_TEXT}
 use Rattle.ml_driver.specs.declared.command.Command.{Command}
-use Rattle.ml_driver.specs.declared.command.Command.TheVariants.{CheckModel, CheckRefutation, Migrate, Quotient, SolveGame, CheckGame, Path, CheckMachine, CheckAnswers, Determinise, Realize, Make, Gen, Bench}
+use Rattle.ml_driver.specs.declared.command.Command.TheVariants.{CheckModel, CheckRefutation, Migrate, Quotient, SolveGame, CheckGame, Path, Show, CheckMachine, CheckAnswers, Determinise, Realize, Make, Gen, Bench}
 use Rattle.ml_driver.specs.declared.command.TheConstants.{LONGEST_TEXT, LONGEST_DOCUMENT}
 use Rattle.ml_driver.specs.declared.said.Said.{Said}
 use Rattle.ml_driver.specs.declared.said.Said.TheVariants as said
@@ -39,6 +40,7 @@ longest_input CheckRefutation = Some LONGEST_DOCUMENT
 longest_input Migrate = Some LONGEST_DOCUMENT
 longest_input Quotient = Some LONGEST_DOCUMENT
 longest_input Path = Some LONGEST_DOCUMENT
+longest_input Show = Some LONGEST_SHOWN
 longest_input CheckMachine = Some LONGEST_DOCUMENT
 longest_input CheckAnswers = Some LONGEST_ANSWERS
 longest_input (SolveGame e) = Some LONGEST_GAME_TEXT

@@ -2,7 +2,7 @@
 --
 --   shape_of v   == the shape of the commands that begin with v
 --   further_in x == what stands behind the first word of a command of the shape x
-use Rattle.ml_driver.specs.declared.command.Command.TheVariants.{Decide, Valid, Find, Prove, CheckModel, CheckRefutation, Migrate, Quotient, SolveGame, CheckGame, Path, CheckMachine, Determinise, Automaton, Realize, Make, Ask, CheckAnswers, Gen, Bench}
+use Rattle.ml_driver.specs.declared.command.Command.TheVariants.{Decide, Valid, Find, Prove, CheckModel, CheckRefutation, Migrate, Quotient, SolveGame, CheckGame, Path, Show, CheckMachine, Determinise, Automaton, Realize, Make, Ask, CheckAnswers, Gen, Bench}
 use Rattle.ml_driver.specs.declared.table.Further.{Further}
 use Rattle.ml_driver.specs.declared.table.Further.TheVariants.{Engine, Family, Files, Limit, Logic, Nothing}
 use Rattle.ml_driver.specs.declared.table.Verb.{Verb}
@@ -19,6 +19,7 @@ shape_of verb.CheckAnswers = alone CheckAnswers
 shape_of verb.CheckModel = alone CheckModel
 shape_of verb.CheckRefutation = alone CheckRefutation
 shape_of verb.Path = alone Path
+shape_of verb.Show = alone Show
 shape_of verb.Migrate = alone Migrate
 shape_of verb.Quotient = alone Quotient
 shape_of verb.SolveGame = by_engine SolveGame

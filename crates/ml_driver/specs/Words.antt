@@ -35,7 +35,7 @@ use Rattle.ml_front.specs.declared.logic.Logic.{Logic}
 use Rattle.ml_gen.specs.FamilyRanges.{family_named, is_in_range}
 use Rattle.ml_gen.specs.declared.family.Family.{Family}
 use Rattle.ml_driver.specs.declared.command.Command.{Command}
-use Rattle.ml_driver.specs.declared.command.Command.TheVariants.{Decide, Valid, Find, Prove, CheckModel, CheckRefutation, Migrate, Quotient, SolveGame, CheckGame, Path, CheckMachine, Determinise, Automaton, Realize, Make, Ask, CheckAnswers, Gen, Bench}
+use Rattle.ml_driver.specs.declared.command.Command.TheVariants.{Decide, Valid, Find, Prove, CheckModel, CheckRefutation, Migrate, Quotient, SolveGame, CheckGame, Path, Show, CheckMachine, Determinise, Automaton, Realize, Make, Ask, CheckAnswers, Gen, Bench}
 use Rattle.ml_driver.specs.Games.{engine_named}
 use Rattle.ml_driver.specs.declared.engine.Engine.{Engine}
 use Rattle.ml_driver.specs.declared.command.TheConstants.{DEFAULT_LIMIT, GREATEST_LIMIT, LONGEST_NUMBER}
@@ -112,6 +112,7 @@ table =
     ∷ (codes "check-model", alone CheckModel)
     ∷ (codes "check-refutation", alone CheckRefutation)
     ∷ (codes "path", alone Path)
+    ∷ (codes "show", alone Show)
     ∷ (codes "migrate", alone Migrate)
     ∷ (codes "quotient", alone Quotient)
     ∷ (codes "solve-game", by_engine SolveGame)

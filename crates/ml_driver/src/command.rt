@@ -8,6 +8,7 @@ use ml_front::Logic;
 use ml_gen::Family;
 use ml_hoa::LONGEST_AUTOMATON_TEXT;
 use ml_pgsolver::{LONGEST_CHECKED_TEXT, LONGEST_GAME_TEXT};
+use ml_show_text::LONGEST_SHOWN;
 use ml_task::LONGEST_TASK_TEXT;
 
 /// What the words ask for.
@@ -25,6 +26,8 @@ pub enum Command {
     CheckModel,
     /// `check-refutation`: is the refutation of the document on the input accepted for the document's problem?
     CheckRefutation,
+    /// `show`: the document on the input, of whichever kind, as a text for people.
+    Show,
     /// `migrate`: the document with a refutation on the input, in version 2.
     Migrate,
     /// `quotient`: the document with a structure on the input, with the quotient of the structure.
@@ -97,6 +100,7 @@ impl Command {
             | Command::Path
             | Command::CheckMachine => Some(LONGEST_DOCUMENT),
             Command::CheckAnswers => Some(LONGEST_ANSWERS as u64),
+            Command::Show => Some(LONGEST_SHOWN as u64),
             Command::SolveGame { .. } => Some(LONGEST_GAME_TEXT as u64),
             Command::CheckGame => Some(LONGEST_CHECKED_TEXT as u64),
             Command::Determinise { .. } => Some(LONGEST_AUTOMATON_TEXT as u64),

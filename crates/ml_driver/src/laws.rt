@@ -4,6 +4,7 @@ ghost use Rattle.ml_answers.specs.declared.finding.TheConstants.{LONGEST_ANSWERS
 ghost use Rattle.ml_machine_check.specs.Checked as machines;
 ghost use Rattle.ml_paths.specs.Paths as paths;
 ghost use Rattle.ml_realize.specs.TaskGame.{most_nodes};
+ghost use Rattle.ml_show_text.specs.declared.limits.TheConstants.{LONGEST_SHOWN};
 ghost use Rattle.ml_translate.specs.Translation as translation;
 ghost use Rattle.ml_task.specs.declared.limits.TheConstants.{LONGEST_TASK_TEXT};
 ghost use Rattle.ml_driver.specs.declared.command.TheConstants.{DEFAULT_LIMIT, GREATEST_LIMIT, LONGEST_DOCUMENT, LONGEST_NUMBER, LONGEST_TEXT};
@@ -78,10 +79,10 @@ pub fn paths_beside_checking()
     ensures fails { PathsShowWhatFails }
 {}
 
-/// The text of a formula has at most 1,048,576 bytes, that of a task 2,097,152, a document at most 2^63 - 1. A game may have
-/// 50,000 positions, and a deterministic automaton as many states, where the words don't say, and 200,000 at most; a number
-/// has at most six digits. The word automaton of a task is too large with more than 4,096 nodes, one for `automaton`, `path`
-/// and `check-machine` with more than 65,536.
+/// The text of a formula has at most 1,048,576 bytes, that of a task 2,097,152, a document at most 2^63 - 1, and one that is
+/// shown 134,217,728. A game may have 50,000 positions, and a deterministic automaton as many states, where the words don't say,
+/// and 200,000 at most; a number has at most six digits. The word automaton of a task is too large with more than 4,096 nodes,
+/// one for `automaton`, `path` and `check-machine` with more than 65,536.
 pub fn limits()
     ensures text { LONGEST_TEXT ≡ 1048576 }
     ensures task { LONGEST_TASK_TEXT ≡ 2097152 }
@@ -90,6 +91,7 @@ pub fn limits()
     ensures paths { paths.most_nodes ≡ 65536 }
     ensures machines { machines.most_nodes ≡ 65536 }
     ensures answers { LONGEST_ANSWERS ≡ 134217728 }
+    ensures shown { LONGEST_SHOWN ≡ 134217728 }
     ensures specification { LONGEST_SPECIFICATION ≡ 1048576 }
     ensures document { LONGEST_DOCUMENT + 1 ≡ 2 ^ 63 }
     ensures usual { DEFAULT_LIMIT ≡ 50000 }

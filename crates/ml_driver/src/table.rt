@@ -18,6 +18,7 @@ pub enum Verb {
     CheckModel,
     CheckRefutation,
     Path,
+    Show,
     Migrate,
     Quotient,
     SolveGame,
@@ -49,7 +50,7 @@ pub enum Further {
 }
 
 /// The commands: their first words, in the order in which people are told of them.
-pub const TABLE: [(&str, Verb); 20] = [
+pub const TABLE: [(&str, Verb); 21] = [
     ("find", Verb::Find),
     ("prove", Verb::Prove),
     ("decide", Verb::Decide),
@@ -59,6 +60,7 @@ pub const TABLE: [(&str, Verb); 20] = [
     ("check-model", Verb::CheckModel),
     ("check-refutation", Verb::CheckRefutation),
     ("path", Verb::Path),
+    ("show", Verb::Show),
     ("migrate", Verb::Migrate),
     ("quotient", Verb::Quotient),
     ("solve-game", Verb::SolveGame),
@@ -96,6 +98,7 @@ impl Verb {
             | Verb::CheckModel
             | Verb::CheckRefutation
             | Verb::Path
+            | Verb::Show
             | Verb::Migrate
             | Verb::Quotient
             | Verb::CheckGame
@@ -115,6 +118,7 @@ impl Verb {
             Verb::CheckModel => "does the document's problem hold at its start?",
             Verb::CheckRefutation => "is the document's refutation right?",
             Verb::Path => "a path of the document's structure that shows its formula",
+            Verb::Show => "the document, as people read it",
             Verb::Migrate => "the document's refutation in version 2",
             Verb::Quotient => "the document's structure, as small as can be",
             Verb::SolveGame => "who wins the parity game?",

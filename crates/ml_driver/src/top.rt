@@ -26,6 +26,7 @@ use crate::input::input_of;
 use crate::question::Question;
 use crate::quotienting::quotient_document;
 use crate::realizing::answer_task;
+use crate::showing::show_document;
 use crate::solving::solve_game;
 use crate::translating::translate_text;
 use crate::{Command, Output, Said, Status, command_of};
@@ -67,6 +68,7 @@ pub struct Ending {
 /// | `ask` | all requirements and questions are as their writer means them | some answer says no |
 /// | `check-answers` | each answer behind the file of requirements is shown | some answer is wrong |
 /// | `bench` | the family's formula is satisfiable, with its occurrences, nodes and positions | it isn't |
+/// | `show` | a text for people, of which nothing is said but that it ends with LF | never |
 /// | `migrate` | the document of the same refutation in version 2 | never |
 /// | `quotient` | the document of the same problem with the quotient of the structure | never |
 /// | `solve-game` | the text of a solution | never |
@@ -272,6 +274,7 @@ pub fn answer(alloc: Global, command: Command, text: &[u8]) -> Result<Output, No
         Command::Determinise { limit } => determinise_text(alloc, limit, text),
         Command::Automaton { limit } => translate_text(alloc, limit, text),
         Command::Path => find_path(alloc, text),
+        Command::Show => show_document(alloc, text),
         Command::CheckMachine => check_machine(alloc, text),
         Command::CheckAnswers => check_answers(alloc, text),
         Command::Make { limit } => answer_task(alloc, Way::Search, limit, text),

@@ -160,6 +160,7 @@ fn alone(verb: Verb, limit: Option<&str>) -> Option<Command>
         Verb::CheckModel => unlimited(Command::CheckModel, limit),
         Verb::CheckRefutation => unlimited(Command::CheckRefutation, limit),
         Verb::Path => unlimited(Command::Path, limit),
+        Verb::Show => unlimited(Command::Show, limit),
         Verb::Migrate => unlimited(Command::Migrate, limit),
         Verb::Quotient => unlimited(Command::Quotient, limit),
         Verb::CheckGame => unlimited(Command::CheckGame, limit),
@@ -218,6 +219,7 @@ fn about(verb: Verb, subject: &str, limit: Option<&str>) -> Option<Command>
         | Verb::CheckModel
         | Verb::CheckRefutation
         | Verb::Path
+        | Verb::Show
         | Verb::Migrate
         | Verb::Quotient
         | Verb::CheckGame

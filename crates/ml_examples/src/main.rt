@@ -36,7 +36,7 @@ use std::fs;
 use std::io::Print;
 use std::rt::Files;
 
-const FILES: [&str; 50] = [
+const FILES: [&str; 51] = [
     "examples",
     "specifications",
     "patterns",
@@ -56,6 +56,7 @@ const FILES: [&str; 50] = [
     "families",
     "models",
     "refutations",
+    "show",
     "games",
     "automata",
     "translations",

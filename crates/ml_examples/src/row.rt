@@ -153,8 +153,8 @@ fn is_open_answer(line: &[u8]) -> bool {
     is_answer && (line.ends_with(b" open") || has_perhaps)
 }
 
-/// Is the document that was written found good, if it has an answer? One that is written of another document has to be found
-/// as that one is.
+/// Is the document that was written found good, if it has an answer, and can it be shown? One that is written of another
+/// document has to be found as that one is.
 fn is_checked(
     alloc: Global,
     row: &Row,
@@ -175,7 +175,8 @@ fn is_checked(
                 0
             };
             let status = answer_to(alloc, command, document)?.status;
-            Ok(status == wanted || status == UNDECIDED && may_be_large(document))
+            let is_right = status == wanted || status == UNDECIDED && may_be_large(document);
+            Ok(is_right && answer_to(alloc, "show", document)?.status == 0)
         }
     }
 }

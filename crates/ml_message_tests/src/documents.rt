@@ -37,7 +37,19 @@ fn told(alloc: Global, command: Command, input: &[u8], said: Said) -> Result<Str
     }
 }
 
-const ROWS: [(Command, &[u8], Said, &str); 28] = [
+const ROWS: [(Command, &[u8], Said, &str); 30] = [
+    (
+        Command::Show,
+        b"mlsolver 2\nanswer undecided\nlogic mu\nsense plain\nformula p\ncause position 5\nend\n",
+        Said::RefusedDocument(DocFault { line: 6, rule: 11 }),
+        "line 6: `cause position 5`: expected: `cause positions` and a number, or `cause closure 4096`; then `end` and nothing behind it",
+    ),
+    (
+        Command::Show,
+        b"mlsolver 2\nanswer unsatisfiable\nlogic mu\nsense plain\nformula p\nnames 1\nsequents 0\nstacks 0\nentries 0\n",
+        Said::RefusedDocument(DocFault { line: 9, rule: 23 }),
+        "line 9: `entries 0`: a refutation has at least one entry",
+    ),
     (
         Command::CheckModel,
         b"mlsolver 2\nanswer satisfiable\nlogic mu\nsense plain\nformula p &\nstates 1\n",

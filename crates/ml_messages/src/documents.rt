@@ -44,7 +44,8 @@ pub(crate) fn document_fault(
 fn line_read(shape: Shape, input: &[u8], line: usize) -> Option<&[u8]> {
     match shape {
         Shape::Task => line_of(input, line).or(last_line(input, line)),
-        Shape::Model | Shape::Refutation | Shape::Machine | Shape::Answers => line_of(input, line),
+        Shape::Model | Shape::Refutation | Shape::Undecided | Shape::Machine | Shape::Answers =>
+            line_of(input, line),
     }
 }
 
@@ -66,7 +67,9 @@ fn kind_of_line(shape: Shape, line: usize) -> usize {
 fn logic_of(shape: Shape, input: &[u8]) -> Logic {
     match shape {
         Shape::Task | Shape::Machine => Logic::Ltl,
-        Shape::Model | Shape::Refutation | Shape::Answers => told_logic(input).unwrap_or(Logic::Mu),
+        Shape::Model | Shape::Refutation | Shape::Undecided | Shape::Answers => {
+            told_logic(input).unwrap_or(Logic::Mu)
+        }
     }
 }
 

@@ -7,7 +7,8 @@ use crate::requirements::requirements_fault;
 use crate::rules::{Shape, of_automaton, of_game, of_solution};
 use crate::shown::{shown, token};
 use ml_driver::{Command, Said, TextKind};
-use ml_front::Logic;
+use ml_front::{Answer, Logic};
+use ml_show_text::{Kind, kind_of};
 use ml_spec::line_and_column;
 use std::alloc::{AllocError, Global};
 
@@ -33,7 +34,7 @@ pub fn explanation(
         }
         Said::RefusedDocument(fault) => {
             let line = fault.line as usize;
-            document_fault(alloc, shape_of(command), input, line, fault.rule)?
+            document_fault(alloc, shape_of(command, input), input, line, fault.rule)?
         }
         Said::RefusedRequirements { line, column, rule } => {
             requirements_fault(alloc, input, line as usize, column as usize, rule.number())?
@@ -94,13 +95,23 @@ fn logic_of(command: Command) -> Logic {
 }
 
 // what the command reads whose document is refused
-fn shape_of(command: Command) -> Shape {
+fn shape_of(command: Command, input: &[u8]) -> Shape {
     match command {
+        Command::Show => shape_shown(kind_of(input)),
         Command::CheckRefutation | Command::Migrate => Shape::Refutation,
         Command::Realize { .. } | Command::Make { .. } => Shape::Task,
         Command::CheckMachine => Shape::Machine,
         Command::CheckAnswers => Shape::Answers,
         _ => Shape::Model,
+    }
+}
+
+fn shape_shown(kind: Kind) -> Shape {
+    match kind {
+        Kind::Realizability => Shape::Machine,
+        Kind::Decision(Answer::Satisfiable) => Shape::Model,
+        Kind::Decision(Answer::Unsatisfiable) => Shape::Refutation,
+        Kind::Decision(Answer::Undecided) => Shape::Undecided,
     }
 }
 

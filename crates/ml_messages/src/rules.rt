@@ -9,6 +9,8 @@ pub(crate) enum Shape {
     Model,
     /// A document with a refutation.
     Refutation,
+    /// A document of a problem that stays undecided.
+    Undecided,
     /// A task.
     Task,
     /// A machine or an environment.
@@ -85,6 +87,8 @@ pub(crate) fn of_document(shape: Shape, line: usize, rule: u32) -> &'static str 
         },
         4 =>
             "`path` reads any formula in `ltl` and `word`, and in `ctl` `E f` or `A f` where f has no `E` and no `A`",
+        11 if shape == Shape::Undecided =>
+            "expected: `cause positions` and a number, or `cause closure 4096`; then `end` and nothing behind it",
         11 if shape == Shape::Answers =>
             "expected: `states` and a number, `start` and a number, a `state` line for each state, then `edge` lines with a state, an action and a state, then `end`",
         11..=17 => of_structure(line, rule),

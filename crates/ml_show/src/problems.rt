@@ -15,9 +15,9 @@ fn logic_of(formula: &AnyFormula) -> Logic {
     }
 }
 
-// does a state have one way on, in the structures of the logic?
+// is one path spoken of?
 pub(crate) fn is_path(formula: &AnyFormula) -> bool {
-    matches!(formula, AnyFormula::Word(_))
+    matches!(formula, AnyFormula::Word(_) | AnyFormula::Ltl(_))
 }
 
 // the formula of a problem, in lines of its own

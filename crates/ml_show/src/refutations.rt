@@ -12,6 +12,7 @@ use ml_refutation::{Decision, Entry, Item, Refutation};
 use ml_sequent::ClashCause;
 use ml_trace::Mark;
 use std::alloc::Global;
+use std::cmp::Ordering;
 
 // how deep a case stands within others before its lines go no further in
 const DEEPEST: usize = 12;
@@ -25,8 +26,24 @@ struct Argument<'n, 'g, 'a, 'r> {
     alloc: Global,
     nodes: &'n Nodes<'g, 'a>,
     refutation: &'r Refutation,
-    // does a state have one way on, or is a path spoken of?
+    // is one path spoken of?
     is_path: bool,
+}
+
+// Which cases of a split are left to tell.
+#[derive(Clone, Copy)]
+enum Left {
+    Neither,
+    First,
+    Second,
+    Both,
+}
+
+// The texts of the cases of a split.
+#[derive(Drop)]
+struct Cases {
+    first: Vec<u8>,
+    second: Vec<u8>,
 }
 
 fn indent(depth: usize) -> usize
@@ -42,37 +59,40 @@ impl<'n, 'g, 'a, 'r> Argument<'n, 'g, 'a, 'r> {
         page.put(sign)
     }
 
-    // what can't hold together at one state
-    fn show_sequent(self, page: &mut Page, nodes: &[u32]) -> Result<(), NoMemory> {
+    // the formulas that can't hold together
+    fn asked(self, nodes: &[u32]) -> Result<Vec<Vec<u8>>, NoMemory> {
+        let mut asked = Vec::new(self.alloc);
         for node in nodes {
             if self.nodes.is_told(*node) {
-                page.begin(4, 8)?;
-                page.word(b"-")?;
-                self.formula(page, *node, b"")?;
-                page.end_line()?;
+                for text in self.nodes.texts(self.alloc, *node)? {
+                    asked.push(text)?;
+                }
             }
+        }
+        Ok(asked)
+    }
+
+    fn show_sequent(self, page: &mut Page, nodes: &[u32]) -> Result<(), NoMemory> {
+        for text in self.asked(nodes)? {
+            page.begin(4, 8)?;
+            page.word(b"-")?;
+            page.words(&text)?;
+            page.end_line()?;
         }
         Ok(())
     }
 
     // the formulas of an entry in one sentence, where they are few
     fn show_asked(self, page: &mut Page, nodes: &[u32]) -> Result<(), NoMemory> {
-        let told = nodes
-            .iter()
-            .filter(|node| self.nodes.is_told(**node))
-            .count();
-        if told > FEW {
+        let asked = self.asked(nodes)?;
+        if asked.len() > FEW {
             return page.words(b"all that");
         }
-        let mut is_first = true;
-        for node in nodes {
-            if self.nodes.is_told(*node) {
-                if !is_first {
-                    page.word(b"and")?;
-                }
-                is_first = false;
-                self.formula(page, *node, b"")?;
+        for (i, text) in asked.iter().enumerate() {
+            if i > 0 {
+                page.word(b"and")?;
             }
+            page.words(text)?;
         }
         page.put(b",")?;
         page.word(b"which")
@@ -89,16 +109,26 @@ impl<'n, 'g, 'a, 'r> Argument<'n, 'g, 'a, 'r> {
     }
 
     // what is put off once more where a step's name is green
-    fn show_put_off(self, page: &mut Page, entry: &Entry, mark: Mark) -> Result<(), NoMemory> {
+    fn put_off(self, entry: &Entry, mark: Mark) -> Result<Vec<Vec<u8>>, NoMemory> {
+        let mut texts = Vec::new(self.alloc);
         let Mark::Green(name) = mark else {
-            return Ok(());
+            return Ok(texts);
         };
         for item in &entry.items {
             if self.is_put_off(item, name) && self.nodes.is_told(item.node) {
-                page.words(b"So")?;
-                self.formula(page, item.node, b"")?;
-                page.words(b"is put off once more.")?;
+                texts.push(self.nodes.put_off_text(self.alloc, item.node)?)?;
             }
+        }
+        texts.sort_unstable();
+        texts.dedup();
+        Ok(texts)
+    }
+
+    fn show_put_off(self, page: &mut Page, entry: &Entry, mark: Mark) -> Result<(), NoMemory> {
+        for text in self.put_off(entry, mark)? {
+            page.words(b"So")?;
+            page.words(&text)?;
+            page.words(b"is put off once more.")?;
         }
         Ok(())
     }
@@ -126,8 +156,10 @@ impl<'n, 'g, 'a, 'r> Argument<'n, 'g, 'a, 'r> {
         self.show_asked(page, self.refutation.sequents.at(target.sequent))?;
         page.word(b"step")?;
         self.show_number(page, entry as usize, b"")?;
-        if entry as usize <= here {
-            page.words(b"above")?;
+        match (entry as usize).cmp(&here) {
+            Ordering::Less => page.word(b"above")?,
+            Ordering::Equal => page.word(b"itself")?,
+            Ordering::Greater => {}
         }
         page.words(b"excludes.")?;
         self.show_put_off(page, target, mark)?;
@@ -139,46 +171,161 @@ impl<'n, 'g, 'a, 'r> Argument<'n, 'g, 'a, 'r> {
         page.words(b"Then some state behind an edge")?;
         if let Some(Node::Diamond { action, .. }) = self.nodes.node(diamond) {
             if let Some(name) = self.nodes.graph.actions().get(action as usize) {
-                page.word(b"by")?;
-                page.word(name.bytes())?;
+                if name.bytes() != b"_".as_slice() {
+                    page.word(b"by")?;
+                    page.word(name.bytes())?;
+                }
             }
         }
         Ok(())
     }
 
+    // why something can't be
+    fn show_cause(self, page: &mut Page, cause: ClashCause) -> Result<(), NoMemory> {
+        match cause {
+            ClashCause::False(_) => page.words(b"ff holds nowhere."),
+            ClashCause::Pair(positive, negative) => {
+                self.formula(page, positive, b"")?;
+                page.word(b"and")?;
+                self.formula(page, negative, b"")?;
+                page.words(b"exclude one another.")
+            }
+            ClashCause::Cycle(node) => {
+                self.formula(page, node, b"")?;
+                page.words(
+                    b"is asked for again at the same state, without end, and never comes about.",
+                )
+            }
+        }
+    }
+
     // why a case can't be
     fn show_clash(self, page: &mut Page, depth: usize, cause: ClashCause) -> Result<(), NoMemory> {
         page.begin(indent(depth), indent(depth) + 2)?;
-        match cause {
-            ClashCause::False(_) => {
-                page.words(b"This asks for ff, which holds nowhere.")?;
-            }
-            ClashCause::Pair(positive, negative) => {
-                page.words(b"This asks for")?;
-                self.formula(page, positive, b"")?;
-                page.words(b"and for")?;
-                self.formula(page, negative, b".")?;
-            }
-            ClashCause::Cycle(node) => {
-                page.words(b"This asks for")?;
-                self.formula(page, node, b"")?;
-                page.words(b"again at the same state, without end: it never comes about.")?;
-            }
-        }
+        page.words(b"That can't be:")?;
+        self.show_cause(page, cause)?;
         page.end_line()
+    }
+
+    // a case that is one at once
+    fn exclude(self, page: &mut Page, case: &[u8], cause: ClashCause) -> Result<(), NoMemory> {
+        page.words(b"not")?;
+        page.words(case)?;
+        page.put(b",")?;
+        page.word(b"since")?;
+        self.show_cause(page, cause)
     }
 
     // a case, by the formula that is chosen
-    fn show_case(self, page: &mut Page, depth: usize, node: Option<u32>) -> Result<(), NoMemory> {
+    fn show_case(self, page: &mut Page, depth: usize, case: &[u8]) -> Result<(), NoMemory> {
         page.begin(indent(depth), indent(depth) + 2)?;
         page.words(b"* if")?;
-        if let Some(node) = node {
-            self.formula(page, node, b":")?;
-        }
+        page.words(case)?;
+        page.put(b":")?;
         page.end_line()
     }
 
-    // the cases of a decision, each with its end
+    // the one case that is left
+    fn show_left(self, page: &mut Page, case: &[u8]) -> Result<(), NoMemory> {
+        page.words(b"So")?;
+        page.words(case)?;
+        page.put(b".")?;
+        page.end_line()
+    }
+
+    // the nodes of the cases at a node
+    fn children(self, node: u32) -> (u32, u32) {
+        match self.nodes.node(node) {
+            Some(Node::Or { left, right }) => (left, right),
+            _ => (node, node),
+        }
+    }
+
+    // is a case none, since its node is false?
+    fn is_none(self, node: u32, decision: &Decision) -> bool {
+        matches!(decision, Decision::Clash(_)) && matches!(self.nodes.node(node), Some(Node::False))
+    }
+
+    // the case that alone is to be told, as both are the same or the other one is none
+    fn only_case(self, node: u32, left: &Decision, right: &Decision) -> Option<Left> {
+        let (first, second) = self.children(node);
+        if first == second || self.is_none(second, right) {
+            Some(Left::First)
+        } else if self.is_none(first, left) {
+            Some(Left::Second)
+        } else {
+            None
+        }
+    }
+
+    fn cases(self, node: u32) -> Result<Cases, NoMemory> {
+        let (first, second) = self.children(node);
+        let first = self.nodes.case_text(self.alloc, node, first, true)?;
+        let second = self.nodes.case_text(self.alloc, node, second, false)?;
+        Ok(Cases { first, second })
+    }
+
+    // what has two cases at a node
+    fn show_node(self, page: &mut Page, depth: usize, node: u32) -> Result<(), NoMemory> {
+        page.begin(indent(depth), indent(depth) + 2)?;
+        page.words(b"By")?;
+        page.words(&self.nodes.split_text(self.alloc, node)?)?;
+        page.put(b":")
+    }
+
+    // a case that can't be at once takes no line of its own
+    fn begin_cases(
+        self,
+        page: &mut Page,
+        cases: &Cases,
+        left: &Decision,
+        right: &Decision,
+    ) -> Result<Left, NoMemory> {
+        match (left, right) {
+            (Decision::Clash(one), Decision::Clash(other)) => {
+                self.exclude(page, &cases.first, *one)?;
+                page.words(b"And")?;
+                self.exclude(page, &cases.second, *other)?;
+                page.end_line()?;
+                Ok(Left::Neither)
+            }
+            (Decision::Clash(cause), _) => {
+                self.exclude(page, &cases.first, *cause)?;
+                self.show_left(page, &cases.second)?;
+                Ok(Left::Second)
+            }
+            (_, Decision::Clash(cause)) => {
+                self.exclude(page, &cases.second, *cause)?;
+                self.show_left(page, &cases.first)?;
+                Ok(Left::First)
+            }
+            _ => {
+                page.end_line()?;
+                Ok(Left::Both)
+            }
+        }
+    }
+
+    // the cases at a node, as far as they are told before the decisions
+    fn begin_split(
+        self,
+        page: &mut Page,
+        depth: usize,
+        node: u32,
+        cases: &Cases,
+        left: &Decision,
+        right: &Decision,
+    ) -> Result<Left, NoMemory> {
+        match self.only_case(node, left, right) {
+            Some(only) => Ok(only),
+            None => {
+                self.show_node(page, depth, node)?;
+                self.begin_cases(page, cases, left, right)
+            }
+        }
+    }
+
+    // a decision, with the cases at its splits
     fn show_decision(
         self,
         page: &mut Page,
@@ -194,21 +341,72 @@ impl<'n, 'g, 'a, 'r> Argument<'n, 'g, 'a, 'r> {
                 mark,
             } => self.show_go(page, here, depth, *diamond, *entry, *mark),
             Decision::Split { node, left, right } => {
-                let (first, second) = match self.nodes.node(*node) {
-                    Some(Node::Or { left, right }) => (Some(left), Some(right)),
-                    _ => (None, None),
-                };
-                page.begin(indent(depth), indent(depth) + 2)?;
-                page.words(b"By")?;
-                self.formula(page, *node, b":")?;
-                page.end_line()?;
-                let inside = depth.saturating_add(1);
-                self.show_case(page, depth, first)?;
-                self.show_decision(page, here, inside, left)?;
-                self.show_case(page, depth, second)?;
-                self.show_decision(page, here, inside, right)
+                let cases = self.cases(*node)?;
+                match self.begin_split(page, depth, *node, &cases, left, right)? {
+                    Left::Neither => Ok(()),
+                    Left::First => self.show_decision(page, here, depth, left),
+                    Left::Second => self.show_decision(page, here, depth, right),
+                    Left::Both => {
+                        let inside = depth.saturating_add(1);
+                        self.show_case(page, depth, &cases.first)?;
+                        self.show_decision(page, here, inside, left)?;
+                        self.show_case(page, depth, &cases.second)?;
+                        self.show_decision(page, here, inside, right)
+                    }
+                }
             }
         }
+    }
+
+    // what the steps of a decision put off
+    fn gather_put_off(self, texts: &mut Vec<Vec<u8>>, decision: &Decision) -> Result<(), NoMemory> {
+        match decision {
+            Decision::Clash(_) => Ok(()),
+            Decision::Go { entry, mark, .. } => {
+                if let Some(target) = self.refutation.entries.get(*entry as usize) {
+                    for text in self.put_off(target, *mark)? {
+                        texts.push(text)?;
+                    }
+                }
+                Ok(())
+            }
+            Decision::Split { left, right, .. } => {
+                self.gather_put_off(texts, left)?;
+                self.gather_put_off(texts, right)
+            }
+        }
+    }
+
+    // what is put off in some step
+    fn all_put_off(self) -> Result<Vec<Vec<u8>>, NoMemory> {
+        let mut texts = Vec::new(self.alloc);
+        for entry in &self.refutation.entries {
+            self.gather_put_off(&mut texts, &entry.decision)?;
+            texts.sort_unstable();
+            texts.dedup();
+        }
+        Ok(texts)
+    }
+
+    // why no steps are followed for ever, in which these are put off
+    fn show_end(self, page: &mut Page, texts: &[Vec<u8>]) -> Result<(), NoMemory> {
+        if texts.is_empty() {
+            return page.words(b"No steps lead round, so step 1 holds.");
+        }
+        page.words(b"Steps may lead round, but not for ever: each such round puts off something")?;
+        page.words(b"that has to come about some time")?;
+        if texts.len() <= FEW {
+            page.put(b",")?;
+            page.words(b"which is")?;
+            for (i, text) in texts.iter().enumerate() {
+                if i > 0 {
+                    page.word(b"or")?;
+                }
+                page.words(text)?;
+            }
+        }
+        page.put(b".")?;
+        page.words(b"So step 1 holds.")
     }
 
     fn show_step(self, page: &mut Page, here: usize, entry: &Entry) -> Result<(), NoMemory> {
@@ -216,7 +414,11 @@ impl<'n, 'g, 'a, 'r> Argument<'n, 'g, 'a, 'r> {
         page.begin(0, 0)?;
         page.word(b"Step")?;
         self.show_number(page, here, b".")?;
-        page.words(b"These can't hold together:")?;
+        page.words(if self.is_path {
+            b"These can't hold together at one moment:".as_slice()
+        } else {
+            b"These can't hold together at one state:".as_slice()
+        })?;
         page.end_line()?;
         self.show_sequent(page, self.refutation.sequents.at(entry.sequent))?;
         self.show_decision(page, here, 0, &entry.decision)
@@ -226,8 +428,8 @@ impl<'n, 'g, 'a, 'r> Argument<'n, 'g, 'a, 'r> {
 /// What the document of an unsatisfiable problem says: why no state can meet it. Each entry is a step, which tells what can't
 /// hold together at one state, by cases, each of which ends in a contradiction or at another step.
 ///
-/// In the mu-calculus, in PDL and in LTL on words each node is the formula that it stands for; in CTL* and LTL only the nodes
-/// that are constants or propositions are, and each other one is told by its number.
+/// Each node is told by the formula that it stands for, and in LTL by the formulas that a path is to have. Where steps lead back,
+/// it is said what is put off.
 ///
 /// # Errors
 /// `NoMemory` alone.
@@ -269,7 +471,7 @@ pub fn show_refutation(
     }
     page.end_line()?;
     page.begin(0, 0)?;
-    page.words(b"Where steps lead round for ever, something that has to come about some time")?;
-    page.words(b"is put off in each round, and never comes about. So step 1 stands.")?;
+    let texts = argument.all_put_off()?;
+    argument.show_end(&mut page, &texts)?;
     page.finish()
 }

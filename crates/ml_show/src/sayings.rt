@@ -1,11 +1,12 @@
 // What each node of a problem's graph says, as a formula.
 //
 // No number is made here: the root says the problem, and what the nodes say to which a node leads follows from what it says
-// itself, as the definition of the graph has it (`form_of` of `ml_word_graph`, the tables of `ml_mu_graph`, `ml_pdl_graph`).
-// The numbers are those of the graph.
+// itself, as the definition of the graph has it (`form_of` of `ml_word_graph`, the tables of `ml_mu_graph`, `ml_pdl_graph`, and
+// for blocks `ml_blocks`). The numbers are those of the graph.
+use crate::blocks::{Behind, Blocks, Item};
 use crate::formulas::{negation, write_mu, write_path, write_pdl, write_run};
 use ml_base::NoMemory;
-use ml_ctl::{Pairing, Tense};
+use ml_ctl::{Pairing, Quantifier, Tense};
 use ml_front::{AnyFormula, Problem};
 use ml_graph::{ModalGraph, Node};
 use ml_lines::{write_number, write_word};
@@ -19,12 +20,16 @@ pub(crate) enum Part<'a> {
     Path(&'a ml_ctl::Term, bool),
     Mu(&'a ml_mu::Term, bool),
     Pdl(&'a ml_pdl::Term, bool),
+    // the formula at this place of a formula of CTL* or LTL
+    State(usize, bool),
 }
 
 #[derive(Clone, Copy)]
 pub(crate) enum Saying<'a> {
     // the problem, and that each state has a next one
     Whole(Part<'a>),
+    // the same of a problem of LTL
+    OnPath(bool),
     // that each state has a next one, or a part of this
     Going,
     Now(Part<'a>),
@@ -35,6 +40,16 @@ pub(crate) enum Saying<'a> {
     Both(Part<'a>, Part<'a>),
     // some run of the program, or else each, leads to where the saying at this place holds
     Run(&'a Program, bool, usize),
+    // what the block at this place says
+    Block(usize),
+}
+
+// What is kept beside the sayings of nodes.
+#[derive(Drop)]
+struct Kept<'a> {
+    // what stands behind the runs of programs
+    sayings: Vec<Saying<'a>>,
+    blocks: Blocks<'a>,
 }
 
 // What the nodes say to which a node leads, left and right: where it leads to one, left. A variable leads to its binder, of
@@ -165,36 +180,114 @@ fn of_rest<'a>(part: Part<'a>) -> Children<'a> {
         Part::Path(ml_ctl::Term::Paired(_, left, _), positive) => {
             Some(Saying::Now(Part::Path(left, positive)))
         }
-        Part::Path(_, _) | Part::Mu(_, _) | Part::Pdl(_, _) => None,
+        Part::Path(_, _) | Part::Mu(_, _) | Part::Pdl(_, _) | Part::State(_, _) => None,
     };
     (first, Some(Saying::Later(part)))
 }
 
+// a formula of CTL* at a state
+fn of_state<'a>(
+    alloc: Global,
+    blocks: &mut Blocks<'a>,
+    place: usize,
+    positive: bool,
+) -> Result<Children<'a>, NoMemory> {
+    let (left, right) = blocks.operands(place);
+    match blocks.term(place) {
+        Some(ml_ctl::Term::Not(_)) => Ok((Some(Saying::Now(Part::State(left, !positive))), None)),
+        Some(ml_ctl::Term::Binary(Operator::Iff, _, _)) => Ok((
+            Some(Saying::Both(Part::State(left, true), Part::State(right, positive))),
+            Some(Saying::Both(Part::State(left, false), Part::State(right, !positive))),
+        )),
+        Some(ml_ctl::Term::Binary(operator, _, _)) => {
+            let first = positive != (*operator == Operator::Implies);
+            Ok((
+                Some(Saying::Now(Part::State(left, first))),
+                Some(Saying::Now(Part::State(right, positive))),
+            ))
+        }
+        Some(ml_ctl::Term::Quantified(quantifier, _)) => {
+            let asks = *quantifier == Quantifier::Exists;
+            let block = blocks.begin(alloc, Item::now(left, asks), positive == asks)?;
+            Ok((Some(Saying::Block(block)), None))
+        }
+        _ => Ok((None, None)),
+    }
+}
+
+// where a block leads
+fn of_block<'a>(
+    alloc: Global,
+    blocks: &mut Blocks<'a>,
+    place: usize,
+) -> Result<Children<'a>, NoMemory> {
+    match blocks.behind(alloc, place)? {
+        Behind::State(state, block) => {
+            let (at, positive) = state.at();
+            Ok((
+                Some(Saying::Now(Part::State(at, positive))),
+                block_saying(block),
+            ))
+        }
+        Behind::One(block) => Ok((block_saying(block), None)),
+        Behind::Two(first, second) => Ok((block_saying(first), block_saying(second))),
+    }
+}
+
+// what a block says, if it is one
+fn block_saying<'a>(block: Option<usize>) -> Option<Saying<'a>> {
+    match block {
+        Some(place) => Some(Saying::Block(place)),
+        None => None,
+    }
+}
+
 fn children_of<'a>(
-    kept: &mut Vec<Saying<'a>>,
+    alloc: Global,
+    kept: &mut Kept<'a>,
     saying: Saying<'a>,
 ) -> Result<Children<'a>, NoMemory> {
     match saying {
         Saying::Whole(part) => Ok((Some(Saying::Now(part)), Some(Saying::Going))),
+        Saying::OnPath(positive) => {
+            let block = kept.blocks.begin(alloc, Item::now(0, positive), true)?;
+            Ok((Some(Saying::Block(block)), Some(Saying::Going)))
+        }
         Saying::Going => Ok((Some(Saying::Going), Some(Saying::Going))),
         Saying::Now(Part::Path(term, positive)) => Ok(of_path(term, positive)),
         Saying::Now(Part::Mu(term, positive)) => Ok(of_mu(term, positive)),
-        Saying::Now(Part::Pdl(term, positive)) => of_pdl(kept, term, positive),
+        Saying::Now(Part::Pdl(term, positive)) => of_pdl(&mut kept.sayings, term, positive),
+        Saying::Now(Part::State(place, positive)) => {
+            of_state(alloc, &mut kept.blocks, place, positive)
+        }
         Saying::Later(part) => Ok((Some(Saying::Now(part)), None)),
         Saying::Rest(part) => Ok(of_rest(part)),
         Saying::Both(left, right) => Ok((Some(Saying::Now(left)), Some(Saying::Now(right)))),
-        Saying::Run(program, is_diamond, then) => of_run(kept, program, is_diamond, then),
+        Saying::Run(program, is_diamond, then) => {
+            of_run(&mut kept.sayings, program, is_diamond, then)
+        }
+        Saying::Block(place) => of_block(alloc, &mut kept.blocks, place),
     }
 }
 
-// what the root says; `None` where nodes stand for blocks
-fn root_of(problem: &Problem) -> Option<Saying<'_>> {
+// what the root says
+fn root_of(problem: &Problem) -> Saying<'_> {
     let positive = !problem.negated;
     match &problem.formula {
-        AnyFormula::Mu(formula) => Some(Saying::Now(Part::Mu(formula.root(), positive))),
-        AnyFormula::Word(formula) => Some(Saying::Whole(Part::Path(formula.root(), positive))),
-        AnyFormula::Pdl(formula) => Some(Saying::Now(Part::Pdl(formula.root(), positive))),
-        AnyFormula::Ctl(_) | AnyFormula::Ltl(_) => None,
+        AnyFormula::Mu(formula) => Saying::Now(Part::Mu(formula.root(), positive)),
+        AnyFormula::Word(formula) => Saying::Whole(Part::Path(formula.root(), positive)),
+        AnyFormula::Pdl(formula) => Saying::Now(Part::Pdl(formula.root(), positive)),
+        AnyFormula::Ctl(_) => Saying::Whole(Part::State(0, positive)),
+        AnyFormula::Ltl(_) => Saying::OnPath(positive),
+    }
+}
+
+// the formula of a problem that has blocks
+fn blocks_of(alloc: Global, problem: &Problem) -> Result<Blocks<'_>, NoMemory> {
+    match &problem.formula {
+        AnyFormula::Ctl(formula) => Blocks::of(alloc, formula.root()),
+        AnyFormula::Ltl(formula) => Blocks::of(alloc, formula.root()),
+        AnyFormula::Mu(_) | AnyFormula::Pdl(_) | AnyFormula::Word(_) => Ok(Blocks::none(alloc)),
     }
 }
 
@@ -237,8 +330,9 @@ fn meet<'a>(
 pub(crate) struct Nodes<'g, 'a> {
     pub graph: &'g ModalGraph,
     said: Vec<Option<Saying<'a>>>,
-    // what stands behind the runs of programs
-    kept: Vec<Saying<'a>>,
+    kept: Kept<'a>,
+    // are there blocks, all of which speak of one path?
+    has_path: bool,
 }
 
 impl<'g, 'a> Nodes<'g, 'a> {
@@ -253,8 +347,12 @@ impl<'g, 'a> Nodes<'g, 'a> {
             said.push(None)?;
         }
         let mut met = Vec::new(alloc);
-        let mut kept = Vec::new(alloc);
-        meet(&mut said, &mut met, Some(graph.root()), root_of(problem))?;
+        let mut kept = Kept {
+            sayings: Vec::new(alloc),
+            blocks: blocks_of(alloc, problem)?,
+        };
+        let root = Some(root_of(problem));
+        meet(&mut said, &mut met, Some(graph.root()), root)?;
         for (place, _) in graph.nodes().iter().enumerate() {
             let Some(number) = met.get(place).copied() else {
                 break;
@@ -263,12 +361,17 @@ impl<'g, 'a> Nodes<'g, 'a> {
             let node = graph.nodes().get(number as usize).copied();
             if let (Some(saying), Some(node)) = (saying, node) {
                 let (left, right) = targets_of(node);
-                let (first, second) = children_of(&mut kept, saying)?;
+                let (first, second) = children_of(alloc, &mut kept, saying)?;
                 meet(&mut said, &mut met, left, first)?;
                 meet(&mut said, &mut met, right, second)?;
             }
         }
-        Ok(Nodes { graph, said, kept })
+        Ok(Nodes {
+            graph,
+            said,
+            kept,
+            has_path: matches!(&problem.formula, AnyFormula::Ltl(_)),
+        })
     }
 
     fn saying(&self, node: u32) -> Option<Saying<'a>> {
@@ -305,18 +408,132 @@ impl<'g, 'a> Nodes<'g, 'a> {
         Ok(text)
     }
 
+    // the block that a node stands for, where all blocks speak of one path
+    fn path_block(&self, node: u32) -> Option<usize> {
+        match self.saying(node) {
+            Some(Saying::Block(place)) if self.has_path => Some(place),
+            _ => None,
+        }
+    }
+
+    // what a node says, a text for each formula that a path is to have
+    pub(crate) fn texts(&self, alloc: Global, node: u32) -> Result<Vec<Vec<u8>>, NoMemory> {
+        let mut texts = Vec::new(alloc);
+        match self.path_block(node) {
+            Some(place) => {
+                for item in self.kept.blocks.items(place) {
+                    let mut text = Vec::new(alloc);
+                    self.kept.blocks.write_item(&mut text, *item, true)?;
+                    texts.push(text)?;
+                }
+            }
+            None => texts.push(self.text(alloc, node)?)?,
+        }
+        Ok(texts)
+    }
+
+    // what has two cases at a node
+    pub(crate) fn split_text(&self, alloc: Global, node: u32) -> Result<Vec<u8>, NoMemory> {
+        let Some(place) = self.path_block(node) else {
+            return self.text(alloc, node);
+        };
+        let mut text = Vec::new(alloc);
+        self.kept.blocks.write_decomposed(&mut text, place)?;
+        Ok(text)
+    }
+
+    // one of the cases, which leads to another node
+    pub(crate) fn case_text(
+        &self,
+        alloc: Global,
+        node: u32,
+        case: u32,
+        is_first: bool,
+    ) -> Result<Vec<u8>, NoMemory> {
+        let Some(place) = self.path_block(node) else {
+            return self.text(alloc, case);
+        };
+        let mut text = Vec::new(alloc);
+        self.kept.blocks.write_way(&mut text, place, is_first)?;
+        Ok(text)
+    }
+
+    // what has to come about where a node is met again and again
+    pub(crate) fn put_off_text(&self, alloc: Global, node: u32) -> Result<Vec<u8>, NoMemory> {
+        let Some(Saying::Block(place)) = self.saying(node) else {
+            return self.text(alloc, node);
+        };
+        let mut text = Vec::new(alloc);
+        self.kept.blocks.write_put_off(&mut text, place)?;
+        Ok(text)
+    }
+
     // a saying, behind the modalities that lead to it: each leads to one that was kept before it
     fn write_saying(&self, text: &mut Vec<u8>, saying: Saying<'a>) -> Result<(), NoMemory> {
         let mut next = saying;
-        for _ in &self.kept {
+        for _ in &self.kept.sayings {
             if let Saying::Run(program, is_diamond, then) = next {
                 write_run(text, program, is_diamond)?;
-                if let Some(behind) = self.kept.get(then) {
+                if let Some(behind) = self.kept.sayings.get(then) {
                     next = *behind;
                 }
             }
         }
-        write_saying(text, next)
+        self.write_last(text, next)
+    }
+
+    fn write_last(&self, text: &mut Vec<u8>, saying: Saying<'a>) -> Result<(), NoMemory> {
+        match saying {
+            Saying::Whole(part) | Saying::Now(part) => self.write_part(text, part),
+            Saying::OnPath(positive) => {
+                self.kept
+                    .blocks
+                    .write_item(text, Item::now(0, positive), true)
+            }
+            Saying::Going => write_word(text, b"X tt"),
+            // its runs are written before it
+            Saying::Run(_, _, _) => Ok(()),
+            Saying::Later(part) => {
+                write_word(text, b"X ")?;
+                self.write_part(text, part)
+            }
+            Saying::Rest(part) => self.write_rest(text, part),
+            Saying::Both(left, right) => {
+                write_word(text, b"(")?;
+                self.write_part(text, left)?;
+                write_word(text, b" & ")?;
+                self.write_part(text, right)?;
+                write_word(text, b")")
+            }
+            Saying::Block(place) => self.kept.blocks.write_block(text, place),
+        }
+    }
+
+    fn write_part(&self, text: &mut Vec<u8>, part: Part<'a>) -> Result<(), NoMemory> {
+        match part {
+            Part::Path(term, positive) => write_path(text, term, positive),
+            Part::Mu(term, positive) => write_mu(text, term, positive),
+            Part::Pdl(term, positive) => write_pdl(text, term, positive),
+            Part::State(place, positive) => {
+                self.kept
+                    .blocks
+                    .write_item(text, Item::now(place, positive), true)
+            }
+        }
+    }
+
+    // what a formula by U, R or W says beside its right operand: its left operand, and or else itself at the next moment
+    fn write_rest(&self, text: &mut Vec<u8>, part: Part<'a>) -> Result<(), NoMemory> {
+        if let Part::Path(ml_ctl::Term::Paired(pairing, left, _), positive) = part {
+            let is_all = matches!(pairing, Pairing::Until | Pairing::Weak) == positive;
+            write_word(text, b"(")?;
+            write_path(text, left, positive)?;
+            write_word(text, if is_all { b" & " } else { b" | " })?;
+            write_word(text, b"X ")?;
+            self.write_part(text, part)?;
+            return write_word(text, b")");
+        }
+        self.write_part(text, part)
     }
 
     // a node of which it isn't known what it says
@@ -335,49 +552,6 @@ impl<'g, 'a> Nodes<'g, 'a> {
                 write_word(text, b"node ")?;
                 write_number(text, u64::from(node))
             }
-        }
-    }
-}
-
-fn write_part(text: &mut Vec<u8>, part: Part<'_>) -> Result<(), NoMemory> {
-    match part {
-        Part::Path(term, positive) => write_path(text, term, positive),
-        Part::Mu(term, positive) => write_mu(text, term, positive),
-        Part::Pdl(term, positive) => write_pdl(text, term, positive),
-    }
-}
-
-// what a formula by U, R or W says beside its right operand: its left operand, and or else itself at the next moment
-fn write_rest(text: &mut Vec<u8>, part: Part<'_>) -> Result<(), NoMemory> {
-    if let Part::Path(ml_ctl::Term::Paired(pairing, left, _), positive) = part {
-        let is_all = matches!(pairing, Pairing::Until | Pairing::Weak) == positive;
-        write_word(text, b"(")?;
-        write_path(text, left, positive)?;
-        write_word(text, if is_all { b" & " } else { b" | " })?;
-        write_word(text, b"X ")?;
-        write_part(text, part)?;
-        return write_word(text, b")");
-    }
-    write_part(text, part)
-}
-
-fn write_saying(text: &mut Vec<u8>, saying: Saying<'_>) -> Result<(), NoMemory> {
-    match saying {
-        Saying::Whole(part) | Saying::Now(part) => write_part(text, part),
-        Saying::Going => write_word(text, b"X tt"),
-        // its runs are written before it
-        Saying::Run(_, _, _) => Ok(()),
-        Saying::Later(part) => {
-            write_word(text, b"X ")?;
-            write_part(text, part)
-        }
-        Saying::Rest(part) => write_rest(text, part),
-        Saying::Both(left, right) => {
-            write_word(text, b"(")?;
-            write_part(text, left)?;
-            write_word(text, b" & ")?;
-            write_part(text, right)?;
-            write_word(text, b")")
         }
     }
 }

@@ -124,8 +124,11 @@ impl<'a> Part<'a> {
         page.end_line()
     }
 
-    // the moments that come again for ever
+    // the moments that come again for ever, if there are some
     fn show_loop(self, page: &mut Page, back: usize) -> Result<(), NoMemory> {
+        if self.first.saturating_add(self.states.len()) <= back {
+            return Ok(());
+        }
         page.put(b"again")?;
         page.pad_to(self.column)?;
         for (i, _) in self.states.iter().enumerate() {

@@ -1,0 +1,4 @@
+-- What only private contracts and proofs cite: a reader of the public call needs none of it.
+
+-- the lines of the body of an undecided document
+pub mod CauseLines
