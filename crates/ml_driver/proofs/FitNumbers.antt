@@ -174,18 +174,18 @@ table_fits = (
                     (
                       tt,
                       (
-                        λ e. tt,
+                        tt,
                         (
-                          tt,
+                          λ e. tt,
                           (
-                            λ n small. tt,
+                            tt,
                             (
                               λ n small. tt,
                               (
                                 λ n small. tt,
                                 (
                                   λ n small. tt,
-                                  (tt, (λ f n inside. tt, (λ f n inside. inside, tt))),
+                                  (λ n small. tt, (tt, (λ f n inside. tt, (λ f n inside. inside, tt)))),
                                 ),
                               ),
                             ),
