@@ -5,7 +5,7 @@ use ml_driver::run;
 use ml_lines::split_line;
 use std::alloc::Global;
 
-const ROOM: u64 = 1_000_000;
+const ROOM: u64 = 10_000_000;
 
 /// What the program answered: its status and its output.
 #[derive(Drop)]
