@@ -80,8 +80,8 @@ pub fn paths_beside_checking()
 {}
 
 /// The text of a formula has at most 1,048,576 bytes, that of a task 2,097,152, a document at most 2^63 - 1, and one that is
-/// shown 134,217,728. A game may have 50,000 positions, and a deterministic automaton as many states, where the words don't say,
-/// and 200,000 at most; a number has at most six digits. The word automaton of a task is too large with more than 4,096 nodes,
+/// shown 134,217,728. A game may have 50,000 positions, and a deterministic automaton as many states, where the words don't
+/// say, and 200,000 at most; a number has at most six digits. The word automaton of a task is too large with more than 4,096 nodes,
 /// one for `automaton`, `path` and `check-machine` with more than 65,536.
 pub fn limits()
     ensures text { LONGEST_TEXT ≡ 1048576 }

@@ -13,8 +13,9 @@
 // `specs/Translations.antt`, what `path` answers in `specs/Paths.antt`, what `check-machine` answers in
 // `specs/CheckedMachines.antt`, what `realize` and `make` answer in `specs/Tasks.antt`, what `ask` answers in
 // `specs/Asked.antt`, and which texts `show` shows in `ml_show_text`. Which documents in outputs are confirmed stands in
-// `specs/Confirmed.antt`. `Status::code` is the number with which the program ends. `laws` says that some status is due for all words and each input, and one alone but for
-// `find`, `prove`, `make` and `ask`; that answers are exact; and that what is written is found to be right.
+// `specs/Confirmed.antt`. `Status::code` is the number with which the program ends. `laws` says that some status is due for all
+// words and each input, and one alone but for `find`, `prove`, `make` and `ask`; that answers are exact; and that what is
+// written is found to be right.
 //
 // Below stand all crates that it calls; above stand only the program `mlsolver` and its messages.
 #![tactic(auto)]

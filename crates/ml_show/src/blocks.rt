@@ -1,7 +1,7 @@
 // What the nodes of blocks ask of a path, in CTL* and LTL.
 //
-// As the definition of the graph has it (`ml_blocks`), a block asks for items: formulas that are to hold, or not to hold, now or
-// at the next state. Its first item that doesn't wait is decomposed, and what comes of it is asked for by the nodes to which
+// As the definition of the graph has it (`ml_blocks`), a block asks for items: formulas that are to hold, or not to hold, now
+// or at the next state. Its first item that doesn't wait is decomposed, and what comes of it is asked for by the nodes to which
 // the block leads. Which number a node has is said by the graph alone.
 use crate::formulas::write_path;
 use ml_base::NoMemory;

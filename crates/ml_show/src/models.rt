@@ -11,8 +11,8 @@ use ml_front::Problem;
 use ml_kripke::Model;
 use std::alloc::Global;
 
-/// What the document of a satisfiable problem says. A word, that is a structure in which exactly one edge leads from each state,
-/// by `_`, becomes a table: a row for each proposition and a column for each moment, up to the last one before a state comes
+/// What the document of a satisfiable problem says. A word, that is a structure in which exactly one edge leads from each
+/// state, by `_`, becomes a table: a row for each proposition and a column for each moment, up to the last one before a state comes
 /// again. Another structure is written state by state, with its propositions and with the states to which its edges lead.
 ///
 /// # Errors

@@ -428,8 +428,8 @@ impl<'n, 'g, 'a, 'r> Argument<'n, 'g, 'a, 'r> {
 /// What the document of an unsatisfiable problem says: why no state can meet it. Each entry is a step, which tells what can't
 /// hold together at one state, by cases, each of which ends in a contradiction or at another step.
 ///
-/// Each node is told by the formula that it stands for, and in LTL by the formulas that a path is to have. Where steps lead back,
-/// it is said what is put off.
+/// Each node is told by the formula that it stands for, and in LTL by the formulas that a path is to have. Where steps lead
+/// back, it is said what is put off.
 ///
 /// # Errors
 /// `NoMemory` alone.

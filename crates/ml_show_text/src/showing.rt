@@ -80,10 +80,10 @@ fn show_outcome(alloc: Global, text: &[u8]) -> Result<Vec<u8>, DocRefusal>
 /// # Errors
 /// `Fault` exactly where the text is no document, with the first bad line, counted from 1, and the lowest rule that it breaks.
 /// Where the first line is `mlsolver realize 1`, these are those of `ml_realize_text::read`; and else, by the answer that the
-/// second line tells, those of `ml_model_check::read_document`, those of `ml_refute_check::check`, or for `undecided` 1 and 2 of
-/// the head, as `ml_front::read_head` says, and of the body 11 where a line is missing or not of the kind that stands there, or
-/// bytes follow `end`, and 12 where the number isn't spelt as numbers are or doesn't fit 32 bits. Where the second line tells no
-/// answer, the first bad line is the same for each. `NoMemory`.
+/// second line tells, those of `ml_model_check::read_document`, those of `ml_refute_check::check`, or for `undecided` 1 and 2
+/// of the head, as `ml_front::read_head` says, and of the body 11 where a line is missing or not of the kind that stands
+/// there, or bytes follow `end`, and 12 where the number isn't spelt as numbers are or doesn't fit 32 bits. Where the second
+/// line tells no answer, the first bad line is the same for each. `NoMemory`.
 ///
 /// Cost: linear in the bytes to read them, and then that of the page.
 pub fn show(alloc: Global, text: &[u8]) -> Result<Vec<u8>, DocRefusal>
