@@ -8,8 +8,7 @@
 --   made_fits        == an answer of which a line tells may stand there, and the line is its line
 --   some_made        == there is one
 --   some_parts_of    == marks make some parts
-use Rattle.std.proofs.Common.{◌≡◌, ◌≢◌, ℕ, ◌+◌, ◌⊎◌, Bool, true, false, not, List, [], ◌∷◌, ◌++◌, codes, length, map, inl, inr, refl, sym, ap, subst, ◌∙◌, arith}
-use Rattle.std.specs.Prelude.{⊤}
+use Rattle.std.proofs.Common.{◌≡◌, ◌≢◌, ℕ, ◌+◌, Bool, true, not, List, [], ◌∷◌, ◌++◌, codes, length, map, inl, inr, refl, sym, ap, subst, ◌∙◌}
 use Rattle.std.specs.List.{list_any}
 use Rattle.std.proofs.lemmas.List.{append_cancel_left}
 use Rattle.ml_base.specs.Structure.{Structure}
@@ -24,7 +23,7 @@ use Rattle.ml_answers.specs.Due.{is_of_conflict, Fits, FitsCore}
 use Rattle.ml_answers.specs.Lines.{because_words, line_of, perhaps_words, question_words, wants_structure, yes_or_no}
 use Rattle.ml_answers.specs.RuleNumbers.{rule_number}
 use Rattle.ml_answers.specs.Rules.{answer_rules, replied, HasNames, IsAnswer, IsAnswerLine}
-use Rattle.ml_answers.specs.private.Marks.{is_named, is_needed, is_unsettled, names_by, or_dash, perhaps, MarkedBy}
+use Rattle.ml_answers.specs.private.Marks.{is_named, MarkedBy}
 use Rattle.ml_answers.specs.private.Reads.{AreAnswerWords, ArePartsOf, IsAnswerOf, IsMadeOf, IsTold}
 use Rattle.ml_answers.specs.private.Words.{words_left}
 use Rattle.ml_answers.specs.declared.line.AnswerWords.{AnswerWords}

@@ -11,7 +11,7 @@ use Rattle.std.specs.List.{AllByRecursion}
 use Rattle.std.proofs.lemmas.List.{drop_at, take_at}
 use Rattle.ml_front.specs.declared.logic.Logic.{Logic}
 use Rattle.ml_lines.specs.Lines.{line_text}
-use Rattle.ml_spec.proofs.Readings as readings
+use Rattle.ml_spec.proofs.SpecifiedItems as items
 use Rattle.ml_spec.specs.Joined.{requirements}
 use Rattle.ml_spec.specs.Questions.{asking, is_in, IsQuestion}
 use Rattle.ml_spec.specs.Specification.{IsSpecified}
@@ -283,15 +283,19 @@ module _ (text : List ℕ) (l : Logic) (xs : List Item) (rs : List Replied) (n :
         let both = is.is_document.is_second in
         record {
           replies = map (cleaned xs) rs;
-          texts = made.texts;
-          are_all = (on.last, on.leads, on.is_over);
-          are_texts = made.are_texts;
-          is_text =
-              document_is
-              ∙ ap (λ t. line_text title_line ++ t)
-              (both.are_both
-              ∙ ap (λ t. t ++ both.second) made.is_one
-              ∙ ap (λ t. one_text made.texts ++ t) both.is_second);
+          lines = lines_from (1 + line_count is.spec + 1) made.texts;
+          are_answers = record {
+            texts = made.texts;
+            are_all = (on.last, on.leads, on.is_over);
+            are_texts = made.are_texts;
+            is_text =
+                document_is
+                ∙ ap (λ t. line_text title_line ++ t)
+                (both.are_both
+                ∙ ap (λ t. t ++ both.second) made.is_one
+                ∙ ap (λ t. one_text made.texts ++ t) both.is_second);
+            are_lines = refl;
+          };
           is_verdict = verdict;
         }
 
@@ -322,7 +326,7 @@ module _ (text : List ℕ) (l : Logic) (xs : List Item) (rs : List Replied) (n :
           (
             line,
             found_open line (
-              none_wrong l xs n (readings.specified is.spec l xs is.is_specification) (placed_from made.texts) answered,
+              none_wrong l xs n (items.specified is.spec l xs is.is_specification) (placed_from made.texts) answered,
               first,
             ),
           ),

@@ -1,15 +1,14 @@
 -- What is asked of the lines of answers is decided.
 --
---   decided_front  == whether a line begins with these words
 --   decided_kind   == whether it is of the kind that stands there
 --   decided_marks  == whether marks name items by the words behind `because`
-use Rattle.std.proofs.Common.{◌≡◌, ℕ, Bool, true, false, not, List, [], ◌∷◌, ◌++◌, Option, None, Some, codes, inl, inr, refl, sym, ap, subst, ◌∙◌}
+use Rattle.std.proofs.Common.{◌≡◌, ℕ, Bool, true, false, not, List, [], ◌∷◌, ◌++◌, Option, None, Some, codes, inl, inr, refl, sym, subst, ◌∙◌}
 use Rattle.std.proofs.lemmas.Bool.{false≢true}
 use Rattle.std.proofs.lemmas.List.{append_cancel_left}
 use Rattle.ml_lines.specs.Lines.{Line, Word}
 use Rattle.ml_lines.specs.Reading.{AreWords}
-use Rattle.ml_lines.proofs.DecidedWords.{decided_line, decided_words}
-use Rattle.ml_lists.proofs.Decided.{Decided, decided_bytes, decided_either, decided_same}
+use Rattle.ml_lines.proofs.DecidedWords.{decided_front, decided_line, decided_words}
+use Rattle.ml_lists.proofs.Decided.{Decided, decided_either, decided_same}
 use Rattle.ml_spec.specs.declared.question.Question.{Question}
 use Rattle.ml_spec.specs.declared.specification.Item.{Item}
 use Rattle.ml_answers.specs.Lines.{question_words, wants_structure, yes_or_no}
@@ -20,21 +19,6 @@ use Rattle.ml_answers.proofs.Marking.{AreNamed, Differ}
 use Rattle.ml_answers.proofs.Splitting.{found_marked, marks_read, no_marks}
 
 -- ---- kinds
-
-pub decided_front : (ws line : Line) → Decided ((rest : Line) × (line ≡ ws ++ rest))
-decided_front [] line = inl (line, refl)
-decided_front (w ∷ ws) [] = inr (λ (rest, e). none rest e)
-  where
-    none : (rest : Line) → [] ≡ w ∷ (ws ++ rest) → ⊥
-    none rest e = cc
-decided_front (w ∷ ws) (l ∷ line) = by (decided_bytes l w) (decided_front ws line)
-  where
-    by : Decided (l ≡ w)
-        → Decided ((rest : Line) × (line ≡ ws ++ rest))
-        → Decided ((rest : Line) × (l ∷ line ≡ w ∷ (ws ++ rest)))
-    by (inr other) behind = inr (λ (rest, e). let same : l ≡ w = cc in other same)
-    by (inl same) (inr none) = inr (λ (rest, e). let later : line ≡ ws ++ rest = cc in none (rest, later))
-    by (inl same) (inl (rest, e)) = inl (rest, ap (λ v. v ∷ line) same ∙ ap (λ vs. w ∷ vs) e)
 
 decided_answer : (wants : Bool) (answer : Line) → Decided (IsAnswer wants answer)
 decided_answer wants answer =

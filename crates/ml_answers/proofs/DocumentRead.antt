@@ -42,7 +42,7 @@ use Rattle.ml_answers.specs.declared.line.ToldLine.{ToldLine}
 use Rattle.ml_answers.specs.declared.rest.Rest as declared
 use Rattle.ml_answers.specs.declared.rule.AnswersRule.TheVariants.{OfKind}
 use Rattle.ml_answers.specs.declared.stated.Stated.{Stated}
-use Rattle.ml_answers.specs.private.Plain.{replied_of, replies_of}
+use Rattle.ml_answers.specs.Stated.{replied_of, replies_of}
 use Rattle.ml_answers.specs.private.Reads.{AreRead, AreReadBehind, HasRoom, IsConflict, IsFaultBehind, IsMadeOf, IsNext, IsReadTo, IsReadUpTo, IsTold, Takes, TellsFault}
 use Rattle.ml_answers.specs.private.Words.{Agrees}
 use Rattle.ml_answers.proofs.AnswerTexts.{blocks_of, lines_more, one_text_more, texts_more}

@@ -3,19 +3,18 @@
 --   found_there    == where a line is found, it stands
 --   title_there    == so a document begins with its title
 --   both_fit       == two parts of a text fit where the text does
---   checked_found  == what comes of the answers of a document is found
+--   checked_found  == what comes of the answers that are read is found
 --   fault_found    == so is a fault of the document
 --   none_found     == that there is no document is found
 --   found_from     == what is found of both parts is found of the text
-use Rattle.std.proofs.Common.{◌≡◌, ℕ, ◌+◌, ◌-◌, ◌<◌, ◌≤◌, ◌||◌, Bool, true, false, cond, List, [], ◌∷◌, ◌++◌, Option, None, Some, codes, length, take, drop, refl, sym, ap, subst, ◌∙◌, arith}
-use Rattle.std.specs.List.{list_any}
+--   refused_from   == so is why nothing is read
+use Rattle.std.proofs.Common.{◌≡◌, ℕ, ◌+◌, ◌-◌, ◌<◌, ◌≤◌, Bool, true, false, cond, List, [], ◌∷◌, ◌++◌, None, Some, codes, length, take, drop, refl, sym, ap, subst, ◌∙◌, arith}
 use Rattle.std.specs.Str.{bytes_eq}
 use Rattle.std.proofs.lemmas.Bool.Decides.{nat_tests}
 use Rattle.std.proofs.lemmas.List.{append_assoc, drop-drop, drop_at, length-append, length-drop, length-take}
 use Rattle.std.proofs.lemmas.Option.{none-some}
 use Rattle.std.proofs.lemmas.Slice.Eq.{bytes_eq-Decides}
 use Rattle.ml_base.specs.declared.doc_fault.DocFault.{DocFault}
-use Rattle.ml_base.specs.declared.doc_refusal.DocRefusal.{DocRefusal}
 use Rattle.ml_base.specs.declared.doc_refusal.DocRefusal.TheVariants as refusal
 use Rattle.ml_front.specs.declared.logic.Logic.{Logic}
 use Rattle.ml_lines.specs.Lines.{line_text}
@@ -25,17 +24,17 @@ use Rattle.ml_spec.specs.Places.{column_at, line_at}
 use Rattle.ml_spec.specs.Specification.{IsSpecification}
 use Rattle.ml_spec.specs.declared.specification.Item.{Item}
 use Rattle.ml_replies.specs.Meeting.{everything}
-use Rattle.ml_answers.specs.Checked.{lines_from, longest_specification, placed, IsCheckedAs, IsFound, IsFoundFrom, IsFoundIn, IsVerdict}
+use Rattle.ml_replies.specs.Replies.{Replied}
+use Rattle.ml_answers.specs.Checked.{finding_of, longest_specification, placed, IsCheckedAs, IsFound, IsFoundFrom, IsFoundIn, IsReadAs, IsRefusedAs, IsVerdict}
 use Rattle.ml_answers.specs.Documents.{title_line}
 use Rattle.ml_answers.specs.Rules.{IsAnswersFault}
 use Rattle.ml_answers.specs.Texts.{first_line, line_count, line_from, IsLine, IsThen}
 use Rattle.ml_answers.specs.declared.finding.AnswersFinding.{AnswersFinding}
 use Rattle.ml_answers.specs.declared.finding.AnswersFinding.TheVariants.{NoDocument, OpenAt, Refused, Right, TooLong, Unreadable, WrongAt}
+use Rattle.ml_answers.specs.declared.answered.AnswersRefusal.{AnswersRefusal}
+use Rattle.ml_answers.specs.declared.answered.AnswersRefusal.TheVariants as answers_refusal
 use Rattle.ml_answers.specs.declared.rest.Rest.{Rest}
-use Rattle.ml_answers.specs.declared.stated.Stated.{Stated}
-use Rattle.ml_answers.specs.private.Plain as plain
-use Rattle.ml_answers.specs.private.Plain.{replies_of}
-use Rattle.ml_answers.specs.private.Reads.{AreReadBehind, TellsFault}
+use Rattle.ml_answers.specs.private.Reads.{IsRefusedIn, TellsFault}
 
 -- ---- the line that is found
 
@@ -123,39 +122,28 @@ both_fit text at n within fits =
 
 -- ---- what is found
 
-pub checked_found : (spec : List ℕ) (l : Logic) (xs : List Item) (at : Rest) (stated : List Stated) (x : AnswersFinding)
-    → length spec ≤ longest_specification
-    → IsSpecification spec l xs
-    → at.line ≡ 1 + line_count spec
-    → AreReadBehind xs at stated
-    → IsVerdict l xs (placed everything (replies_of stated) (plain.lines_of stated)) x
-    → IsFoundIn spec at.text.now x
-checked_found spec l xs at stated x short is line read verdict = by x verdict
+pub checked_found : (text : List ℕ) (l : Logic) (xs : List Item) (rs : List Replied) (ks : List ℕ) (x : AnswersFinding)
+    → IsReadAs text l xs rs ks
+    → IsVerdict l xs (placed everything rs ks) x
+    → IsFound text x
+checked_found text l xs rs ks x read verdict =
+    subst (λ o. IsFoundFrom o text x) (sym read.begins) (by x (record {
+      replies = rs;
+      lines = ks;
+      are_answers = read.is_read.are_answers;
+      is_verdict = verdict;
+    }))
   where
-    checked : (x : AnswersFinding)
-        → IsVerdict l xs (placed everything (replies_of stated) (plain.lines_of stated)) x
-        → IsCheckedAs l xs (1 + line_count spec) at.text.now x
-    checked x verdict = record {
-      replies = replies_of stated;
-      texts = read.texts;
-      are_all = read.are_all;
-      are_texts = read.are_texts;
-      is_text = read.is_text;
-      is_verdict =
-          subst (λ ks. IsVerdict l xs (placed everything (replies_of stated) ks) x)
-          (read.are_lines ∙ ap (λ k. lines_from (k + 1) read.texts) line) verdict;
-    }
-
     by : (x : AnswersFinding)
-        → IsVerdict l xs (placed everything (replies_of stated) (plain.lines_of stated)) x
-        → IsFoundIn spec at.text.now x
-    by Right verdict = (short, (l, xs, is, checked Right verdict))
-    by (OpenAt k) verdict = (short, (l, xs, is, checked (OpenAt k) verdict))
-    by (WrongAt k) verdict = (short, (l, xs, is, checked (WrongAt k) verdict))
-    by TooLong verdict = absurd verdict
-    by (NoDocument k c) verdict = absurd verdict
-    by (Refused k c r) verdict = absurd verdict
-    by (Unreadable f) verdict = absurd verdict
+        → IsCheckedAs l xs (1 + line_count (take read.at text)) (drop read.at text) x
+        → IsFoundIn (take read.at text) (drop read.at text) x
+    by Right checked = (read.is_read.is_short, (l, xs, read.is_read.is_specification, checked))
+    by (OpenAt k) checked = (read.is_read.is_short, (l, xs, read.is_read.is_specification, checked))
+    by (WrongAt k) checked = (read.is_read.is_short, (l, xs, read.is_read.is_specification, checked))
+    by TooLong checked = absurd checked.is_verdict
+    by (NoDocument k c) checked = absurd checked.is_verdict
+    by (Refused k c r) checked = absurd checked.is_verdict
+    by (Unreadable f) checked = absurd checked.is_verdict
 
 pub fault_found : (spec : List ℕ) (l : Logic) (xs : List Item) (at : Rest) (fault : DocFault)
     → length spec ≤ longest_specification
@@ -179,3 +167,10 @@ pub found_from : (text : List ℕ) (at : ℕ) (x : AnswersFinding)
     → IsFoundIn (take at text) (drop at text) x
     → IsFoundFrom (first_line (codes "mlsolver answers 1") text) text x
 found_from text at x e found = subst (λ o. IsFoundFrom o text x) (sym e) found
+
+pub refused_from : (text : List ℕ) (at : ℕ) (e : AnswersRefusal)
+    → first_line (codes "mlsolver answers 1") text ≡ Some at
+    → IsRefusedIn (take at text) (drop at text) e
+    → IsRefusedAs text e
+refused_from text at answers_refusal.NoMemory there tells = tt
+refused_from text at (answers_refusal.Fault fault) there tells = found_from text at (finding_of fault) there tells

@@ -18,7 +18,7 @@ use Rattle.ml_answers.specs.Due as due
 use Rattle.ml_answers.specs.Due.{asked_of, begun, due_behind, with_consistency, AreAll, Due, Fits, LeadTo, MayStandFirst}
 use Rattle.ml_answers.specs.declared.stated.Stated.{Stated}
 use Rattle.ml_answers.specs.private.Judged.{FitsItems, IsJudgable}
-use Rattle.ml_answers.specs.private.Plain.{replies_of}
+use Rattle.ml_answers.specs.Stated.{replies_of}
 
 pub begun_are : (xs : List Item) → AllByRecursion (IsQuestion xs) (begun xs).questions
 begun_are xs = go (requirements xs)

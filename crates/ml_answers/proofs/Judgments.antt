@@ -14,7 +14,6 @@ use Rattle.ml_spec.specs.declared.specification.Item.{Item}
 use Rattle.ml_replies.specs.Answers.{reply_of}
 use Rattle.ml_replies.specs.Meeting.{everything, without}
 use Rattle.ml_replies.specs.Replies.{Part}
-use Rattle.ml_answers.specs.Checked as checked
 use Rattle.ml_answers.specs.Checked.{placed, AreShown, IsFirst, IsShownAt, IsShownWithout, IsVerdict, IsWrongAt, IsWrongWithout, Placed, SomeWrong}
 use Rattle.ml_answers.specs.Due.{asked_of, rest_behind}
 use Rattle.ml_answers.specs.declared.finding.AnswersFinding.TheVariants.{OpenAt, Right, WrongAt}
@@ -22,8 +21,7 @@ use Rattle.ml_answers.specs.declared.judging.Standing.{Standing}
 use Rattle.ml_answers.specs.declared.judging.Standing.TheVariants.{Shown, Unsettled, Wrong}
 use Rattle.ml_answers.specs.declared.stated.Stated.{Stated}
 use Rattle.ml_answers.specs.private.Judged.{worse, AreShownTo, ComesTo, IsJudgedTo}
-use Rattle.ml_answers.specs.private.Plain as plain
-use Rattle.ml_answers.specs.private.Plain.{replies_of}
+use Rattle.ml_answers.specs.Stated.{lines_of, replies_of}
 use Rattle.ml_answers.specs.private.Words.{Agrees}
 use Rattle.ml_answers.proofs.SameSets.{comes_same}
 
@@ -126,8 +124,8 @@ pub record AreJudgedTo (l : Logic) (xs : List Item) (stated : List Stated) (n : 
   pub front : List Placed
   pub left : ℕ → Bool
   pub agrees : Agrees xs left among
-  pub are_all : placed everything (replies_of stated) (plain.lines_of stated)
-      ≡ front ++ placed left (replies_of (drop n stated)) (plain.lines_of (drop n stated))
+  pub are_all : placed everything (replies_of stated) (lines_of stated)
+      ≡ front ++ placed left (replies_of (drop n stated)) (lines_of (drop n stated))
   pub are_judged : IsJudgedTo l xs front first
   pub told : length among ≡ length xs
 
@@ -181,12 +179,12 @@ module _ (l : Logic) (xs : List Item) (stated : List Stated) (n : ℕ) (among la
   abbrev pub behind : List Placed
   behind =
       placed (rest_behind is.left a.question (reply_of a.statement)) (replies_of (drop (n + 1) stated))
-      (plain.lines_of (drop (n + 1) stated))
+      (lines_of (drop (n + 1) stated))
 
-  all_here : placed everything (replies_of stated) (plain.lines_of stated) ≡ is.front ++ here ∷ behind
+  all_here : placed everything (replies_of stated) (lines_of stated) ≡ is.front ++ here ∷ behind
   all_here =
       is.are_all
-      ∙ ap (λ zs. is.front ++ placed is.left (replies_of zs) (plain.lines_of zs)) is_next
+      ∙ ap (λ zs. is.front ++ placed is.left (replies_of zs) (lines_of zs)) is_next
 
   with_judged : (now : Option ℕ) → IsJudgedTo l xs (is.front ++ here ∷ []) now → AreJudgedTo l xs stated (n + 1) later now
   with_judged now judged = record {
@@ -240,7 +238,7 @@ module _ (l : Logic) (xs : List Item) (stated : List Stated) (n : ℕ) (among la
           })
 
   pub wrong_at : IsWrongAt l xs here
-      → IsVerdict l xs (placed everything (replies_of stated) (plain.lines_of stated)) (WrongAt a.line)
+      → IsVerdict l xs (placed everything (replies_of stated) (lines_of stated)) (WrongAt a.line)
   wrong_at wrong =
       subst (λ ps. IsVerdict l xs ps (WrongAt a.line)) (sym all_here)
       (record {
@@ -255,21 +253,21 @@ module _ (l : Logic) (xs : List Item) (stated : List Stated) (n : ℕ) (among la
 
 module _ (l : Logic) (xs : List Item) (stated : List Stated) (n : ℕ) (among : List Bool) (first : Option ℕ)
     (is : AreJudgedTo l xs stated n among first) (past : length stated ≤ n) where
-  whole : placed everything (replies_of stated) (plain.lines_of stated) ≡ is.front
+  whole : placed everything (replies_of stated) (lines_of stated) ≡ is.front
   whole =
       is.are_all
-      ∙ ap (λ zs. is.front ++ placed is.left (replies_of zs) (plain.lines_of zs)) (drop_all n stated past)
+      ∙ ap (λ zs. is.front ++ placed is.left (replies_of zs) (lines_of zs)) (drop_all n stated past)
       ∙ append-nil is.front
 
   pub right_at : first ≡ None
-      → IsVerdict l xs (placed everything (replies_of stated) (plain.lines_of stated)) Right
+      → IsVerdict l xs (placed everything (replies_of stated) (lines_of stated)) Right
   right_at none =
       subst (λ ps. IsVerdict l xs ps Right) (sym whole)
       (subst (AreShownTo l xs is.front) none is.are_judged.1)
 
   pub open_at : (line : ℕ)
       → first ≡ Some line
-      → IsVerdict l xs (placed everything (replies_of stated) (plain.lines_of stated)) (OpenAt line)
+      → IsVerdict l xs (placed everything (replies_of stated) (lines_of stated)) (OpenAt line)
   open_at line some =
       subst (λ ps. IsVerdict l xs ps (OpenAt line)) (sym whole)
       (is.are_judged.0, subst (AreShownTo l xs is.front) some is.are_judged.1)

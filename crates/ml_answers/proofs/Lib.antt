@@ -74,6 +74,8 @@ pub mod SomeStanding
 pub mod SomeVerdict
 -- of each text something is found
 pub mod SomeFinding
+-- a text is read, or refused
+pub mod OneReading
 -- the first line that is a title stands behind the specification
 pub mod TitleFirst
 -- sets that agree on the requirements among the items

@@ -4,7 +4,7 @@
 --   never_refuted   == a refutation
 --   never_parts     == the parts of a core
 --   never_both      == an answer
-use Rattle.std.proofs.Common.{◌≡◌, ℕ, ◌⊎◌, Bool, List, [], ◌∷◌, inl, inr}
+use Rattle.std.proofs.Common.{ℕ, Bool, List, [], ◌∷◌, inl, inr}
 use Rattle.ml_base.specs.Structure.{Structure}
 use Rattle.ml_front.proofs.Graphs.{graphs_alike}
 use Rattle.ml_front.specs.declared.logic.Logic.{Logic}

@@ -10,7 +10,7 @@ use Rattle.ml_base.specs.declared.doc_fault.DocFault.{DocFault}
 use Rattle.ml_front.specs.declared.logic.Logic.{Logic}
 use Rattle.ml_lines.specs.Lines.{line_text}
 use Rattle.ml_spec.proofs.OneAnswer.{never_both, one_refusal, one_specification}
-use Rattle.ml_spec.proofs.Readings.{specified}
+use Rattle.ml_spec.proofs.SpecifiedItems.{specified}
 use Rattle.ml_spec.specs.Faults.{IsRefused}
 use Rattle.ml_spec.specs.Specification.{IsSpecification, IsSpecified}
 use Rattle.ml_spec.specs.declared.rule.SpecRule.{SpecRule}
@@ -39,23 +39,28 @@ module _ (l : Logic) (xs : List Item) (is : IsSpecified l xs) where
   -- ---- what comes of answers
 
   checked_reading : (k : ℕ) (text : List ℕ) (x : AnswersFinding) (c : IsCheckedAs l xs k text x)
-      → Reading xs is.are_named differ text c.replies c.texts c.are_all.0 (line_text last_line)
-  checked_reading k text x c = record {
-    is_text = c.is_text;
-    run = record { lead = c.are_all.1; are_texts = c.are_texts; ends = inl (c.are_all.2, refl) };
-  }
+      → Reading xs is.are_named differ text c.replies c.are_answers.texts c.are_answers.are_all.0 (line_text last_line)
+  checked_reading k text x c =
+      let a = c.are_answers in
+      record {
+        is_text = a.is_text;
+        run = record { lead = a.are_all.1; are_texts = a.are_texts; ends = inl (a.are_all.2, refl) };
+      }
 
   one_checked : (k : ℕ) (text : List ℕ) (x y : AnswersFinding) → IsCheckedAs l xs k text x → IsCheckedAs l xs k text y → x ≡ y
   one_checked k text x y c d =
+      let a = c.are_answers in
+      let b = d.are_answers in
       let same =
-      readings_same xs is.are_named differ text c.replies d.replies c.texts d.texts c.are_all.0 d.are_all.0
+      readings_same xs is.are_named differ text c.replies d.replies a.texts b.texts a.are_all.0 b.are_all.0
       (line_text last_line) (line_text last_line) (checked_reading k text x c) (checked_reading k text y d) in
-      one_verdict l xs is (placed everything c.replies (lines_from (k + 1) c.texts))
-      (placed_asked xs everything c.replies (lines_from (k + 1) c.texts)
-      (lead_judgable xs (begun xs) c.are_all.0 c.replies c.are_all.1 (begun_are xs)))
+      let lines : d.lines ≡ c.lines = b.are_lines ∙ ap (lines_from (k + 1)) (sym same.0.1) ∙ sym a.are_lines in
+      one_verdict l xs is (placed everything c.replies c.lines)
+      (placed_asked xs everything c.replies c.lines
+      (lead_judgable xs (begun xs) a.are_all.0 c.replies a.are_all.1 (begun_are xs)))
       x y c.is_verdict
-      (subst (λ rs. IsVerdict l xs (placed everything rs (lines_from (k + 1) c.texts)) y) (sym same.0.0)
-      (subst (λ ts. IsVerdict l xs (placed everything d.replies (lines_from (k + 1) ts)) y) (sym same.0.1) d.is_verdict))
+      (subst (λ rs. IsVerdict l xs (placed everything rs c.lines) y) (sym same.0.0)
+      (subst (λ ks. IsVerdict l xs (placed everything d.replies ks) y) lines d.is_verdict))
 
   -- ---- faults
 
@@ -115,12 +120,13 @@ module _ (l : Logic) (xs : List Item) (is : IsSpecified l xs) where
       → ⊥
   checked_or_bad k text x e c y =
       let b = bad_reading k text e y in
-      let d = c.are_all.0 in
+      let d = c.are_answers.are_all.0 in
       let same =
-      readings_same xs is.are_named differ text c.replies b.replies c.texts b.texts d b.due (line_text last_line) b.rest
+      readings_same xs is.are_named differ text c.replies b.replies c.are_answers.texts b.texts d b.due (line_text last_line)
+      b.rest
       (checked_reading k text x c) b.reading in
       let at = k + line_count (line_text title_line) + line_count (one_text b.texts) in
-      none_due xs is.are_named differ d.rest d.questions at b.rest e c.are_all.2 (sym same.1)
+      none_due xs is.are_named differ d.rest d.questions at b.rest e c.are_answers.are_all.2 (sym same.1)
       (subst (λ z. IsDueFault xs z at b.rest e) (sym same.0.2) b.bad)
 
 -- ---- one text

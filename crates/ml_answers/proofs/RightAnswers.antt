@@ -24,7 +24,6 @@ use Rattle.ml_replies.specs.Replies.{AreBehind, AreConflicts, AreOfAll, AreRepli
 use Rattle.ml_replies.proofs.SomeReplies.{all_asked}
 use Rattle.ml_answers.specs.Checked.{placed, AreShown, IsRefuted, IsShownAt, IsShownBy, IsShownWithout}
 use Rattle.ml_answers.specs.Documents.{AreBlocks, IsBody}
-use Rattle.ml_answers.specs.Due as due
 use Rattle.ml_answers.specs.Due.{asked_of, begun, due_behind, is_of_conflict, is_required, rest_behind, with_consistency, Due, Fits, LeadTo}
 
 -- the refutations of a document are such

@@ -2,7 +2,7 @@
 --
 --   are_sound     == what a refutation that is accepted refutes can't be met
 --   right_is_true == where `Right` is found, the answers are those of the specification
-use Rattle.std.proofs.Common.{◌≡◌, ℕ, ◌+◌, ◌≤◌, ◌++◌, List, Option, None, Some, codes, length, take, drop, refl, sym}
+use Rattle.std.proofs.Common.{◌≡◌, ℕ, ◌+◌, ◌≤◌, ◌++◌, List, Option, None, Some, codes, length, take, drop, refl, sym, subst}
 use Rattle.std.proofs.lemmas.List.{take-append-drop}
 use Rattle.ml_front.proofs.Graphs.{meaningful}
 use Rattle.ml_front.specs.declared.logic.Logic.{Logic}
@@ -11,11 +11,11 @@ use Rattle.ml_refute_check.proofs.Refuted.{refuted_is_unsatisfiable}
 use Rattle.ml_spec.specs.Questions.{joined_of}
 use Rattle.ml_spec.specs.Specification.{IsSpecification}
 use Rattle.ml_spec.specs.declared.specification.Item.{Item}
-use Rattle.ml_replies.specs.Meeting.{problem_of, AreWellFormed}
+use Rattle.ml_replies.specs.Meeting.{everything, problem_of, AreWellFormed}
 use Rattle.ml_replies.specs.Replies.{AreReplies, Replied}
 use Rattle.ml_replies.proofs.WellFormedItems.{items_well}
 use Rattle.ml_replies.proofs.WellFormedJoins.{joined_well}
-use Rattle.ml_answers.specs.Checked.{lines_from, longest_specification, IsCheckedAs, IsFoundFrom}
+use Rattle.ml_answers.specs.Checked.{lines_from, longest_specification, placed, IsCheckedAs, IsFoundFrom, IsVerdict}
 use Rattle.ml_answers.specs.Documents.{last_line, title_line}
 use Rattle.ml_answers.specs.Laws.{IsOf, RightIsTrue}
 use Rattle.ml_answers.specs.Texts.{first_line, line_count, one_text}
@@ -35,7 +35,7 @@ module _ (text : List ℕ) (at : ℕ) (there : first_line (codes "mlsolver answe
     (specified : IsSpecification (take at text) l xs)
     (checked : IsCheckedAs l xs (1 + line_count (take at text)) (drop at text) Right) where
   pub whole_is : IsOf text l xs checked.replies
-  whole_is = record {
+  whole_is = let read = checked.are_answers in record {
     spec = take at text;
     document = drop at text;
     are_both = sym (take-append-drop at text);
@@ -44,14 +44,14 @@ module _ (text : List ℕ) (at : ℕ) (there : first_line (codes "mlsolver answe
     is_specification = specified;
     is_document = record {
       first = line_text title_line;
-      second = one_text checked.texts ++ line_text last_line;
-      are_both = checked.is_text;
+      second = one_text read.texts ++ line_text last_line;
+      are_both = read.is_text;
       is_first = refl;
       is_second = record {
-        first = one_text checked.texts;
+        first = one_text read.texts;
         second = line_text last_line;
         are_both = refl;
-        is_first = blocks_of xs checked.replies checked.texts checked.are_texts;
+        is_first = blocks_of xs checked.replies read.texts read.are_texts;
         is_second = refl;
       };
     };
@@ -59,18 +59,18 @@ module _ (text : List ℕ) (at : ℕ) (there : first_line (codes "mlsolver answe
 
   pub replies_are : (n : ℕ) → AreReplies l xs n checked.replies
   replies_are n =
+      let read = checked.are_answers in
       replies_so l xs n
       (are_sound l xs (items_well (take at text) l xs specified))
       checked.replies
-      (lines_from (1 + line_count (take at text) + 1) checked.texts)
-      checked.are_all.0
-      (as_many xs checked.replies checked.texts (1 + line_count (take at text) + 1) checked.are_texts)
-      checked.are_all.1
-      checked.are_all.2
+      (lines_from (1 + line_count (take at text) + 1) read.texts)
+      read.are_all.0
+      (as_many xs checked.replies read.texts (1 + line_count (take at text) + 1) read.are_texts)
+      read.are_all.1
+      read.are_all.2
       (asking_both xs)
-      (blocks_have xs checked.replies (one_text checked.texts)
-      (blocks_of xs checked.replies checked.texts checked.are_texts))
-      checked.is_verdict
+      (blocks_have xs checked.replies (one_text read.texts) (blocks_of xs checked.replies read.texts read.are_texts))
+      (subst (λ ks. IsVerdict l xs (placed everything checked.replies ks) Right) read.are_lines checked.is_verdict)
 
 pub right_is_true : RightIsTrue
 right_is_true text found = by (first_line (codes "mlsolver answers 1") text) refl found

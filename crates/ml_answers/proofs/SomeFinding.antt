@@ -1,6 +1,7 @@
 -- Of each text something is found.
 --
---   read_found    == of a document that is read
+--   verdict_of    == something comes of answers that are read
+--   read_found    == something is found of a document that is read
 --   some_behind   == of a text behind a specification
 --   some_finding  == the law
 use Rattle.std.proofs.Common.{◌≡◌, ℕ, ◌+◌, ◌<◌, ◌≤◌, ◌⊎◌, List, Option, None, Some, codes, drop, length, take, inl, inr, refl, sym, subst}
@@ -12,10 +13,11 @@ use Rattle.ml_spec.specs.Specification.{IsSpecification}
 use Rattle.ml_spec.specs.declared.rule.SpecRule.{SpecRule}
 use Rattle.ml_spec.specs.declared.specification.Item.{Item}
 use Rattle.ml_spec.proofs.OneAnswer.{some_reading}
-use Rattle.ml_spec.proofs.Readings.{specified}
+use Rattle.ml_spec.proofs.SpecifiedItems.{specified}
 use Rattle.ml_replies.specs.Meeting.{everything}
+use Rattle.ml_replies.specs.Replies.{Replied}
 use Rattle.ml_replies.proofs.WellFormedItems.{items_well}
-use Rattle.ml_answers.specs.Checked.{lines_from, longest_specification, placed, IsCheckedAs, IsFoundFrom, IsFoundIn}
+use Rattle.ml_answers.specs.Checked.{lines_from, longest_specification, placed, AreAnswersAt, IsCheckedAs, IsFoundFrom, IsFoundIn, IsVerdict}
 use Rattle.ml_answers.specs.Documents.{title_line}
 use Rattle.ml_answers.specs.Due.{begun}
 use Rattle.ml_answers.specs.Laws.{SomeFinding}
@@ -46,30 +48,37 @@ module _ (spec text : List ℕ) (short : length spec ≤ longest_specification) 
   checked_is (Refused line column rule) so = absurd so.is_verdict
   checked_is (Unreadable fault) so = absurd so.is_verdict
 
-  pub read_found : IsRead xs text → SomeFrom spec text
-  read_found read =
+  pub verdict_of : (rs : List Replied) (ks : List ℕ)
+      → AreAnswersAt xs (1 + line_count spec) text rs ks
+      → (x : AnswersFinding) × IsVerdict l xs (placed everything rs ks) x
+  verdict_of rs ks read =
       let items = specified spec l xs is in
       let well = items_well spec l xs is in
+      let judgable = lead_judgable xs (begun xs) read.are_all.0 rs read.are_all.1 (begun_are xs) in
+      some_verdict l xs items well (placed everything rs ks)
+      (all_decided l xs items well everything rs ks read.texts read.are_texts judgable)
+
+  pub read_found : IsRead xs text → SomeFrom spec text
+  read_found read =
       let ks = lines_from (1 + line_count spec + 1) read.texts in
-      let judgable = lead_judgable xs (begun xs) read.are_all.0 read.replies read.are_all.1 (begun_are xs) in
-      let all = all_decided l xs items well everything read.replies ks read.texts read.are_texts judgable in
-      let found = some_verdict l xs items well (placed everything read.replies ks) all in
-      checked_is found.0
-      (record {
-        replies = read.replies;
+      let answers : AreAnswersAt xs (1 + line_count spec) text read.replies ks =
+      record {
         texts = read.texts;
         are_all = read.are_all;
         are_texts = read.are_texts;
         is_text = read.is_text;
-        is_verdict = found.1;
-      })
+        are_lines = refl;
+      } in
+      let found = verdict_of read.replies ks answers in
+      checked_is found.0
+      (record { replies = read.replies; lines = ks; are_answers = answers; is_verdict = found.1 })
 
   -- ---- a document
 
   pub some_behind : IsThen (IsLine title_line) (λ t. Unit {0}) text → SomeFrom spec text
   some_behind title =
       let items = specified spec l xs is in
-      by (some_document xs (items_differ xs is.are_new) items.are_named (1 + line_count spec) text title)
+      by (some_document xs (items_differ xs items.are_new) items.are_named (1 + line_count spec) text title)
     where
       by : IsRead xs text ⊎ FaultOf (IsAnswersFault xs) (1 + line_count spec) text → SomeFrom spec text
       by (inl read) = read_found read

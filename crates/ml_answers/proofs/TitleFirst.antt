@@ -25,8 +25,10 @@ use Rattle.ml_front.specs.declared.logic.Logic.{Logic}
 use Rattle.ml_spec.specs.Comments.{uncommented, uncommented_from}
 use Rattle.ml_spec.specs.ItemParts.{HasKind}
 use Rattle.ml_spec.specs.Items.{begins_item, first_word, items_from, items_of, trimmed, up_to_item, ItemText}
-use Rattle.ml_spec.specs.Specification.{AreItemsOf, IsSpecification, TellsLogic}
-use Rattle.ml_spec.specs.declared.kind.Kind.{Kind}
+use Rattle.ml_spec.specs.Specification.{IsSpecification, TellsLogic}
+use Rattle.ml_spec.specs.Statements.{AreStatements, Definition, Enumeration, IsSaid, Repeated, Saying, Signals, Stated, Statement}
+use Rattle.ml_spec.specs.declared.kind.ItemKind.{ItemKind}
+use Rattle.ml_spec.specs.declared.kind.ItemKind.TheVariants as item
 use Rattle.ml_spec.specs.declared.kind.Kind.TheVariants as kind
 use Rattle.ml_spec.specs.declared.specification.Item.{Item}
 use Rattle.ml_answers.specs.Documents.{title_line}
@@ -221,15 +223,31 @@ lines_passed (line ∷ lines) document at place are all =
 
 -- ---- behind a specification
 
-other_kind : (i : ItemText) (k : Kind) → HasKind i k → IsOther i
-other_kind i kind.Require has same = let wrong : 114 ≡ 109 = sym (ap first_byte has) ∙ same in omega (arith, wrong)
-other_kind i kind.Possible has same = let wrong : 112 ≡ 109 = sym (ap first_byte has) ∙ same in omega (arith, wrong)
-other_kind i kind.Follows has same = let wrong : 102 ≡ 109 = sym (ap first_byte has) ∙ same in omega (arith, wrong)
+other_kind : (i : ItemText) (k : ItemKind) → HasKind i k → IsOther i
+other_kind i item.Logics has same = let wrong : 108 ≡ 109 = sym (ap first_byte has) ∙ same in omega (arith, wrong)
+other_kind i item.Signals has same = let wrong : 115 ≡ 109 = sym (ap first_byte has) ∙ same in omega (arith, wrong)
+other_kind i item.Enumeration has same = let wrong : 101 ≡ 109 = sym (ap first_byte has) ∙ same in omega (arith, wrong)
+other_kind i item.Definition has same = let wrong : 100 ≡ 109 = sym (ap first_byte has) ∙ same in omega (arith, wrong)
+other_kind i (item.Stated kind.Require) has same =
+    let wrong : 114 ≡ 109 = sym (ap first_byte has) ∙ same in omega (arith, wrong)
+other_kind i (item.Stated kind.Possible) has same =
+    let wrong : 112 ≡ 109 = sym (ap first_byte has) ∙ same in omega (arith, wrong)
+other_kind i (item.Stated kind.Follows) has same =
+    let wrong : 102 ≡ 109 = sym (ap first_byte has) ∙ same in omega (arith, wrong)
 
-others_behind : (l : Logic) (parts : List ItemText) (xs : List Item) → AreItemsOf l parts xs → AllByRecursion IsOther parts
-others_behind l [] xs are = tt
+other_said : (l : Logic) (i : ItemText) (s : Saying) → IsSaid l i s → IsOther i
+other_said l i Repeated is = other_kind i item.Logics is.0
+other_said l i (Signals ps) is = other_kind i item.Signals is.0
+other_said l i (Enumeration m vs) is = other_kind i item.Enumeration is.0.0.0.0.0
+other_said l i (Definition p w) is = other_kind i item.Definition is.0.0.0.0.0.0
+other_said l i (Stated k n w) is = other_kind i (item.Stated k) is.0.0.0.0.0.0
+
+others_behind : (l : Logic) (parts : List ItemText) (ss : List Statement)
+    → AreStatements l parts ss
+    → AllByRecursion IsOther parts
+others_behind l [] ss are = tt
 others_behind l (i ∷ parts) [] are = absurd are
-others_behind l (i ∷ parts) (x ∷ xs) are = (other_kind i x.kind are.0.has_kind, others_behind l parts xs are.1)
+others_behind l (i ∷ parts) (s ∷ ss) are = (other_said l i s.says are.0.is_said, others_behind l parts ss are.1)
 
 pub others_all : (spec : List ℕ) (l : Logic) (xs : List Item)
     → IsSpecification spec l xs
@@ -238,7 +256,8 @@ others_all spec l xs is =
     let told = is.tells_logic in
     subst (AllByRecursion IsOther) (sym told.are_items) (
       other_head told,
-      others_behind l told.others xs (subst (λ parts. AreItemsOf l (drop 1 parts) xs) told.are_items is.are_items),
+      others_behind l told.others is.statements
+          (subst (λ parts. AreStatements l (drop 1 parts) is.statements) told.are_items is.are_read.are_statements),
     )
   where
     other_head : (told : TellsLogic (uncommented spec) l) → IsOther told.first

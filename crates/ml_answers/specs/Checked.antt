@@ -21,11 +21,19 @@
 --   IsFirst P ps line    == of the answers ps, the one in this line is the first of which P is true
 --   IsVerdict l xs ps x  == x is what comes of these answers: that all are shown; or the first line that is wrong; or, where
 --                           none is, the first one that isn't shown
+--   AreAnswersAt xs k text rs ks == the text is a document of the answers rs to the questions of the items xs, its first line
+--                           has the number k, and theirs have the numbers ks
 --   IsCheckedAs l xs k text x == the text is a document of answers to the questions of the items xs of the logic l, its first
 --                           line has the number k, and x comes of them
+--   IsReadBehind spec text l xs rs ks == spec is the text of a specification, of the logic l and with the items xs, and this
+--                           text the document of these answers behind it
+--   IsReadAs text l xs rs ks == the text is such a specification, with such a document behind it
 --   IsFoundIn spec text x == x is found where spec is the text of the specification, and this text the document behind it
 --   IsFound text x       == x is what is found of the text
-use Rattle.std.specs.Prelude.{ℕ, ◌≡◌, ◌<◌, ◌≤◌, ◌+◌, ◌⊎◌, ⊤, Bool, List, [], ◌∷◌, ◌++◌, Option, None, Some, codes, drop, length, take}
+--   has_answers text     == does a document of answers begin in the text?
+--   finding_of f         == what is found where f is why nothing is read
+--   IsRefusedAs text e   == where the refusal e is a fault, this is found of the text
+use Rattle.std.specs.Prelude.{ℕ, ◌≡◌, ◌<◌, ◌≤◌, ◌+◌, ◌⊎◌, ⊤, Bool, true, false, List, [], ◌∷◌, ◌++◌, Option, None, Some, codes, drop, length, take}
 use Rattle.std.specs.List.{AllByRecursion}
 use Rattle.ml_front.specs.Graphs.{OfGraph}
 use Rattle.ml_front.specs.declared.logic.Logic.{Logic}
@@ -40,14 +48,18 @@ use Rattle.ml_spec.specs.Specification.{IsSpecification}
 use Rattle.ml_spec.specs.declared.question.Question.{Question}
 use Rattle.ml_spec.specs.declared.specification.Item.{Item}
 use Rattle.ml_replies.specs.Meeting.{everything, problem_of, without, IsHeld, IsSmall}
-use Rattle.ml_replies.specs.Replies.{Core, Part, Replied, Reply, FailsByCheck, IsShown, LeftOpen, Met, StillMet, StillOpen, Unmet, Without}
+use Rattle.ml_replies.specs.Replies.{Part, Replied, Reply, FailsByCheck, IsShown, LeftOpen, Met, StillMet, StillOpen, Unmet, Without}
 use Rattle.ml_answers.specs.Documents.{last_line, title_line, IsBlock}
 use Rattle.ml_answers.specs.Due.{asked_of, rest_behind, AreAll}
 use Rattle.ml_answers.specs.Rules.{IsAnswersFault}
 use Rattle.ml_answers.specs.Texts.{first_line, line_count, one_text}
+use Rattle.ml_answers.specs.declared.finding.AnswersFault.{AnswersFault}
+use Rattle.ml_answers.specs.declared.finding.AnswersFault.TheVariants as fault
 use Rattle.ml_answers.specs.declared.finding.AnswersFinding.{AnswersFinding}
 use Rattle.ml_answers.specs.declared.finding.AnswersFinding.TheVariants.{NoDocument, OpenAt, Refused, Right, TooLong, Unreadable, WrongAt}
 use Rattle.ml_answers.specs.declared.finding.TheConstants.{LONGEST_SPECIFICATION}
+use Rattle.ml_answers.specs.declared.answered.AnswersRefusal.{AnswersRefusal}
+use Rattle.ml_answers.specs.declared.answered.AnswersRefusal.TheVariants as refusal
 
 -- ---- one answer
 
@@ -137,16 +149,31 @@ abbrev pub lines_from : ℕ → List (List ℕ) → List ℕ
 lines_from k [] = []
 lines_from k (t ∷ ts) = k ∷ lines_from (k + line_count t) ts
 
+pub record AreAnswersAt (xs : List Item) (k : ℕ) (text : List ℕ) (rs : List Replied) (ks : List ℕ) : Type 0 where
+  pub texts : List (List ℕ)
+  pub are_all : AreAll xs rs
+  pub are_texts : AreTexts xs rs texts
+  pub is_text : text ≡ line_text title_line ++ (one_text texts ++ line_text last_line)
+  pub are_lines : ks ≡ lines_from (k + 1) texts
+
 pub record IsCheckedAs (l : Logic) (xs : List Item) (k : ℕ) (text : List ℕ) (x : AnswersFinding) : Type 0 where
   pub replies : List Replied
-  pub texts : List (List ℕ)
-  pub are_all : AreAll xs replies
-  pub are_texts : AreTexts xs replies texts
-  pub is_text : text ≡ line_text title_line ++ (one_text texts ++ line_text last_line)
-  pub is_verdict : IsVerdict l xs (placed everything replies (lines_from (k + 1) texts)) x
+  pub lines : List ℕ
+  pub are_answers : AreAnswersAt xs k text replies lines
+  pub is_verdict : IsVerdict l xs (placed everything replies lines) x
 
 abbrev pub longest_specification : ℕ
 longest_specification = LONGEST_SPECIFICATION
+
+pub record IsReadBehind (spec text : List ℕ) (l : Logic) (xs : List Item) (rs : List Replied) (ks : List ℕ) : Type 0 where
+  pub is_short : length spec ≤ longest_specification
+  pub is_specification : IsSpecification spec l xs
+  pub are_answers : AreAnswersAt xs (1 + line_count spec) text rs ks
+
+pub record IsReadAs (text : List ℕ) (l : Logic) (xs : List Item) (rs : List Replied) (ks : List ℕ) : Type 0 where
+  pub at : ℕ
+  pub begins : first_line (codes "mlsolver answers 1") text ≡ Some at
+  pub is_read : IsReadBehind (take at text) (drop at text) l xs rs ks
 
 -- what is found of the document, whose first line has the number k, of a specification of the logic l with the items xs
 abbrev pub IsFoundOf : Logic → List Item → ℕ → List ℕ → AnswersFinding → Type 0
@@ -170,3 +197,22 @@ IsFoundFrom (Some at) text x = IsFoundIn (take at text) (drop at text) x
 
 abbrev pub IsFound : List ℕ → AnswersFinding → Type 0
 IsFound text x = IsFoundFrom (first_line (codes "mlsolver answers 1") text) text x
+
+-- ---- what isn't read
+
+abbrev pub begins : Option ℕ → Bool
+begins None = false
+begins (Some at) = true
+
+abbrev pub has_answers : List ℕ → Bool
+has_answers text = begins (first_line (codes "mlsolver answers 1") text)
+
+abbrev pub finding_of : AnswersFault → AnswersFinding
+finding_of fault.TooLong = TooLong
+finding_of (fault.NoDocument line column) = NoDocument line column
+finding_of (fault.Refused line column rule) = Refused line column rule
+finding_of (fault.Unreadable f) = Unreadable f
+
+abbrev pub IsRefusedAs : List ℕ → AnswersRefusal → Type 0
+IsRefusedAs text (refusal.Fault fault) = IsFound text (finding_of fault)
+IsRefusedAs text refusal.NoMemory = ⊤

@@ -24,7 +24,7 @@ use Rattle.ml_spec.specs.declared.question.Question.{Question}
 use Rattle.ml_spec.specs.declared.question.Question.TheVariants.{Consistent, Rest, Asks}
 use Rattle.ml_spec.specs.declared.specification.Item.{Item}
 use Rattle.ml_replies.specs.Meeting.{beside, everything, numbers_in}
-use Rattle.ml_replies.specs.Replies.{Core, Replied, Reply, LeftOpen, Met, Unmet}
+use Rattle.ml_replies.specs.Replies.{Core, Replied, Reply, Unmet}
 
 -- ---- what is due
 

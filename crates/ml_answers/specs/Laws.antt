@@ -9,8 +9,12 @@
 --                       document of these answers
 --   AnswersAreRight  == of such a text, whose answers are those to the questions, with whichever limit, `Right` is found where
 --                       all of them are settled, and else `OpenAt` the line of one
+--   FaultOrRead      == a text in which a document of answers begins is read as a specification with one behind it, or why it
+--                       isn't is found
+--   ReadNoFault      == never both
+--   OneReadFault     == and one such fault at most
 --   RulesRise        == the numbers of the rules of a line rise: so the first one that it breaks is the lowest
-use Rattle.std.specs.Prelude.{ℕ, ◌≡◌, ◌⊎◌, ◌≤◌, ⊤, Bool, List, [], ◌∷◌, ◌++◌, length}
+use Rattle.std.specs.Prelude.{ℕ, ◌≡◌, ◌⊎◌, ◌≤◌, ⊤, Bool, true, List, [], ◌++◌, length}
 use Rattle.std.specs.List.{AllByRecursion}
 use Rattle.ml_front.specs.declared.logic.Logic.{Logic}
 use Rattle.ml_lines.specs.Reading.{left_of}
@@ -19,10 +23,11 @@ use Rattle.ml_lists.specs.Ascending.{IsAscending}
 use Rattle.ml_spec.specs.Specification.{IsSpecification}
 use Rattle.ml_spec.specs.declared.question.Question.{Question}
 use Rattle.ml_spec.specs.declared.specification.Item.{Item}
-use Rattle.ml_replies.specs.Replies.{AreReplies, Part, Replied, Reply, LeftOpen, Met, StillMet, StillOpen, Unmet, Without}
-use Rattle.ml_answers.specs.Checked.{longest_specification, IsFound}
+use Rattle.ml_replies.specs.Replies.{AreReplies, Replied, Reply, LeftOpen, Met, StillMet, StillOpen, Unmet, Without}
+use Rattle.ml_answers.specs.Checked.{finding_of, has_answers, longest_specification, IsFound, IsReadAs}
 use Rattle.ml_answers.specs.Documents.{IsDocumentOf}
 use Rattle.ml_answers.specs.Rules.{answer_rules}
+use Rattle.ml_answers.specs.declared.finding.AnswersFault.{AnswersFault}
 use Rattle.ml_answers.specs.declared.finding.AnswersFinding.{AnswersFinding}
 use Rattle.ml_answers.specs.declared.finding.AnswersFinding.TheVariants.{OpenAt, Right}
 
@@ -64,6 +69,20 @@ AnswersAreRight = (text : List ℕ) (l : Logic) (xs : List Item) (rs : List Repl
     → IsOf text l xs rs
     → AreReplies l xs n rs
     → (AreSettled rs × IsFound text Right) ⊎ ((¬ (AreSettled rs)) × ((line : ℕ) × IsFound text (OpenAt line)))
+
+abbrev pub FaultOrRead : Type 0
+FaultOrRead = (text : List ℕ)
+    → has_answers text ≡ true
+    → ((l : Logic) × (xs : List Item) × (rs : List Replied) × (ks : List ℕ) × IsReadAs text l xs rs ks)
+    ⊎ ((f : AnswersFault) × IsFound text (finding_of f))
+
+abbrev pub ReadNoFault : Type 0
+ReadNoFault = (text : List ℕ) (l : Logic) (xs : List Item) (rs : List Replied) (ks : List ℕ) (f : AnswersFault)
+    → IsReadAs text l xs rs ks
+    → ¬ (IsFound text (finding_of f))
+
+abbrev pub OneReadFault : Type 0
+OneReadFault = (text : List ℕ) (f g : AnswersFault) → IsFound text (finding_of f) → IsFound text (finding_of g) → f ≡ g
 
 abbrev pub RulesRise : Type 0
 RulesRise = (xs : List Item) (S : ℕ → Bool) (q : Question) → IsAscending (numbers (answer_rules xs S q))

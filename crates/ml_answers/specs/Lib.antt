@@ -10,6 +10,8 @@ pub mod Documents
 pub mod RuleNumbers
 -- where a text is none
 pub mod Rules
+-- what is read of one, as plain values
+pub mod Stated
 -- what checking one finds
 pub mod Checked
 -- what is true of them

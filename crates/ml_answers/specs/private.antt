@@ -2,7 +2,7 @@
 pub mod Marks
 -- words that are read one by one
 pub mod Words
--- plain values of what is read
+-- plain values of refutations
 pub mod Plain
 -- what the reader knows
 pub mod Reads

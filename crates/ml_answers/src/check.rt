@@ -1,22 +1,17 @@
 // Checking a specification with a document of answers behind it.
-ghost use Rattle.std.specs.Prelude.{◌≡◌, ◌+◌, ◌<◌, ◌≤◌, ◌^◌, length, IfOk};
+ghost use Rattle.std.specs.Prelude.{IfOk};
 ghost use Rattle.ml_replies.specs.Laws.{OneCheck};
-ghost use Rattle.ml_spec.specs.Specification.{IsSpecification, IsSpecified};
-ghost use Rattle.ml_answers.specs.Checked.{IsFound, IsFoundIn, longest_specification};
-ghost use Rattle.ml_answers.specs.Documents.{title_line};
-ghost use Rattle.ml_answers.specs.Texts as texts;
-ghost use Rattle.ml_answers.specs.Texts.{IsLine, IsThen};
-ghost use Rattle.ml_answers.specs.private.Reads.{AreReadBehind, HasRoom};
+ghost use Rattle.ml_answers.specs.Checked.{IsFound, IsReadAs};
+ghost use Rattle.ml_answers.specs.Stated.{lines_of, replies_of};
 
+use crate::answered::{AnswersRefusal, read_answers};
 use crate::checking::verdict;
-use crate::cut::{first_line, line_count};
-use crate::document::{flags, read_document};
-use crate::finding::{AnswersFinding, LONGEST_SPECIFICATION};
-use crate::rest::Rest;
+use crate::document::flags;
+use crate::finding::AnswersFinding;
 use crate::stated::Stated;
-use ml_base::{DocRefusal, NoMemory};
+use ml_base::NoMemory;
 use ml_replies::laws::one_check;
-use ml_spec::{SpecRefusal, Specification, line_and_column, read};
+use ml_spec::Specification;
 use std::alloc::Global;
 
 /// Are the answers to the questions of a specification right, as anyone can tell from their document alone?
@@ -49,78 +44,24 @@ pub fn check_answers(alloc: Global, bytes: &[u8]) -> Result<AnswersFinding, NoMe
     ensures { IfOk result (IsFound bytes.now) }
 {
     one_check();
-    match first_line(bytes, b"mlsolver answers 1") {
-        Some(at) => check_behind(alloc, &bytes[..at], &bytes[at..]),
-        None => {
-            let (line, column) = line_and_column(bytes, bytes.len());
-            Ok(AnswersFinding::NoDocument { line, column })
-        }
+    match read_answers(alloc, bytes) {
+        Ok(answered) => judge_all(alloc, bytes, &answered.specification, &answered.answers),
+        Err(AnswersRefusal::Fault(fault)) => Ok(fault.finding()),
+        Err(AnswersRefusal::NoMemory) => Err(NoMemory),
     }
 }
 
-// what is found of a document behind the text of a specification
-fn check_behind(alloc: Global, text: &[u8], document: &[u8]) -> Result<AnswersFinding, NoMemory>
-    requires title { IsThen (IsLine title_line) (λ t. Unit {0}) document.now }
-    requires room { length text.now + length document.now < 2 ^ 63 }
-    requires one { OneCheck }
-    ensures { IfOk result (IsFoundIn text.now document.now) }
-{
-    if text.len() > LONGEST_SPECIFICATION {
-        return Ok(AnswersFinding::TooLong);
-    }
-    match read(alloc, text) {
-        Ok(specification) => {
-            let at = Rest {
-                text: document,
-                line: 1 + line_count(text),
-            };
-            check_document(alloc, &specification, at, text)
-        }
-        Err(SpecRefusal::Refused { line, column, rule }) => {
-            Ok(AnswersFinding::Refused { line, column, rule })
-        }
-        Err(SpecRefusal::NoMemory) => Err(NoMemory),
-    }
-}
-
-// what is found of a document of answers to the questions of a specification
-fn check_document(
-    alloc: Global,
-    specification: &Specification,
-    at: Rest,
-    _text: &[u8],
-) -> Result<AnswersFinding, NoMemory>
-    requires specified { IsSpecified specification.now.logic specification.now.items.items }
-    requires is_specification { IsSpecification _text.now specification.now.logic specification.now.items.items }
-    requires short { length _text.now ≤ longest_specification }
-    requires title { IsThen (IsLine title_line) (λ t. Unit {0}) at.text.now }
-    requires line { at.line ≡ 1 + texts.line_count _text.now }
-    requires room { HasRoom at }
-    requires one { OneCheck }
-    ensures { IfOk result (IsFoundIn _text.now at.entry.text.now) }
-{
-    match read_document(alloc, &specification.items, at) {
-        Ok(stated) => judge_all(alloc, specification, at, _text, &stated),
-        Err(DocRefusal::Fault(fault)) => Ok(AnswersFinding::Unreadable(fault)),
-        Err(DocRefusal::NoMemory) => Err(NoMemory),
-    }
-}
-
-// what is found of these answers
+// what is found of the answers that were read of a text
 fn judge_all(
     alloc: Global,
+    _bytes: &[u8],
     specification: &Specification,
-    _at: Rest,
-    _text: &[u8],
     stated: &[Stated],
 ) -> Result<AnswersFinding, NoMemory>
-    requires specified { IsSpecified specification.now.logic specification.now.items.items }
-    requires is_specification { IsSpecification _text.now specification.now.logic specification.now.items.items }
-    requires short { length _text.now ≤ longest_specification }
-    requires line { _at.line ≡ 1 + texts.line_count _text.now }
-    requires read { AreReadBehind specification.now.items.items _at stated.now }
+    requires read { IsReadAs _bytes.now specification.now.logic specification.now.items.items (replies_of stated.now)
+        (lines_of stated.now) }
     requires one { OneCheck }
-    ensures { IfOk result (IsFoundIn _text.now _at.entry.text.now) }
+    ensures { IfOk result (IsFound _bytes.now) }
 {
     let all = flags(alloc, specification.items.len())?;
     verdict(alloc, specification, &all, stated)

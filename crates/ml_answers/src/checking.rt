@@ -8,9 +8,8 @@ ghost use Rattle.ml_spec.specs.Specification.{IsSpecified};
 ghost use Rattle.ml_answers.specs.Checked as checked;
 ghost use Rattle.ml_answers.specs.Checked.{IsShownBy, IsVerdict, placed};
 ghost use Rattle.ml_answers.specs.Due.{asked_of, rest_behind};
+ghost use Rattle.ml_answers.specs.Stated.{lines_of, replies_of};
 ghost use Rattle.ml_answers.specs.private.Judged.{ComesTo, IsJudgable};
-ghost use Rattle.ml_answers.specs.private.Plain as plain;
-ghost use Rattle.ml_answers.specs.private.Plain.{replies_of};
 ghost use Rattle.ml_answers.specs.private.Words.{Agrees};
 
 use crate::document::leave_out;
@@ -36,7 +35,7 @@ pub(crate) fn verdict(
     requires judgable { AllByRecursion (IsJudgable specification.now.items.items) stated.now }
     requires one { OneCheck }
     ensures { IfOk result (IsVerdict specification.now.logic specification.now.items.items
-        (placed everything (replies_of stated.now) (plain.lines_of stated.now))) }
+        (placed everything (replies_of stated.now) (lines_of stated.now))) }
 {
     let mut rest = Vec::from_slice(alloc, all)?;
     let mut unshown = None;

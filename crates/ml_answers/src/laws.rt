@@ -1,5 +1,5 @@
 // What is true of documents of answers: no caller runs these functions, their contracts are the theorems.
-ghost use Rattle.ml_answers.specs.Laws.{AnswersAreRight, OneFinding, RightIsTrue, RulesRise, SomeFinding};
+ghost use Rattle.ml_answers.specs.Laws.{AnswersAreRight, FaultOrRead, OneFinding, OneReadFault, ReadNoFault, RightIsTrue, RulesRise, SomeFinding};
 
 /// Of each text exactly one thing is found: so `check_answers` answers each exactly where it is said to come, but for want of
 /// memory.
@@ -8,6 +8,16 @@ ghost use Rattle.ml_answers.specs.Laws.{AnswersAreRight, OneFinding, RightIsTrue
 pub fn one_finding()
     ensures some { SomeFinding }
     ensures once { OneFinding }
+{}
+
+/// A text in which a document of answers begins is a specification with a document behind it, or has one fault, never both: so
+/// `read_answers` refuses exactly the others.
+///
+/// Does nothing when called.
+pub fn one_reading()
+    ensures some { FaultOrRead }
+    ensures apart { ReadNoFault }
+    ensures once { OneReadFault }
 {}
 
 /// Where a document is found right, its answers are those to the questions of its specification, whichever the limit: each line

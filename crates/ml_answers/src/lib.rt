@@ -2,7 +2,7 @@
 //
 // A document has a line for each answer, and behind it what shows it: a structure, or a refutation of some requirements and a
 // structure without each of them. `check_answers` reads a specification with a document behind it, and tells whether all
-// answers are shown, or the first line that isn't. It trusts nothing of who wrote either.
+// answers are shown, or the first line that isn't. It trusts nothing of who wrote either. `read_answers` reads both alone.
 //
 // The lines are those of `specs/Lines.antt`, what is due after what stands in `specs/Due.antt`, which texts are documents in
 // `specs/Documents.antt`, and where a text is none in `specs/Rules.antt`. `specs/Checked.antt` says what is found. `laws` says
@@ -14,6 +14,7 @@
 // stands what writes such documents, and the program.
 #![tactic(auto)]
 
+mod answered;
 mod check;
 mod checking;
 mod cut;
@@ -29,6 +30,8 @@ mod rule;
 mod stated;
 mod words;
 
+pub use answered::{AnsweredSpecification, AnswersRefusal, has_answers, read_answers};
 pub use check::check_answers;
-pub use finding::{AnswersFinding, LONGEST_ANSWERS, LONGEST_SPECIFICATION};
+pub use finding::{AnswersFault, AnswersFinding, LONGEST_ANSWERS, LONGEST_SPECIFICATION};
 pub use rule::AnswersRule;
+pub use stated::Stated;

@@ -4,8 +4,8 @@ use ml_spec::Question;
 
 /// A question, and what is said in answer to it in this line.
 #[derive(Drop)]
-pub(crate) struct Stated {
-    pub(crate) line: u64,
-    pub(crate) question: Question,
-    pub(crate) statement: Answer,
+pub struct Stated {
+    pub line: u64,
+    pub question: Question,
+    pub statement: Answer,
 }

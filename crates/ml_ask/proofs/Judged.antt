@@ -11,7 +11,7 @@ use Rattle.ml_front.specs.Problems.{IsAdmitted}
 use Rattle.ml_front.specs.declared.problem.Problem.{Problem}
 use Rattle.ml_replies.specs.Meeting.{by_all, IsHeld}
 use Rattle.ml_replies.proofs.Chosen.{joined_in}
-use Rattle.ml_replies.proofs.WellFormedJoins.{well_held}
+use Rattle.ml_front.proofs.Connected.{well_small}
 use Rattle.ml_ask.specs.declared.asked.Asked.{Asked}
 use Rattle.ml_ask.specs.declared.deciding.Judged.{Judged}
 use Rattle.ml_ask.specs.declared.deciding.Judged.TheVariants as judged
@@ -50,7 +50,7 @@ pub judged_as : (a : Asked) (S : ℕ → Bool) (p : Problem) (j : Judged)
     → IsJudged a S j
 judged_as a S p j asked formula plain well is =
     let same = problem_is a S p formula plain in
-    judged_by a S j asked (subst IsHeld same (well_held p.formula well))
+    judged_by a S j asked (subst IsHeld same (well_small p.formula well))
     (subst (λ r. IsJudgedOf a.limit r j) same is)
 
 pub too_long : (a : Asked) (S : ℕ → Bool)

@@ -12,3 +12,5 @@ pub mod ShownReplies
 pub mod SomeTold
 -- two things told of one text
 pub mod ToldAlike
+-- what is told of one specification
+pub mod ToldBySpecification

@@ -9,7 +9,7 @@ use Rattle.ml_spec.specs.Specification.{IsSpecification}
 use Rattle.ml_spec.specs.declared.rule.SpecRule.{SpecRule}
 use Rattle.ml_spec.specs.declared.specification.Item.{Item}
 use Rattle.ml_spec.proofs.OneAnswer.{some_reading}
-use Rattle.ml_spec.proofs.Readings.{specified}
+use Rattle.ml_spec.proofs.SpecifiedItems.{specified}
 use Rattle.ml_replies.proofs.SomeReplies.{some_replies}
 use Rattle.ml_replies.specs.Replies.{AreReplies, Replied}
 use Rattle.ml_replies.proofs.WellFormedItems.{items_well}

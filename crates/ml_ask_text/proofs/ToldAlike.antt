@@ -16,7 +16,7 @@ use Rattle.ml_spec.specs.declared.question.Question.{Question}
 use Rattle.ml_spec.specs.declared.question.Question.TheVariants.{Consistent}
 use Rattle.ml_spec.specs.declared.specification.Item.{Item}
 use Rattle.ml_spec.proofs.OneAnswer as spec
-use Rattle.ml_spec.proofs.Readings.{specified}
+use Rattle.ml_spec.proofs.SpecifiedItems.{specified}
 use Rattle.ml_replies.proofs.NeverBoth.{never_both}
 use Rattle.ml_replies.proofs.SomeReplies.{all_asked}
 use Rattle.ml_replies.specs.Meeting.{everything}

@@ -1,5 +1,5 @@
 // Laws over the definitions alone: no caller runs these functions, their contracts are the theorems.
-ghost use Rattle.ml_ask_text.specs.Laws.{SomeTold, ToldAlike};
+ghost use Rattle.ml_ask_text.specs.Laws.{SomeTold, ToldAlike, ToldBySpecification};
 
 /// Something is told of each text, in each form and for each limit of 32 bits: so `ask_text` may always answer, but for want of
 /// memory.
@@ -16,4 +16,12 @@ pub fn something_told()
 /// Does nothing when called.
 pub fn told_alike()
     ensures { ToldAlike }
+{}
+
+/// What is told of a text depends on the specification alone that it is. So of a text with definitions, enumerations and bounds
+/// the same is told as of the text in which these are written out.
+///
+/// Does nothing when called.
+pub fn told_by_specification()
+    ensures { ToldBySpecification }
 {}

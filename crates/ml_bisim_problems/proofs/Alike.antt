@@ -20,6 +20,7 @@ use Rattle.std.proofs.lemmas.Bool.{cases_Bool, cases_lt, and_parts, and_from, eq
 use Rattle.std.proofs.lemmas.List.{get_or-map}
 use Rattle.ml_base.specs.declared.structure.Edge.{Edge}
 use Rattle.ml_base.specs.Structure.{Structure, IsStructure, is_member, lists}
+use Rattle.ml_base.proofs.Edges.{target_within}
 use Rattle.ml_base.proofs.StateSets.{member_where}
 use Rattle.ml_lists.specs.Found.{Found}
 use Rattle.ml_lists.specs.Member.{IsMember}
@@ -73,9 +74,6 @@ module _ (m : Structure) (ok : IsStructure m) where
     pub no_binder : HasNoBinder formula
     pub here : holds formula x ≡ true
     pub nowhere : (e : Edge) → IsMember e es → leaves t a e ≡ true → holds formula e.target ≡ false
-
-  low_end : (e : Edge) → IsMember e m.edges → e.target < m.states
-  low_end e h = target_low m ok e.source e.action e.target (contains_of_member e m.edges h)
 
   module _ (x t : ℕ) (a : List ℕ) (x_low : x < m.states) where
     none_yet : Parts x t a []
@@ -134,7 +132,7 @@ module _ (m : Structure) (ok : IsStructure m) where
   by_step : (s t : ℕ) (a : List ℕ) (x : ℕ) → s < m.states → t < m.states → HasEdge m s a x
       → ((d : Edge) → IsMember d m.edges → leaves t a d ≡ true → ToldApart m x d.target) → ToldApart m s t
   by_step s t a x s_low t_low edge each =
-      of_parts (parts x t a (target_low m ok s a x edge) m.edges low_end each)
+      of_parts (parts x t a (target_low m ok s a x edge) m.edges (target_within m ok) each)
     where
       of_parts : Parts x t a m.edges → ToldApart m s t
       of_parts p = record {
@@ -203,7 +201,7 @@ module _ (m : Structure) (ok : IsStructure m) where
           by_step s t e.action e.target s_low t_low
           (subst (λ u. HasEdge m u e.action e.target) at (contains_of_member e m.edges h))
           (λ d i is.
-          parted e.target d.target (low_end e h) (low_end d i)
+          parted e.target d.target (target_within m ok e h) (target_within m ok d i)
           (false_from_ne_true (T e.target d.target) (λ related.
           let parts = and_parts (d.source == t) (bytes_eq d.action e.action) is in
           let same = leaves_from t e.action d is in

@@ -236,15 +236,9 @@ Untabled (tables.Operand s) ts f rest = Reads Tight ts f rest
 Untabled (Rest m) ts f rest = OfMode m ts f rest
 Untabled (Behind t turn) ts f rest = OfTurn t turn ts f rest
 
--- the formula of a form, which is equal to the one that is read
-same_tree : {l : Level} {ts rest : List Sign} {f g : Formula} → f ≡ g → Reads l ts f rest → Reads l ts g rest
-same_tree {l} {ts} {rest} e r = subst (λ h. Reads l ts h rest) e r
-
-both_same : {l : Level} {t : Sign} {ts rest : List Sign} {h f : Formula}
-    → (h ≡ f) × (ts ≡ rest)
-    → Reads l (t ∷ ts) h ts
-    → Reads l (t ∷ ts) f rest
-both_same {l} {t} {ts} {rest} {h} {f} e r = subst (λ x. Reads l (t ∷ ts) x rest) e.0 (subst (λ us. Reads l (t ∷ ts) h us) e.1 r)
+-- what is read, by another name
+as_read : {ts us rest : List Sign} {f g : Formula} → Reads Tight ts f us → f ≡ g → us ≡ rest → Reads Tight ts g rest
+as_read {ts} {us} {rest} {f} r e d = subst (λ h. Reads Tight ts h rest) e (subst (λ vs. Reads Tight ts f vs) d r)
 
 one_digit_more : {us ts : List Sign} → ReadsDigits us (Added Digit ∷ ts) → ReadsDigits us ts
 one_digit_more last = digit last
@@ -271,9 +265,9 @@ second_completes e m n ts rest f false is r = absurd r
 sign_completes : (q : Wait) (t : Sign) (ts rest : List Sign) (f : Formula)
     → OfTurn t (shift q t) ts f rest
     → Completes q (t ∷ ts) f rest
-sign_completes Start Not ts rest f r = same_tree r.1 (negation r.2)
-sign_completes Start (Const b) ts rest f r = both_same r (constant b)
-sign_completes Start (Lower p) ts rest f r = both_same r (proposition p)
+sign_completes Start Not ts rest f r = as_read (negation r.2) r.1 refl
+sign_completes Start (Const b) ts rest f r = as_read (constant b) r.0 r.1
+sign_completes Start (Lower p) ts rest f r = as_read (proposition p) r.0 r.1
 sign_completes Start Open ts rest f r = r
 sign_completes Start (Added (Tensed t)) ts rest f r = r
 sign_completes Start _ ts rest f r = absurd r
@@ -282,7 +276,7 @@ sign_completes (BehindInside h) Close ts rest f r =
     (group (subst (λ vs. Reads (Joined operator.Iff) us h (Close ∷ vs)) r.1 a))
 sign_completes (BehindInside h) _ ts rest f r = absurd r
 sign_completes (BehindTense t) (Added Opening) ts rest f r = r
-sign_completes (BehindTense t) _ ts rest f r = same_tree r.1 (temporal t r.2)
+sign_completes (BehindTense t) _ ts rest f r = as_read (temporal t r.2) r.1 refl
 sign_completes (BehindOpening t) (Added (Number n)) ts rest f r = number_completes t n ts rest f r
 sign_completes (BehindOpening t) _ ts rest f r = absurd r
 sign_completes (BehindFirst e m) (Added Digit) ts rest f r = λ us d. r us (one_digit_more d)
@@ -291,7 +285,7 @@ sign_completes (BehindFirst e m) _ ts rest f r = absurd r
 sign_completes (BehindBetween e m) (Added (Number n)) ts rest f r = second_completes e m n ts rest f (nat_le m n) refl r
 sign_completes (BehindBetween e m) _ ts rest f r = absurd r
 sign_completes (BehindLast b) (Added Digit) ts rest f r = λ us vs d make. r us vs (one_digit_more d) make
-sign_completes (BehindLast b) (Added Closing) ts rest f r = λ us vs d make. same_tree r.1 (bounded b (make ts d) r.2)
+sign_completes (BehindLast b) (Added Closing) ts rest f r = λ us vs d make. as_read (bounded b (make ts d) r.2) r.1 refl
 sign_completes (BehindLast b) _ ts rest f r = absurd r
 
 inner_enters : (k : Hold) (ts us rest : List Sign) (v f : Formula)

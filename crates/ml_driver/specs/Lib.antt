@@ -26,6 +26,8 @@ pub mod Translations
 pub mod Paths
 -- what `check-answers` answers
 pub mod CheckedAnswers
+-- what `show` says of what it doesn't show
+pub mod ShownDocuments
 -- machines and environments that are checked
 pub mod CheckedMachines
 -- tasks for which a machine or an environment is made

@@ -56,13 +56,14 @@ use Rattle.ml_driver.specs.Games.{IsSolved, IsRefusedGame}
 use Rattle.ml_driver.specs.Paths.{IsPathTold}
 use Rattle.ml_driver.specs.Quotients.{IsReduced}
 use Rattle.ml_driver.specs.Said.{IsSaid}
+use Rattle.ml_driver.specs.ShownDocuments.{IsNotShown}
 use Rattle.ml_driver.specs.Statuses.{IsUnreadable, longest_input, model_said, refutation_said}
 use Rattle.ml_driver.specs.declared.said.Said.TheVariants.{NoCommand, TooLong}
 use Rattle.ml_driver.specs.Tasks.{IsTaskAnswered}
 use Rattle.ml_driver.specs.Texts.{StandsFor}
 use Rattle.ml_driver.specs.Translations.{IsRefusedFormula, IsUntranslated}
 use Rattle.ml_hoa.specs.Refusals.{IsReadAs as IsAutomatonText}
-use Rattle.ml_show_text.specs.Shown.{IsFault, IsShown}
+use Rattle.ml_show_text.specs.Shown.{IsShown}
 use Rattle.ml_translate.specs.Output as translation
 
 -- ---- what is answered
@@ -103,7 +104,7 @@ IsAnswer (Automaton n) text Undecided out = StandsFor (IsParsedAs Ltl) text (λ 
 IsAnswer (Automaton n) text Text out = IsRefusedFormula text out
 IsAnswer Path text s out = IsPathTold text s out
 IsAnswer Show text Yes out = IsShown text out
-IsAnswer Show text Text out = IsUnreadable (IsFault text) out
+IsAnswer Show text Text out = IsNotShown text out
 IsAnswer CheckMachine text s out = IsMachineTold text s out
 IsAnswer CheckAnswers text s out = AreAnswersTold text s out
 IsAnswer (Make n) text s out = IsTaskAnswered Search n text s out

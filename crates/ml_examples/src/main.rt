@@ -36,7 +36,7 @@ use std::fs;
 use std::io::Print;
 use std::rt::Files;
 
-const FILES: [&str; 51] = [
+const FILES: [&str; 52] = [
     "examples",
     "specifications",
     "patterns",
@@ -85,6 +85,7 @@ const FILES: [&str; 51] = [
     "made_tasks",
     "small_tasks_made",
     "literature_tasks",
+    "definitions",
     "requirements",
     "answers",
     "asked_specifications",

@@ -130,7 +130,7 @@ fn may_be_large(document: &[u8]) -> bool {
     document.starts_with(b"mlsolver realize 1\nanswer unrealizable\n")
 }
 
-/// Are the answers that were written found right behind their file? Some may be open.
+/// Are the answers that were written found right behind their file, and can they be shown? Some may be open.
 fn are_right(alloc: Global, file: &[u8], answers: &[u8]) -> Result<bool, Failure> {
     let mut both = Vec::from_slice(alloc, file)?;
     both.extend_from_slice(answers)?;
@@ -138,7 +138,8 @@ fn are_right(alloc: Global, file: &[u8], answers: &[u8]) -> Result<bool, Failure
     let is_open = answers
         .split(|byte| *byte == b'\n')
         .any(|line| is_open_answer(line));
-    Ok(status == if is_open { UNDECIDED } else { 0 })
+    let is_right = status == if is_open { UNDECIDED } else { 0 };
+    Ok(is_right && answer_to(alloc, "show", &both)?.status == 0)
 }
 
 /// Is it the line of an answer that is open, or of which some of it is?

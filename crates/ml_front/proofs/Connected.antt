@@ -2,6 +2,7 @@
 --
 --   both_logic, negation_logic, truth_logic, all_logic, joined_logic == of which logic they are
 --   both_size, negation_size == how many occurrences they have
+--   well_small   == a formula that the program holds isn't too large
 --   all_grows    == formulas that are joined to others have no fewer occurrences
 --   all_append   == to join formulas to one is to join the first ones, and then the others
 --   joined_more, joined_grows == formulas joined with one more behind them; with others behind them they have no fewer
@@ -14,6 +15,7 @@ use Rattle.ml_text.specs.Limits.{most_occurrences}
 use Rattle.ml_lists.proofs.AllOf.{all_parts}
 use Rattle.ml_front.specs.Connectives.{all_of, both, joined, negation, occurrences, truth, AreOf}
 use Rattle.ml_front.specs.Logics.{logic_of}
+use Rattle.ml_front.specs.WellFormed.{IsWellFormed}
 use Rattle.ml_front.specs.declared.logic.Logic.{Logic}
 use Rattle.ml_front.specs.declared.logic.Logic.TheVariants as logic
 use Rattle.ml_front.specs.declared.problem.AnyFormula.{AnyFormula}
@@ -23,6 +25,15 @@ use Rattle.ml_front.specs.private.JoinedSoFar.{IsJoined, IsWith}
 append_some : (fs : List AnyFormula) (g : AnyFormula) → fs ++ g ∷ [] ≡ [] → ⊥
 append_some [] g e = cc
 append_some (f ∷ fs) g e = cc
+
+-- ---- their size
+
+pub well_small : (f : AnyFormula) → IsWellFormed f → occurrences f ≤ most_occurrences
+well_small (Mu f) well = well.is_small
+well_small (Pdl f) well = well.is_small
+well_small (Ctl f) well = well.is_small
+well_small (Ltl f) well = well.is_small
+well_small (Word f) well = well.is_small
 
 -- ---- their logic
 

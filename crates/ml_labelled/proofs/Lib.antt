@@ -30,3 +30,9 @@ pub mod TrimmedRuns
 pub mod TrimmedEdges
 -- edges that are kept one after the other
 pub mod KeptEdges
+-- runs that another automaton follows
+pub mod FollowedRuns
+-- so what an automaton accepts that another one follows
+pub mod FollowedAutomata
+-- edges that are replaced
+pub mod ReplacedEdges

@@ -8,3 +8,9 @@ pub mod Reaching
 pub mod Merging
 -- edges that are left out, and flags that are changed
 pub mod Trimming
+-- when an automaton follows another one
+pub mod Following
+-- when edges that were found are those of an automaton
+pub mod Fitting
+-- when edges may be replaced by others
+pub mod Replacing

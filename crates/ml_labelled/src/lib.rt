@@ -7,16 +7,23 @@
 // Below stand `ml_hoa`, with the grammar of automaton texts, and `ml_trace`, for words and runs.
 #![tactic(auto)]
 
+mod beside;
+mod fitting;
+mod following;
 mod guide;
 mod labelled;
 pub mod laws;
 mod loops;
 mod merging;
+mod ranking;
 mod reaching;
 mod reducing;
+mod replacing;
+mod simulation;
 mod trimming;
 mod writing;
 
+pub use beside::reduced_beside;
 pub use labelled::{CubeEdge, LabelledAutomaton, Literal};
 pub use reaching::reached_part;
 pub use reducing::reduced;

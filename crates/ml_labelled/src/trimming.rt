@@ -52,7 +52,7 @@ fn has(cube: &[Literal], literal: &Literal) -> bool
 }
 
 // has the cube all these literals?
-fn has_all(cube: &[Literal], part: &[Literal]) -> bool
+pub(crate) fn has_all(cube: &[Literal], part: &[Literal]) -> bool
     ensures { result ≡ true → (l : Literal) → IsMember l part.now → IsMember l cube.now }
 {
     for literal in part {
@@ -86,19 +86,73 @@ fn covers(edge: &CubeEdge, other: &CubeEdge) -> bool
     has_all(&other.cube, &edge.cube)
 }
 
-fn is_covered(kept: &[CubeEdge], edge: &CubeEdge) -> bool
+// Of each edge that is kept a sign: one of them covers no edge whose sign lacks a bit of its own. And how many edges may still
+// be compared. Nothing rests on it.
+#[derive(Drop)]
+pub(crate) struct Signs {
+    of_kept: Vec<u64>,
+    left: u64,
+}
+
+// a bit for each literal
+fn sign_of(cube: &[Literal]) -> u64 {
+    let mut sign = 0u64;
+    for literal in cube {
+        sign |= 1u64 << (literal.prop % 32 * 2 + u32::from(literal.positive));
+    }
+    sign
+}
+
+impl Signs {
+    pub(crate) fn new(alloc: Global, comparisons: u64) -> Signs {
+        Signs {
+            of_kept: Vec::new(alloc),
+            left: comparisons,
+        }
+    }
+
+    // may all edges that are kept be compared with one more?
+    fn take(&mut self) -> bool {
+        let count = self.of_kept.len() as u64;
+        let is_enough = count <= self.left;
+        self.left = self.left.saturating_sub(count);
+        is_enough
+    }
+
+    // may the kept edge of this place cover one with the sign?
+    fn may_cover(&self, place: usize, sign: u64) -> bool {
+        match self.of_kept.get(place) {
+            Some(kept) => *kept & !sign == 0,
+            None => true,
+        }
+    }
+}
+
+fn is_covered(kept: &[CubeEdge], signs: &mut Signs, edge: &CubeEdge) -> bool
     ensures { result ≡ true → IsCovered (edge_of edge.now) (map edge_of kept.now) }
 {
-    for other in kept {
-        if covers(other, edge) {
-            return true;
+    if !signs.take() {
+        return false;
+    }
+    let sign = sign_of(&edge.cube);
+    for (i, other) in kept.iter().enumerate() {
+        if signs.may_cover(i, sign) {
+            if covers(other, edge) {
+                return true;
+            }
         }
     }
     false
 }
 
 // one edge of p more, with its flag, unless it leads to a dead state or another one covers it
-fn keep(guide: &Guide, p: usize, kept: &mut Vec<CubeEdge>, edge: CubeEdge) -> Result<(), NoMemory>
+fn keep(
+    guide: &Guide,
+    p: usize,
+    kept: &mut Vec<CubeEdge>,
+    signs: &mut Signs,
+    edge: CubeEdge,
+) -> Result<(), NoMemory>
     ensures { OnOk result (IsKept guide.now p (edge_of edge) (map edge_of kept.old.items) (map edge_of kept.new.items)) }
 {
     if guide.is_dead(edge.to as usize) {
@@ -115,10 +169,12 @@ fn keep(guide: &Guide, p: usize, kept: &mut Vec<CubeEdge>, edge: CubeEdge) -> Re
         to,
         accepting,
     };
-    if is_covered(kept, &edge) {
+    if is_covered(kept, signs, &edge) {
         return Ok(());
     }
+    let sign = sign_of(&edge.cube);
     kept.push(edge)?;
+    signs.of_kept.push(sign)?;
     Ok(())
 }
 
@@ -127,62 +183,78 @@ fn keep_all(
     guide: &Guide,
     p: usize,
     kept: &mut Vec<CubeEdge>,
+    signs: &mut Signs,
     row: &mut Vec<CubeEdge>,
 ) -> Result<(), NoMemory>
     requires { kept.old.items ≡ [] }
     ensures { OnOk result (AreKept guide.now p (map edge_of row.old.items) [] (map edge_of kept.new.items)) }
 {
     while let Some(edge) = row.pop() {
-        keep(guide, p, kept, edge)?;
+        keep(guide, p, kept, signs, edge)?;
     }
     Ok(())
 }
 
 // the edges of p, trimmed
-fn trim_row(alloc: Global, guide: &Guide, p: usize, row: &mut Vec<CubeEdge>) -> Result<(), NoMemory>
+fn trim_row(
+    alloc: Global,
+    guide: &Guide,
+    p: usize,
+    signs: &mut Signs,
+    row: &mut Vec<CubeEdge>,
+) -> Result<(), NoMemory>
     ensures { OnOk result (IsTrimmed guide.now p (map edge_of row.old.items) (map edge_of row.new.items)) }
 {
     sort(guide, p, row)?;
+    signs.of_kept.clear();
     let mut kept = Vec::new(alloc);
-    keep_all(guide, p, &mut kept, row)?;
+    keep_all(guide, p, &mut kept, signs, row)?;
     *row = kept;
     Ok(())
 }
 
 // the edges of all states, trimmed
-fn trim_all(alloc: Global, guide: &Guide, rows: &mut Vec<Vec<CubeEdge>>) -> Result<(), NoMemory>
+fn trim_all(
+    alloc: Global,
+    guide: &Guide,
+    signs: &mut Signs,
+    rows: &mut Vec<Vec<CubeEdge>>,
+) -> Result<(), NoMemory>
     ensures { OnOk result (AreTrimmed guide.now (rows_of rows.old.items) (rows_of rows.new.items)) }
 {
     for p in 0..rows.len() {
-        trim_row(alloc, guide, p, &mut rows[p])?;
+        trim_row(alloc, guide, p, signs, &mut rows[p])?;
     }
     Ok(())
 }
 
 // by a guide, if it is right
-fn trim(alloc: Global, rows: &mut Vec<Vec<CubeEdge>>) -> Result<(), NoMemory>
+fn trim(alloc: Global, rows: &mut Vec<Vec<CubeEdge>>, comparisons: u64) -> Result<(), NoMemory>
     ensures { OnOk result (IsTrimming (rows_of rows.old.items) (rows_of rows.new.items)) }
 {
     let guide = guide_of(alloc, rows)?;
     if !guide.guides(rows) {
         return Ok(());
     }
-    trim_all(alloc, &guide, rows)?;
+    let mut signs = Signs::new(alloc, comparisons);
+    trim_all(alloc, &guide, &mut signs, rows)?;
     Ok(())
 }
 
 // An automaton that accepts the same, without edges into states from which nothing is accepted and edges that others cover,
-// all flags set where all loops accept, and each flag off loops that of the states to which the edge leads. The cost is that of
-// sorting the edges of each state, and quadratic in those.
+// all flags set where all loops accept, and each flag off loops that of the states to which the edge leads. An edge is compared
+// with the others of its state as long as so many comparisons are enough. The cost is that of sorting the edges of each state,
+// and of the comparisons.
 pub(crate) fn trimmed(
     alloc: Global,
     automaton: LabelledAutomaton,
+    comparisons: u64,
 ) -> Result<LabelledAutomaton, NoMemory>
     ensures same { IfOk result (λ b. AcceptSame automaton b) }
     ensures props { IfOk result (λ b. b.props ≡ automaton.props) }
     ensures as_many { IfOk result (λ b. length b.edges ≡ length automaton.edges) }
 {
     let (props, mut edges) = automaton.into_parts();
-    trim(alloc, &mut edges)?;
+    trim(alloc, &mut edges, comparisons)?;
     Ok(LabelledAutomaton::new(props, edges))
 }

@@ -3,7 +3,6 @@ use indexmap::IndexSet;
 use ml_arrays::{number, put, small};
 use ml_base::{Name, NoMemory};
 use ml_ctl::{Pairing, Tense, Term};
-use ml_task::Task;
 use ml_text::Operator;
 use std::alloc::Global;
 
@@ -12,7 +11,7 @@ use std::alloc::Global;
 pub(crate) enum Part {
     True,
     False,
-    /// The name at a place of the task's inputs and outputs, or its negation.
+    /// The name at a place, or its negation.
     Literal { name: u32, positive: bool },
     And(u32, u32),
     Or(u32, u32),
@@ -162,6 +161,14 @@ impl Numbers {
     }
 }
 
+/// A formula with the names that it speaks of, in two lists one behind the other.
+#[derive(Clone, Copy)]
+pub(crate) struct Source<'a> {
+    pub first: &'a [Name],
+    pub second: &'a [Name],
+    pub root: &'a Term,
+}
+
 /// The place of a name.
 fn place_in(names: &[Name], name: &Name, before: usize) -> Option<u32> {
     for (place, other) in names.iter().enumerate() {
@@ -172,10 +179,10 @@ fn place_in(names: &[Name], name: &Name, before: usize) -> Option<u32> {
     None
 }
 
-fn place_of(task: &Task, name: &Name) -> u32 {
-    match place_in(&task.inputs, name, 0) {
+fn place_of(source: Source, name: &Name) -> u32 {
+    match place_in(source.first, name, 0) {
         Some(place) => place,
-        None => match place_in(&task.outputs, name, task.inputs.len()) {
+        None => match place_in(source.second, name, source.first.len()) {
             Some(place) => place,
             None => 0,
         },
@@ -184,7 +191,7 @@ fn place_of(task: &Task, name: &Name) -> u32 {
 
 /// The occurrence of a term, whose operands are added to the terms.
 fn read_term<'a>(
-    task: &Task,
+    source: Source<'a>,
     term: &'a Term,
     terms: &mut Vec<&'a Term>,
 ) -> Result<Occurrence, NoMemory> {
@@ -192,7 +199,7 @@ fn read_term<'a>(
     let second = first.saturating_add(1);
     match term {
         Term::Const(value) => Ok(Occurrence::Constant(*value)),
-        Term::Prop(name) => Ok(Occurrence::Name(place_of(task, name))),
+        Term::Prop(name) => Ok(Occurrence::Name(place_of(source, name))),
         Term::Not(operand) => {
             terms.push(operand)?;
             Ok(Occurrence::Not(first))
@@ -218,17 +225,17 @@ fn read_term<'a>(
 
 /// The occurrences of a formula, each before its operands.
 fn gather<'a>(
-    task: &'a Task,
+    source: Source<'a>,
     terms: &mut Vec<&'a Term>,
     occurrences: &mut Vec<Occurrence>,
 ) -> Result<(), NoMemory> {
-    terms.push(task.formula.root())?;
+    terms.push(source.root)?;
     for place in 0..usize::MAX {
         let Some(term) = terms.get(place) else {
             break;
         };
         let term: &'a Term = *term;
-        occurrences.push(read_term(task, term, terms)?)?;
+        occurrences.push(read_term(source, term, terms)?)?;
     }
     Ok(())
 }
@@ -349,26 +356,26 @@ fn add_occurrences(
     Ok(numbers)
 }
 
-/// The formula of a task, or its negation, with all that it is made of, and its number.
+/// A formula, or its negation, with all that it is made of, and its number.
 pub(crate) fn formula_in(
     alloc: Global,
-    task: &Task,
+    source: Source,
     negated: bool,
 ) -> Result<(Formulas, u32), NoMemory> {
     let mut formulas = Formulas::begun(alloc)?;
-    let root = add_formula(alloc, task, negated, &mut formulas)?;
+    let root = add_formula(alloc, source, negated, &mut formulas)?;
     Ok((formulas, root))
 }
 
 fn add_formula(
     alloc: Global,
-    task: &Task,
+    source: Source,
     negated: bool,
     formulas: &mut Formulas,
 ) -> Result<u32, NoMemory> {
     let mut terms = Vec::new(alloc);
     let mut occurrences = Vec::new(alloc);
-    gather(task, &mut terms, &mut occurrences)?;
+    gather(source, &mut terms, &mut occurrences)?;
     let numbers = add_occurrences(alloc, formulas, &occurrences)?;
     Ok(numbers.at(0, negated))
 }

@@ -9,7 +9,8 @@
 //   one; `sets` the automaton whose states are such sets.
 // - `degeneralising` passes the untils in turn, so that runs accept by arcs: letters with the same arcs are one class.
 // - `shrinking`, `lessening` and `simulation` make automata smaller.
-// - `counting` is what comes of all this, and `making` the call.
+// - `counting` is what comes of all this, and `making` has the calls: `add_automata` of a task, and `sets_of_formula` of a
+//   formula alone, for whoever passes the untils in another way.
 //
 // Source: Gastin and Oddoux, Fast LTL to Büchi automata translation (2001); Somenzi and Bloem, Efficient Büchi automata from
 // LTL formulae (2000).
@@ -29,4 +30,5 @@ mod shrinking;
 mod simulation;
 
 pub use counting::{Count, Counting, CountingArc};
-pub use making::{add_automata, letters_of};
+pub use making::{add_automata, letters_of, sets_of_formula};
+pub use sets::{Edge, Sets};

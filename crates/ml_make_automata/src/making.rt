@@ -1,9 +1,10 @@
-// The automata of a task.
+// The automata of a task, and the sets of a formula.
 use crate::counting::{Counting, counting_of};
 use crate::degeneralising::{Pace, automaton_of};
-use crate::formulas::{Formulas, formula_in};
+use crate::formulas::{Formulas, Source, formula_in};
 use crate::sets::{Sets, sets_of};
-use ml_base::NoMemory;
+use ml_base::{Name, NoMemory};
+use ml_ltl::Formula;
 use ml_task::Task;
 use std::alloc::Global;
 
@@ -69,6 +70,38 @@ pub fn add_automata(
     automata: &mut Vec<Counting>,
 ) -> Result<(), NoMemory> {
     let letters = letters_of(task.inputs.len().saturating_add(task.outputs.len()));
-    let (formulas, root) = formula_in(alloc, task, negated)?;
+    let source = Source {
+        first: &task.inputs,
+        second: &task.outputs,
+        root: task.formula.root(),
+    };
+    let (formulas, root) = formula_in(alloc, source, negated)?;
     add_formula(alloc, &formulas, root, letters, automata)
+}
+
+/// How many names a formula may have whose sets are made.
+const MOST_NAMES: usize = 32;
+
+/// The sets of a formula that speaks of these names, as an automaton before its untils are passed in turn: the formula's own
+/// set is the first, and literals go by the places of their names. `None` where they would be too many, or the names are.
+///
+/// # Errors
+/// `NoMemory` alone.
+///
+/// Cost: at most some hundred million steps, whatever the formula.
+pub fn sets_of_formula(
+    alloc: Global,
+    names: &[Name],
+    formula: &Formula,
+) -> Result<Option<Sets>, NoMemory> {
+    if names.len() > MOST_NAMES {
+        return Ok(None);
+    }
+    let source = Source {
+        first: names,
+        second: &[],
+        root: formula.root(),
+    };
+    let (formulas, root) = formula_in(alloc, source, false)?;
+    sets_of(alloc, &formulas, root)
 }

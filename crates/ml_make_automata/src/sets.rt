@@ -15,7 +15,7 @@ const MOST_UNTILS: u32 = 64;
 
 /// An edge of a set.
 #[derive(Clone, Copy, PartialEq, Eq)]
-pub(crate) struct Edge {
+pub struct Edge {
     /// The names that are to be true, and those that are to be false.
     pub yes: u32,
     pub no: u32,
@@ -26,7 +26,7 @@ pub(crate) struct Edge {
 
 /// The edges of all sets, that of the formula being the first.
 #[derive(Drop)]
-pub(crate) struct Sets {
+pub struct Sets {
     pub edges: Vec<Vec<Edge>>,
     /// How many untils are put off.
     pub untils: u32,
@@ -34,7 +34,7 @@ pub(crate) struct Sets {
 
 impl Sets {
     /// Does an edge without a condition lead from a set to itself, by which no until is put off?
-    pub(crate) fn is_free(&self, set: u32) -> bool {
+    pub fn is_free(&self, set: u32) -> bool {
         let Some(edges) = self.edges.get(set as usize) else {
             return false;
         };

@@ -37,12 +37,24 @@ fn told(alloc: Global, command: Command, input: &[u8], said: Said) -> Result<Str
     }
 }
 
-const ROWS: [(Command, &[u8], Said, &str); 30] = [
+const ROWS: [(Command, &[u8], Said, &str); 32] = [
     (
         Command::Show,
         b"mlsolver 2\nanswer undecided\nlogic mu\nsense plain\nformula p\ncause position 5\nend\n",
         Said::RefusedDocument(DocFault { line: 6, rule: 11 }),
         "line 6: `cause position 5`: expected: `cause positions` and a number, or `cause closure 4096`; then `end` and nothing behind it",
+    ),
+    (
+        Command::Show,
+        b"mlsolver realize 1\nanswer undecided\ninputs r\noutputs g\nformula r\ncause position 5\nend\n",
+        Said::RefusedDocument(DocFault { line: 6, rule: 11 }),
+        "line 6: `cause position 5`: expected: `cause positions` and a number, or `cause closure 4096`; then `end` and nothing behind it",
+    ),
+    (
+        Command::Show,
+        b"mlsolver realize 1\nanswer undecided\ninputs r\n",
+        Said::RefusedDocument(DocFault { line: 4, rule: 41 }),
+        "line 4 is missing, or has no line end: expected: `outputs` and names, with one blank in front of each",
     ),
     (
         Command::Show,
@@ -186,7 +198,7 @@ const ROWS: [(Command, &[u8], Said, &str); 30] = [
             column: 11,
             rule: SpecRule::NoColon,
         },
-        "line 2, column 11: a colon belongs here, between the name and the formula",
+        "line 2, column 11: a colon belongs here, behind the name",
     ),
     (
         ASK,

@@ -1,8 +1,9 @@
 // Where documents and tasks are at fault, and of which formula they speak.
 
 use crate::formulas::{formula_fault, refusal_of};
+use crate::grammar::Grammar;
 use crate::names::unknown_name;
-use crate::rules::{Shape, of_acceptance, of_document};
+use crate::rules::{Shape, is_of_task, of_acceptance, of_document};
 use crate::shown::{behind, cut, last_line, line_of, shown};
 use ml_front::Logic;
 use std::alloc::{AllocError, Global};
@@ -44,8 +45,12 @@ pub(crate) fn document_fault(
 fn line_read(shape: Shape, input: &[u8], line: usize) -> Option<&[u8]> {
     match shape {
         Shape::Task => line_of(input, line).or(last_line(input, line)),
-        Shape::Model | Shape::Refutation | Shape::Undecided | Shape::Machine | Shape::Answers =>
-            line_of(input, line),
+        Shape::Model
+        | Shape::Refutation
+        | Shape::Undecided
+        | Shape::UndecidedTask
+        | Shape::Machine
+        | Shape::Answers => line_of(input, line),
     }
 }
 
@@ -56,17 +61,18 @@ fn unknown_fault(alloc: Global, line: usize, name: &[u8]) -> Result<String, Allo
     )
 }
 
-// the three lines of a task come behind two others in the document of a machine
+// the three lines of a task come behind two others in a document
 fn kind_of_line(shape: Shape, line: usize) -> usize {
-    match shape {
-        Shape::Machine if line > 2 => line.saturating_sub(2),
-        _ => line,
+    if is_of_task(shape) && line > 2 {
+        line.saturating_sub(2)
+    } else {
+        line
     }
 }
 
 fn logic_of(shape: Shape, input: &[u8]) -> Logic {
     match shape {
-        Shape::Task | Shape::Machine => Logic::Ltl,
+        Shape::Task | Shape::Machine | Shape::UndecidedTask => Logic::Ltl,
         Shape::Model | Shape::Refutation | Shape::Undecided | Shape::Answers => {
             told_logic(input).unwrap_or(Logic::Mu)
         }
@@ -87,7 +93,7 @@ fn formula_line_fault(
     let Some((rule, at)) = refusal_of(alloc, logic, formula)? else {
         return format!(in alloc; "line {line}: the formula is refused");
     };
-    let cause = formula_fault(alloc, logic, formula, rule, at)?;
+    let cause = formula_fault(alloc, Grammar::of_commands(logic), formula, rule, at)?;
     let column = at.saturating_add(9);
     format!(in alloc; "line {line}, column {column}: {cause}")
 }

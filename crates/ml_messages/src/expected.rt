@@ -2,8 +2,9 @@
 //
 // A token may follow if the parser doesn't refuse the text with it at its place. So nothing is known here of any grammar.
 
+use crate::grammar::Grammar;
 use ml_base::ParseRefusal;
-use ml_front::{Logic, read};
+use ml_front::Logic;
 use std::alloc::{AllocError, Global};
 
 /// A token that is tried, and what is told where it may follow.
@@ -159,29 +160,51 @@ const QUANTIFIERS: [Candidate; 2] = [
     },
 ];
 
+const BOUNDS: [Candidate; 4] = [
+    Candidate {
+        token: b"[",
+        told: "`[`",
+    },
+    Candidate {
+        token: b"999",
+        told: "a number",
+    },
+    Candidate {
+        token: b":",
+        told: "`:`",
+    },
+    Candidate {
+        token: b"]",
+        told: "`]`",
+    },
+];
+
 /// What may follow the front, told one after the other; nothing where the token that was found there seems to be one of it.
 pub(crate) fn expected(
     alloc: Global,
-    logic: Logic,
+    grammar: Grammar,
     front: &[u8],
     found: &[u8],
 ) -> Result<String, AllocError> {
     let mut list = String::new(alloc);
-    if !found.is_empty() && may_follow(alloc, logic, front, found)? {
+    if !found.is_empty() && may_follow(alloc, grammar, front, found)? {
         return Ok(list);
     }
-    add_names(alloc, logic, front, &mut list)?;
-    add_all(alloc, logic, front, &ALL, &mut list)?;
-    match logic {
-        Logic::Mu => add_all(alloc, logic, front, &MU, &mut list)?,
-        Logic::Pdl => add_all(alloc, logic, front, &PDL, &mut list)?,
+    add_names(alloc, grammar, front, &mut list)?;
+    add_all(alloc, grammar, front, &ALL, &mut list)?;
+    match grammar.logic {
+        Logic::Mu => add_all(alloc, grammar, front, &MU, &mut list)?,
+        Logic::Pdl => add_all(alloc, grammar, front, &PDL, &mut list)?,
         Logic::Ctl => {
-            add_all(alloc, logic, front, &QUANTIFIERS, &mut list)?;
-            add_all(alloc, logic, front, &PATHS, &mut list)?;
+            add_all(alloc, grammar, front, &QUANTIFIERS, &mut list)?;
+            add_all(alloc, grammar, front, &PATHS, &mut list)?;
         }
-        Logic::Ltl | Logic::Word => add_all(alloc, logic, front, &PATHS, &mut list)?,
+        Logic::Ltl | Logic::Word => add_all(alloc, grammar, front, &PATHS, &mut list)?,
     }
-    if is_whole(alloc, logic, front)? {
+    if grammar.has_bounds() {
+        add_all(alloc, grammar, front, &BOUNDS, &mut list)?;
+    }
+    if is_whole(alloc, grammar, front)? {
         add(&mut list, "the end of the formula")?;
     }
     Ok(list)
@@ -190,17 +213,17 @@ pub(crate) fn expected(
 // words: where `_` may follow, they are actions
 fn add_names(
     alloc: Global,
-    logic: Logic,
+    grammar: Grammar,
     front: &[u8],
     list: &mut String,
 ) -> Result<(), AllocError> {
-    if may_follow(alloc, logic, front, b"_")? {
+    if may_follow(alloc, grammar, front, b"_")? {
         return add(list, "an action");
     }
-    if may_be_proposition(alloc, logic, front)? {
+    if may_be_proposition(alloc, grammar, front)? {
         add(list, "a proposition")?;
     }
-    if matches!(logic, Logic::Mu) && may_follow(alloc, logic, front, b"X")? {
+    if matches!(grammar.logic, Logic::Mu) && may_follow(alloc, grammar, front, b"X")? {
         add(list, "a variable")?;
     }
     Ok(())
@@ -209,10 +232,10 @@ fn add_names(
 /// May a proposition follow the front?
 pub(crate) fn may_be_proposition(
     alloc: Global,
-    logic: Logic,
+    grammar: Grammar,
     front: &[u8],
 ) -> Result<bool, AllocError> {
-    may_follow(alloc, logic, front, b"p")
+    may_follow(alloc, grammar, front, b"p")
 }
 
 fn add(list: &mut String, told: &str) -> Result<(), AllocError> {
@@ -225,13 +248,13 @@ fn add(list: &mut String, told: &str) -> Result<(), AllocError> {
 
 fn add_all(
     alloc: Global,
-    logic: Logic,
+    grammar: Grammar,
     front: &[u8],
     candidates: &[Candidate],
     list: &mut String,
 ) -> Result<(), AllocError> {
     for candidate in candidates {
-        if may_follow(alloc, logic, front, candidate.token)? {
+        if may_follow(alloc, grammar, front, candidate.token)? {
             add(list, candidate.told)?;
         }
     }
@@ -239,22 +262,27 @@ fn add_all(
 }
 
 // a blank keeps the token apart from the one before it
-fn may_follow(alloc: Global, logic: Logic, front: &[u8], token: &[u8]) -> Result<bool, AllocError> {
+fn may_follow(
+    alloc: Global,
+    grammar: Grammar,
+    front: &[u8],
+    token: &[u8],
+) -> Result<bool, AllocError> {
     let mut text = Vec::new(alloc);
     text.extend_from_slice(front)?;
     text.push(b' ')?;
     text.extend_from_slice(token)?;
-    match read(alloc, logic, &text) {
-        Err(ParseRefusal::Syntax { at }) => Ok(at > front.len() as u64 + 1),
-        Err(ParseRefusal::NoMemory) => Err(AllocError),
+    match grammar.refusal(alloc, &text) {
+        Some(ParseRefusal::Syntax { at }) => Ok(at > front.len() as u64 + 1),
+        Some(ParseRefusal::NoMemory) => Err(AllocError),
         _ => Ok(true),
     }
 }
 
-fn is_whole(alloc: Global, logic: Logic, front: &[u8]) -> Result<bool, AllocError> {
-    match read(alloc, logic, front) {
-        Err(ParseRefusal::Syntax { .. }) => Ok(false),
-        Err(ParseRefusal::NoMemory) => Err(AllocError),
+fn is_whole(alloc: Global, grammar: Grammar, front: &[u8]) -> Result<bool, AllocError> {
+    match grammar.refusal(alloc, front) {
+        Some(ParseRefusal::Syntax { .. }) => Ok(false),
+        Some(ParseRefusal::NoMemory) => Err(AllocError),
         _ => Ok(true),
     }
 }

@@ -3,12 +3,13 @@
 use crate::answers::{open_answer, wrong_answer};
 use crate::documents::{checked_problem, document_fault, rejection};
 use crate::formulas::formula_fault;
+use crate::grammar::Grammar;
 use crate::requirements::requirements_fault;
 use crate::rules::{Shape, of_automaton, of_game, of_solution};
 use crate::shown::{shown, token};
 use ml_driver::{Command, Said, TextKind};
 use ml_front::{Answer, Logic};
-use ml_show_text::{Kind, kind_of};
+use ml_show_text::{Kind, ReadAs, read_as};
 use ml_spec::line_and_column;
 use std::alloc::{AllocError, Global};
 
@@ -75,7 +76,8 @@ fn text_fault(
 ) -> Result<String, AllocError> {
     match kind {
         TextKind::Formula => {
-            let cause = formula_fault(alloc, logic_of(command), input, rule, at)?;
+            let grammar = Grammar::of_commands(logic_of(command));
+            let cause = formula_fault(alloc, grammar, input, rule, at)?;
             placed(alloc, input, at, &cause)
         }
         TextKind::Game => token_fault(alloc, input, at, of_game(rule)),
@@ -97,7 +99,7 @@ fn logic_of(command: Command) -> Logic {
 // what the command reads whose document is refused
 fn shape_of(command: Command, input: &[u8]) -> Shape {
     match command {
-        Command::Show => shape_shown(kind_of(input)),
+        Command::Show => shape_shown(read_as(input)),
         Command::CheckRefutation | Command::Migrate => Shape::Refutation,
         Command::Realize { .. } | Command::Make { .. } => Shape::Task,
         Command::CheckMachine => Shape::Machine,
@@ -106,12 +108,14 @@ fn shape_of(command: Command, input: &[u8]) -> Shape {
     }
 }
 
-fn shape_shown(kind: Kind) -> Shape {
-    match kind {
-        Kind::Realizability => Shape::Machine,
-        Kind::Decision(Answer::Satisfiable) => Shape::Model,
-        Kind::Decision(Answer::Unsatisfiable) => Shape::Refutation,
-        Kind::Decision(Answer::Undecided) => Shape::Undecided,
+fn shape_shown(read_as: ReadAs) -> Shape {
+    match read_as {
+        ReadAs::Answers => Shape::Answers,
+        ReadAs::Document(Kind::Realizability) => Shape::Machine,
+        ReadAs::Document(Kind::UndecidedTask) => Shape::UndecidedTask,
+        ReadAs::Document(Kind::Decision(Answer::Satisfiable)) => Shape::Model,
+        ReadAs::Document(Kind::Decision(Answer::Unsatisfiable)) => Shape::Refutation,
+        ReadAs::Document(Kind::Decision(Answer::Undecided)) => Shape::Undecided,
     }
 }
 

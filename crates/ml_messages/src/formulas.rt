@@ -1,10 +1,11 @@
 // Why the text of a formula is refused.
 
 use crate::expected::{expected, may_be_proposition};
+use crate::grammar::Grammar;
 use crate::hints::{LOWER_CASE, hint, is_capitalised};
 use crate::shown::{shown, token};
 use ml_base::ParseRefusal;
-use ml_front::{Logic, read};
+use ml_front::Logic;
 use std::alloc::{AllocError, Global};
 
 /// Past so many bytes it isn't told what may follow.
@@ -13,7 +14,7 @@ const LONGEST_FRONT: usize = 20_000;
 /// Why the text is refused by this rule at this byte, without the place.
 pub(crate) fn formula_fault(
     alloc: Global,
-    logic: Logic,
+    grammar: Grammar,
     text: &[u8],
     rule: u32,
     at: usize,
@@ -22,10 +23,13 @@ pub(crate) fn formula_fault(
         Some(parts) => parts,
         None => (text, text.get(text.len()..).unwrap_or(text)),
     };
-    let found = token(rest, matches!(logic, Logic::Ctl | Logic::Ltl | Logic::Word));
+    let found = token(
+        rest,
+        matches!(grammar.logic, Logic::Ctl | Logic::Ltl | Logic::Word),
+    );
     let name = shown(alloc, found)?;
     match rule {
-        1 => syntax_fault(alloc, logic, front, rest, found),
+        1 => syntax_fault(alloc, grammar, front, rest, found),
         2 => {
             let cause = format!(in alloc; "the variable {name} has no `mu` or `nu` around it")?;
             let note = if is_capitalised(rest) { LOWER_CASE } else { "" };
@@ -45,7 +49,7 @@ pub(crate) fn formula_fault(
 
 fn syntax_fault(
     alloc: Global,
-    logic: Logic,
+    grammar: Grammar,
     front: &[u8],
     rest: &[u8],
     found: &[u8],
@@ -59,8 +63,13 @@ fn syntax_fault(
     if front.len() > LONGEST_FRONT {
         return Ok(cause);
     }
-    let list = expected(alloc, logic, front, found)?;
-    let note = hint(logic, front, rest, may_be_proposition(alloc, logic, front)?);
+    let list = expected(alloc, grammar, front, found)?;
+    let note = hint(
+        grammar,
+        front,
+        rest,
+        may_be_proposition(alloc, grammar, front)?,
+    );
     let cause = if list.is_empty() {
         cause
     } else {
@@ -83,7 +92,7 @@ pub(crate) fn refusal_of(
     logic: Logic,
     text: &[u8],
 ) -> Result<Option<(u32, usize)>, AllocError> {
-    let Err(refusal) = read(alloc, logic, text) else {
+    let Some(refusal) = Grammar::of_commands(logic).refusal(alloc, text) else {
         return Ok(None);
     };
     Ok(Some(match refusal {

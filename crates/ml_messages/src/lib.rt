@@ -5,11 +5,13 @@
 // and what its rule asks; and, where a document is checked, which formula it speaks of. `words_fault` takes words that are no
 // command, and tells which of them is at fault.
 //
+// `warnings` tells, beside an answer, which propositions of a file of requirements stand in one formula alone.
+//
 // No contract speaks of these sentences. The output and the status of a call are those of `ml_driver::run`, whatever is told
 // here.
 //
-// Below stand `ml_driver`, for commands and what is said of them; `ml_front`, whose parsers say what may follow; and
-// `ml_spec`, for lines and columns. Above stands the program.
+// Below stand `ml_driver`, for commands and what is said of them; `ml_front` and `ml_written`, whose parsers say what may
+// follow; and `ml_spec`, for lines and columns. Above stands the program.
 #![tactic(auto)]
 
 mod answers;
@@ -17,7 +19,9 @@ mod documents;
 mod expected;
 mod explaining;
 mod formulas;
+mod grammar;
 mod hints;
+mod lone;
 mod names;
 mod requirements;
 mod rules;
@@ -25,4 +29,5 @@ mod shown;
 mod words;
 
 pub use explaining::explanation;
+pub use lone::warnings;
 pub use words::words_fault;

@@ -1,11 +1,12 @@
 // Where files of requirements are at fault.
 
 use crate::formulas::formula_fault;
+use crate::grammar::Grammar;
 use crate::rules::of_requirements;
-use crate::shown::{last_line, line_of};
+use crate::shown::{last_line, line_of, shown};
 use ml_front::Logic;
 use ml_lines::split_line;
-use ml_spec::{behind_colon, kind_named, next_item, split_name, split_word, uncommented};
+use ml_spec::{behind_colon, item_kind_named, next_item, split_name, split_word, uncommented};
 use std::alloc::{AllocError, Global};
 
 /// The last rule of formulas.
@@ -16,6 +17,13 @@ const FIRST_ITEM: u32 = 61;
 
 /// The last rule of what stands in front of a formula.
 const LAST_OF_HEADS: u32 = 64;
+
+/// The rules of names, values and propositions that are or aren't declared.
+const NAME_TAKEN: u32 = 65;
+
+const UNDECLARED: u32 = 68;
+
+const DEFINED_LATE: u32 = 69;
 
 /// Why a file of requirements is refused by this rule at this line and column.
 pub(crate) fn requirements_fault(
@@ -37,7 +45,7 @@ fn requirements_cause(
     rule: u32,
 ) -> Result<String, AllocError> {
     if rule > LAST_OF_HEADS {
-        return String::from_str(alloc, of_requirements(rule));
+        return name_cause(alloc, input, line, column, rule);
     }
     let text = uncommented(alloc, input).map_err(|_| AllocError)?;
     if let Some(indented) = indented_item(&text, line, rule) {
@@ -47,10 +55,38 @@ fn requirements_cause(
     }
     if rule <= LAST_OF_FORMULAS {
         if let Some(place) = place_in_formula(&text, line, column) {
-            return formula_fault(alloc, place.logic, place.formula, rule, place.at);
+            let grammar = Grammar::of_files(place.logic);
+            return formula_fault(alloc, grammar, place.formula, rule, place.at);
         }
     }
     String::from_str(alloc, of_requirements(rule))
+}
+
+// The cause that a name is: of a rule on what is declared, or on how many items there are, which names none.
+fn name_cause(
+    alloc: Global,
+    input: &[u8],
+    line: usize,
+    column: usize,
+    rule: u32,
+) -> Result<String, AllocError> {
+    let cause = of_requirements(rule);
+    let is_of_name = matches!(rule, NAME_TAKEN | UNDECLARED | DEFINED_LATE);
+    match name_at(input, line, column) {
+        Some(name) if is_of_name => {
+            let name = shown(alloc, name)?;
+            format!(in alloc; "{name} {cause}")
+        }
+        _ => String::from_str(alloc, cause),
+    }
+}
+
+// the word that begins in this column
+fn name_at(input: &[u8], line: usize, column: usize) -> Option<&[u8]> {
+    let line = line_of(input, line).or(last_line(input, line))?;
+    let rest = line.get(column.checked_sub(1)?..)?;
+    let (name, _) = split_name(rest);
+    if name.is_empty() { None } else { Some(name) }
 }
 
 // The line that looks like an item, but for the blanks in front of it: that of the fault, or the one behind it, where the first
@@ -66,7 +102,8 @@ fn indented_item(text: &[u8], line: usize, rule: u32) -> Option<usize> {
     None
 }
 
-// does the line begin with blanks, and then with a kind, a name and a colon, or with `logic` and the word of a logic?
+// Does the line begin with blanks, and then with a kind, a name and a colon, with `signals`, or with `logic` and the word of a
+// logic?
 fn looks_like_item(text: &[u8], line: usize) -> bool {
     let Some(line) = line_of(text, line).or(last_line(text, line)) else {
         return false;
@@ -80,7 +117,10 @@ fn looks_like_item(text: &[u8], line: usize) -> bool {
         return Logic::named(behind_word).is_some();
     }
     let (_, behind_name) = split_name(behind_word);
-    kind_named(word).is_some() && behind_colon(behind_name).is_some()
+    match item_kind_named(word) {
+        Some(kind) => !kind.takes_name() || behind_colon(behind_name).is_some(),
+        None => false,
+    }
 }
 
 /// A byte of the formula of an item.

@@ -11,6 +11,8 @@ pub(crate) enum Shape {
     Refutation,
     /// A document of a problem that stays undecided.
     Undecided,
+    /// A document of a task that stays undecided.
+    UndecidedTask,
     /// A task.
     Task,
     /// A machine or an environment.
@@ -63,22 +65,32 @@ const NO_ANSWERS: &str =
 pub(crate) fn of_requirements(rule: u32) -> &'static str {
     match rule {
         61 =>
-            "the first item has to be `logic` and one of `mu`, `pdl`, `ctl`, `ltl` and `word`, at the front of a line",
+            "the first item has to be `logic` and one of `mu`, `pdl`, `ctl`, `ltl` and `word`, at the front of a line; where it stands again, it names the same logic",
         62 =>
-            "an item begins with `require`, `possible` or `follows`; a line that continues an item begins with a blank",
+            "an item begins with `require`, `possible`, `follows`, `signals`, `enum` or `define`, and an `enum` stands in `ctl`, `ltl` and `word` alone; a line that continues an item begins with a blank",
         63 =>
-            "a name belongs here: a letter, and then letters, digits, `_`, `-` and `.`, at most 64 bytes in all",
-        64 => "a colon belongs here, between the name and the formula",
-        65 => "an earlier item has this name",
+            "a name belongs here: that of a requirement or question is a letter, and then letters, digits, `_`, `-` and `.`; signals and the names of `enum` and `define` are propositions, and an `enum` has two values at least; each has at most 64 bytes",
+        64 => "a colon belongs here, behind the name",
+        65 => "is a name that an earlier item has, or a proposition that is declared before",
+        67 =>
+            "with definitions and bounds written out, the formula has more than 1,000 occurrences of operators and names",
+        68 =>
+            "isn't declared: where a file has `signals`, each proposition is declared before, by `signals`, `enum` or `define`",
+        69 => "stands in a formula before its definition ends; a definition comes first",
         71 => NO_ANSWERS,
-        _ => "this is the 4,097th requirement or question, and a file has at most 4,096",
+        _ => "this is the 4,097th item behind the first, and a file has at most 4,096",
     }
+}
+
+// do the lines of a task stand behind a title and an answer?
+pub(crate) fn is_of_task(shape: Shape) -> bool {
+    matches!(shape, Shape::Machine | Shape::UndecidedTask)
 }
 
 /// How a line of a document or a task breaks the rule.
 pub(crate) fn of_document(shape: Shape, line: usize, rule: u32) -> &'static str {
     match rule {
-        1 | 3 if shape == Shape::Machine => of_realized(line, rule),
+        1 | 3 if is_of_task(shape) => of_realized(line, rule),
         1 => of_head(line),
         2 | 45 => "the formula is refused",
         3 => match shape {
@@ -87,7 +99,7 @@ pub(crate) fn of_document(shape: Shape, line: usize, rule: u32) -> &'static str 
         },
         4 =>
             "`path` reads any formula in `ltl` and `word`, and in `ctl` `E f` or `A f` where f has no `E` and no `A`",
-        11 if shape == Shape::Undecided =>
+        11 if matches!(shape, Shape::Undecided | Shape::UndecidedTask) =>
             "expected: `cause positions` and a number, or `cause closure 4096`; then `end` and nothing behind it",
         11 if shape == Shape::Answers =>
             "expected: `states` and a number, `start` and a number, a `state` line for each state, then `edge` lines with a state, an action and a state, then `end`",

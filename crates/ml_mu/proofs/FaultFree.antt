@@ -160,7 +160,7 @@ iff_well bs n i f g around w =
 abbrev binder_at : List ℕ → ℕ → ℕ → Around
 binder_at y n i = record { name = y; negations = n; iffs = i }
 
-other_name : (y x : List ℕ) → bytes_eq y x ≡ false → bytes_eq x y ≡ false
+pub other_name : (y x : List ℕ) → bytes_eq y x ≡ false → bytes_eq x y ≡ false
 other_name y x other =
     ⊎_elim
     (λ (same : bytes_eq x y ≡ true).

@@ -23,6 +23,7 @@ use Rattle.ml_mu.specs.Signs.{own}
 use Rattle.ml_mu.specs.Variables.{is_bound, is_positive, occurs_only}
 use Rattle.ml_mu.specs.WellFormed.{IsWellFormed}
 use Rattle.ml_mu.specs.private.AsSound.{IsAsSound}
+use Rattle.ml_mu.proofs.FaultFree.{other_name}
 
 -- ---- closed formulas
 
@@ -51,14 +52,6 @@ bound_among xs ys (Binder q x f) more bound =
 
 closed_bound : (ys : List (List ℕ)) (f : Formula) → is_bound [] f ≡ true → is_bound ys f ≡ true
 closed_bound ys f bound = bound_among [] ys f (λ x none. absurd (cc)) bound
-
-other_name : (x y : List ℕ) → bytes_eq x y ≡ false → bytes_eq y x ≡ false
-other_name x y other =
-    ⊎_elim
-    (λ (same : bytes_eq y x ≡ true).
-    let back = (bytes_eq-Decides x y).1 (sym ((bytes_eq-Decides y x).0 same)) in absurd (cc))
-    (λ (is : bytes_eq y x ≡ false). is)
-    (cases_Bool (bytes_eq y x))
 
 -- a bound variable is none that doesn't bind
 not_among : (xs : List (List ℕ)) (x y : List ℕ)

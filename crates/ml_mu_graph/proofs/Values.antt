@@ -8,10 +8,11 @@ use Rattle.std.specs.List.{list_any, list_all}
 use Rattle.std.specs.Str.{bytes_eq}
 use Rattle.std.proofs.lemmas.Bool.{false≢true, and_parts, and_from}
 use Rattle.ml_lists.specs.Member.{IsMember}
-use Rattle.ml_lists.proofs.Member.{member-map, member-map_from, member-filter, member-filter_from, list_any-member, member-list_any, All-member}
+use Rattle.ml_lists.proofs.Member.{member-map, member-map_from, member-filter, member-filter_from, list_any-member, member-list_any}
 use Rattle.ml_lists.proofs.Members.{member_of_contains, contains_of_member}
 use Rattle.ml_lists.proofs.Says.{Says, says_by, both_say, either_says}
 use Rattle.ml_base.specs.declared.structure.Edge.{Edge}
+use Rattle.ml_base.proofs.Edges.{target_within}
 use Rattle.ml_base.specs.Structure.{Structure, IsStructure, lists}
 use Rattle.ml_graph.specs.Graph.{Graph, IsGraph, size, node_at, prop_at, action_at}
 use Rattle.ml_graph.specs.CheckingGame.{HoldsAt, targets}
@@ -81,9 +82,6 @@ module _ (g : Graph) (m : Structure) (g_ok : IsGraph g) (m_ok : IsStructure m) (
       one : HoldsAt g m s n ↔ ((t : ℕ) × Contains (targets m s name) t × HoldsAt g m t to)
       one = subst (λ p. HoldsAt g m s n ↔ ((t : ℕ) × Contains (targets m s p) t × HoldsAt g m t to)) named (step (node.Diamond a to) is)
 
-      target_low : (e : Edge) → IsMember e m.edges → e.target < m.states
-      target_low e h = (All-member (λ e. (e.source < m.states) × (e.target < m.states)) m.edges m_ok.joins_states e h).1
-
       there : HoldsAt g m s n → list_any (λ e. (e.source == s) && bytes_eq e.action name && val e.target) m.edges ≡ true
       there h =
           let some = one.0 h in
@@ -91,7 +89,7 @@ module _ (g : Graph) (m : Structure) (g_ok : IsGraph g) (m_ok : IsStructure m) (
           let kept = member-filter_from (leaves s name) image.from m.edges image.member in
           let holds = subst (λ t. HoldsAt g m t to) image.holds some.2 in
           member-list_any (λ e. (e.source == s) && bytes_eq e.action name && val e.target) image.from m.edges kept.0
-          (and_from (leaves s name image.from) (val image.from.target) kept.1 ((each image.from.target (target_low image.from kept.0)).0 holds))
+          (and_from (leaves s name image.from) (val image.from.target) kept.1 ((each image.from.target (target_within m m_ok image.from kept.0)).0 holds))
 
       back : list_any (λ e. (e.source == s) && bytes_eq e.action name && val e.target) m.edges ≡ true → HoldsAt g m s n
       back e =
@@ -100,7 +98,7 @@ module _ (g : Graph) (m : Structure) (g_ok : IsGraph g) (m_ok : IsStructure m) (
           one.1 (
             some.item.target,
             contains_of_member some.item.target (targets m s name) (member-map (λ e. e.target) some.item _ (member-filter (leaves s name) some.item m.edges some.member parts.0)),
-            (each some.item.target (target_low some.item some.member)).1 parts.1,
+            (each some.item.target (target_within m m_ok some.item some.member)).1 parts.1,
           )
 
   pub says_square : (a to : ℕ) (name : List ℕ) (val : ℕ → Bool) → node_at g n ≡ node.Square a to → action_at g a ≡ name
@@ -111,14 +109,11 @@ module _ (g : Graph) (m : Structure) (g_ok : IsGraph g) (m_ok : IsStructure m) (
       one : HoldsAt g m s n ↔ ((t : ℕ) → Contains (targets m s name) t → HoldsAt g m t to)
       one = subst (λ p. HoldsAt g m s n ↔ ((t : ℕ) → Contains (targets m s p) t → HoldsAt g m t to)) named (step (node.Square a to) is)
 
-      target_low : (e : Edge) → IsMember e m.edges → e.target < m.states
-      target_low e h = (All-member (λ e. (e.source < m.states) × (e.target < m.states)) m.edges m_ok.joins_states e h).1
-
       there : HoldsAt g m s n → list_all (λ e. not ((e.source == s) && bytes_eq e.action name) || val e.target) m.edges ≡ true
       there h =
           pass_all (λ e. not ((e.source == s) && bytes_eq e.action name) || val e.target) m.edges
           (λ e inside. not_or (leaves s name e) (val e.target)
-          (λ leaving. (each e.target (target_low e inside)).0
+          (λ leaving. (each e.target (target_within m m_ok e inside)).0
           (one.0 h e.target (contains_of_member e.target (targets m s name) (member-map (λ d. d.target) e _ (member-filter (leaves s name) e m.edges inside leaving))))))
 
       back : list_all (λ e. not ((e.source == s) && bytes_eq e.action name) || val e.target) m.edges ≡ true → HoldsAt g m s n
@@ -127,4 +122,4 @@ module _ (g : Graph) (m : Structure) (g_ok : IsGraph g) (m_ok : IsStructure m) (
           let image = member-map_from (λ d. d.target) t _ (member_of_contains t (targets m s name) inside) in
           let kept = member-filter_from (leaves s name) image.from m.edges image.member in
           let passes = all_pass (λ d. not ((d.source == s) && bytes_eq d.action name) || val d.target) m.edges e image.from kept.0 in
-          subst (λ x. HoldsAt g m x to) (sym image.holds) ((each image.from.target (target_low image.from kept.0)).1 (or_not (leaves s name image.from) (val image.from.target) passes kept.1)))
+          subst (λ x. HoldsAt g m x to) (sym image.holds) ((each image.from.target (target_within m m_ok image.from kept.0)).1 (or_not (leaves s name image.from) (val image.from.target) passes kept.1)))

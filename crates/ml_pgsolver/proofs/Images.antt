@@ -1,6 +1,7 @@
 -- What the reader knows of what was read, and what it makes of an id, of a successor and of other tokens.
 --
 --   image p           == what the reader knows of what was read
+--   IsSmall t         == a number in the token t isn't too large
 --   Passes p t        == the token t keeps the limits, and repeats no id
 --   Came p t q at out == what the reader makes of a token with which q is read
 --   id_came, successor_came, number_came, quiet  == of an id, of a successor, of another number, of another token
@@ -60,11 +61,14 @@ image p = record {
   count = length (successors_in p);
 }
 
+abbrev pub IsSmall : Token → Type 0
+IsSmall t = (digits : List ℕ) → t ≡ Number digits → value digits ≤ greatest_number
+
 pub record Passes (p : Progress) (t : Token) : Type 0 where
   pub fresh : (n : ℕ) → id_here p t ≡ n ∷ [] → IsMember n (ids_in p) → ⊥
   pub id_room : (n : ℕ) → id_here p t ≡ n ∷ [] → length (ids_in p) < most_vertices
   pub successor_room : (n : ℕ) → successor_here p t ≡ n ∷ [] → length (successors_in p) < most_successors
-  pub small : (digits : List ℕ) → t ≡ Number digits → value digits ≤ greatest_number
+  pub small : IsSmall t
 
 pub data Came (p : Progress) (t : Token) (q : Progress) (at : ℕ) (out : Step) : Type 0 where
   goes : out ≡ Ok (image q) → Passes p t → Came p t q at out

@@ -25,7 +25,7 @@ use Rattle.ml_pgsolver.specs.declared.refusal.GameTextRefusal.TheVariants as ref
 use Rattle.ml_pgsolver.specs.private.EntryMachine.{EntryState, EntryStep, entry_step, led_to, with_value, with_vertex, with_winner}
 use Rattle.ml_pgsolver.specs.private.Machine.{is_among}
 use Rattle.ml_pgsolver.specs.private.Signs.{fitting, owner_named, sign_of}
-use Rattle.ml_pgsolver.proofs.Images.{among-cases, fitting-cases, full-cases}
+use Rattle.ml_pgsolver.proofs.Images.{among-cases, fitting-cases, full-cases, IsSmall}
 use Rattle.ml_pgsolver.proofs.SolutionTrees.{Body, Close, HeaderEnd, Move, Piece, Reading, Vertex, Winner, Word, entry_of, grow, turned, won}
 use Rattle.ml_pgsolver.proofs.Trees.{owner_named-is}
 use Rattle.ml_pgsolver.proofs.Comings.{owner_small}
@@ -196,7 +196,7 @@ facts p t q is = absurd (cc)
 pub record Passes (p : Reading) (t : Token) : Type 0 where
   pub fresh : (n : ℕ) → vertex_here p t ≡ n ∷ [] → IsMember n (vertices_in p) → ⊥
   pub room : (n : ℕ) → vertex_here p t ≡ n ∷ [] → length (vertices_in p) < most_vertices
-  pub small : (digits : List ℕ) → t ≡ Number digits → value digits ≤ greatest_number
+  pub small : IsSmall t
 
 pub data Came (p : Reading) (t : Token) (q : Reading) (at : ℕ) (out : EntryStep) : Type 0 where
   goes : out ≡ Ok (image q) → Passes p t → Came p t q at out

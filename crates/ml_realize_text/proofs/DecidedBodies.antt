@@ -7,7 +7,7 @@ use Rattle.std.proofs.Common.{◌≡◌, ◌≢◌, ℕ, ◌+◌, ◌*◌, ◌<�
 use Rattle.std.proofs.lemmas.List.{append_cancel_left}
 use Rattle.ml_lines.specs.Lines.{Line, Word}
 use Rattle.ml_lines.specs.Reading.{AreWords, IsTextBehind, value, word}
-use Rattle.ml_lines.proofs.DecidedWords.{decided_behind, decided_line, decided_number, decided_words}
+use Rattle.ml_lines.proofs.DecidedWords.{decided_behind, decided_front, decided_line, decided_number, decided_words}
 use Rattle.ml_lists.specs.Readings.{Judges}
 use Rattle.ml_lists.proofs.Decided as is
 use Rattle.ml_lists.proofs.Decided.{Decided}
@@ -108,17 +108,6 @@ gives (x ∷ rest) = go (ends rest)
     go (inl (given, w, same)) = inl (x ∷ given, w, omega arith, ap (λ ls. x ∷ ls) same)
     go (inr none) = inr (λ (given, w, some, same). none (longer given w some same))
 
--- a line that begins with given words
-front : (fs line : Line) → Decided ((rest : Line) × (line ≡ fs ++ rest))
-front [] line = inl (line, refl)
-front (f ∷ fs) [] = inr (λ (rest, same). cc)
-front (f ∷ fs) (x ∷ line) = go (is.decided_bytes x f) (front fs line)
-  where
-    go : Decided (x ≡ f) → Decided ((rest : Line) × (line ≡ fs ++ rest)) → Decided ((rest : Line) × (x ∷ line ≡ (f ∷ fs) ++ rest))
-    go (inl same) (inl (rest, more)) = inl (rest, λ i. same i ∷ more i)
-    go (inl same) (inr none) = inr (λ (rest, more). none (rest, ap (drop 1) more))
-    go (inr other) behind = inr (λ (rest, more). other (ap (λ l. get_or l 0 []) more))
-
 -- `on`, the words of a set, a word, and the rest
 abbrev on_front : List Word → ℕ → Word → Line
 on_front names s w = codes "on" ∷ (set_words names s ++ w ∷ [])
@@ -132,7 +121,7 @@ module _ (names : List Word) (s : ℕ) (line : Line) where
   same_rest w a b same = append_cancel_left (on_front names s w) a b same
 
   pub decided_step : Decided ((given : List Word) × (w : Word) × IsStepLine names s line given w)
-  decided_step = go (decided_words line) (front (on_front names s (codes "give")) line)
+  decided_step = go (decided_words line) (decided_front (on_front names s (codes "give")) line)
     where
       back : (rest : Line)
           → line ≡ on_front names s (codes "give") ++ rest
@@ -177,7 +166,7 @@ module _ (names : List Word) (s : ℕ) (line : Line) where
       go (inl are) (inl (rest, begins)) = behind are rest begins (gives rest)
 
   pub decided_reply : Decided ((w : Word) × IsReplyLine names s line w)
-  decided_reply = go (decided_words line) (front (on_front names s (codes "goto")) line)
+  decided_reply = go (decided_words line) (decided_front (on_front names s (codes "goto")) line)
     where
       back : (rest : Line)
           → line ≡ on_front names s (codes "goto") ++ rest

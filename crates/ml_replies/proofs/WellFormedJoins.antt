@@ -1,17 +1,14 @@
 -- Formulas that are joined of well-formed ones are well formed, where they aren't too long.
 --
 --   joined_well   == what is joined for a question is well formed, where the program holds it
---   well_held     == a well-formed formula isn't too long
 --   problems_well == the formulas of the problems of a question are well formed
-use Rattle.std.proofs.Common.{◌≡◌, ◌≤◌, ℕ, zero, suc, ◌+◌, Bool, true, false, cond, List, [], ◌∷◌, Some, None, slice_get, filter, map, sym, subst}
+use Rattle.std.proofs.Common.{◌≡◌, ℕ, zero, suc, ◌+◌, Bool, true, false, cond, List, [], ◌∷◌, Some, None, slice_get, filter, map, sym, subst}
 use Rattle.std.specs.List.{AllByRecursion}
-use Rattle.ml_text.specs.Limits.{most_occurrences}
 use Rattle.ml_lists.proofs.AllOf.{all_both}
-use Rattle.ml_front.specs.Connectives.{joined, occurrences}
+use Rattle.ml_front.specs.Connectives.{joined}
 use Rattle.ml_front.specs.Logics.{IsWellFormed}
 use Rattle.ml_front.specs.declared.logic.Logic.{Logic}
 use Rattle.ml_front.specs.declared.problem.AnyFormula.{AnyFormula}
-use Rattle.ml_front.specs.declared.problem.AnyFormula.TheVariants.{Mu, Pdl, Ctl, Ltl, Word}
 use Rattle.ml_front.specs.declared.problem.Problem.{Problem}
 use Rattle.ml_front.specs.private.Sound.{IsSound}
 use Rattle.ml_front.proofs.Sound.{joined_sound, sound_well, well_sound}
@@ -102,12 +99,3 @@ problems_well xs S q are is =
     let fs = requirements (chosen S xs) in
     all_both IsOfWell (problems_asked xs q) (map plain fs) (asked_well xs q are is)
     (all_plain fs (requirements_well (chosen S xs) (chosen_well S 0 xs are)))
-
--- ---- held
-
-pub well_held : (f : AnyFormula) → IsWellFormed f → occurrences f ≤ most_occurrences
-well_held (Mu f) well = well.is_small
-well_held (Pdl f) well = well.is_small
-well_held (Ctl f) well = well.is_small
-well_held (Ltl f) well = well.is_small
-well_held (Word f) well = well.is_small

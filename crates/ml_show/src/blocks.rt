@@ -4,6 +4,8 @@
 // or at the next state. Its first item that doesn't wait is decomposed, and what comes of it is asked for by the nodes to which
 // the block leads. Which number a node has is said by the graph alone.
 use crate::formulas::write_path;
+use crate::names::Names;
+use ml_arrays::small;
 use ml_base::NoMemory;
 use ml_ctl::{Pairing, Tense, Term};
 use ml_lines::write_word;
@@ -479,9 +481,22 @@ impl<'a> Blocks<'a> {
         }
     }
 
+    // adds numbers that tell the block at a place from each that says something else; the focus isn't among them
+    pub(crate) fn write_numbers(&self, row: &mut Vec<u32>, place: usize) -> Result<(), NoMemory> {
+        if let Some(block) = self.blocks.get(place) {
+            row.push(if block.positive { 1 } else { 0 })?;
+            row.push(small(block.items.len()))?;
+            for item in &block.items {
+                row.push(small(item.key()))?;
+            }
+        }
+        Ok(())
+    }
+
     // an item, or what it says where it isn't met
     pub(crate) fn write_item(
         &self,
+        names: &mut Names,
         text: &mut Vec<u8>,
         item: Item,
         is_met: bool,
@@ -490,27 +505,33 @@ impl<'a> Blocks<'a> {
             write_word(text, b"X ")?;
         }
         match self.term(item.place) {
-            Some(term) => write_path(text, term, item.positive == is_met),
+            Some(term) => write_path(names, text, term, item.positive == is_met),
             None => Ok(()),
         }
     }
 
     // one or two items
-    fn write_few(&self, text: &mut Vec<u8>, few: Few) -> Result<(), NoMemory> {
+    fn write_few(&self, names: &mut Names, text: &mut Vec<u8>, few: Few) -> Result<(), NoMemory> {
         let (first, second) = few;
-        self.write_item(text, first, true)?;
+        self.write_item(names, text, first, true)?;
         if let Some(second) = second {
             write_word(text, b" & ")?;
-            self.write_item(text, second, true)?;
+            self.write_item(names, text, second, true)?;
         }
         Ok(())
     }
 
     // a block as a formula of CTL*: some path has all items, or each path lacks one
-    pub(crate) fn write_block(&self, text: &mut Vec<u8>, place: usize) -> Result<(), NoMemory> {
+    pub(crate) fn write_block(
+        &self,
+        names: &mut Names,
+        text: &mut Vec<u8>,
+        place: usize,
+    ) -> Result<(), NoMemory> {
         let Some(block) = self.blocks.get(place) else {
             return Ok(());
         };
+        let start = text.len();
         write_word(text, if block.positive { b"E " } else { b"A " })?;
         let is_many = block.items.len() > 1;
         if is_many {
@@ -520,22 +541,23 @@ impl<'a> Blocks<'a> {
             if i > 0 {
                 write_word(text, if block.positive { b" & " } else { b" | " })?;
             }
-            self.write_item(text, *item, block.positive)?;
+            self.write_item(names, text, *item, block.positive)?;
         }
         if is_many {
             write_word(text, b")")?;
         }
-        Ok(())
+        names.shorten(text, start)
     }
 
     // which item of a block is decomposed
     pub(crate) fn write_decomposed(
         &self,
+        names: &mut Names,
         text: &mut Vec<u8>,
         place: usize,
     ) -> Result<(), NoMemory> {
         match self.first_open(self.items(place)) {
-            Some(x) => self.write_item(text, x, true),
+            Some(x) => self.write_item(names, text, x, true),
             None => Ok(()),
         }
     }
@@ -543,6 +565,7 @@ impl<'a> Blocks<'a> {
     // what comes of it, in the first way or else in the second
     pub(crate) fn write_way(
         &self,
+        names: &mut Names,
         text: &mut Vec<u8>,
         place: usize,
         is_first: bool,
@@ -551,24 +574,29 @@ impl<'a> Blocks<'a> {
             return Ok(());
         };
         match self.row_of(x) {
-            Row::OfState | Row::Waits => self.write_item(text, x, true),
-            Row::Becomes(few) => self.write_few(text, few),
+            Row::OfState | Row::Waits => self.write_item(names, text, x, true),
+            Row::Becomes(few) => self.write_few(names, text, few),
             Row::Either(first, second) => {
-                self.write_few(text, if is_first { first } else { second })
+                self.write_few(names, text, if is_first { first } else { second })
             }
         }
     }
 
     // the eventuality in focus of a block that asks for a path; of another one the block itself
-    pub(crate) fn write_put_off(&self, text: &mut Vec<u8>, place: usize) -> Result<(), NoMemory> {
+    pub(crate) fn write_put_off(
+        &self,
+        names: &mut Names,
+        text: &mut Vec<u8>,
+        place: usize,
+    ) -> Result<(), NoMemory> {
         if let Some(block) = self.blocks.get(place) {
             if let Some(key) = self.focused(block) {
                 if block.positive {
                     let item = Item::now(key / 4, key % 4 == 0);
-                    return self.write_item(text, item, true);
+                    return self.write_item(names, text, item, true);
                 }
             }
         }
-        self.write_block(text, place)
+        self.write_block(names, text, place)
     }
 }

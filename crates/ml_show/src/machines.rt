@@ -22,8 +22,8 @@ fn show_names(page: &mut Page, title: &[u8], names: &[Name]) -> Result<(), NoMem
     page.end_line()
 }
 
-// the task that a machine or an environment is about
-fn show_task(alloc: Global, page: &mut Page, task: &Task) -> Result<(), NoMemory> {
+// the task that a machine or an environment is about, or of which neither is told
+pub(crate) fn show_task(alloc: Global, page: &mut Page, task: &Task) -> Result<(), NoMemory> {
     show_names(page, b"Inputs:", &task.inputs)?;
     show_names(page, b"Outputs:", &task.outputs)?;
     page.begin(0, 0)?;

@@ -3,7 +3,7 @@ ghost use Rattle.std.specs.Prelude.{IfOk};
 ghost use Rattle.ml_show.specs.Pages.{EndsWithLf};
 
 use crate::page::Page;
-use crate::problems::show_formula;
+use crate::problems::{claim, show_formula};
 use crate::structures::show_structure;
 use crate::words::{is_word, show_word};
 use ml_base::NoMemory;
@@ -24,10 +24,20 @@ pub fn show_model(alloc: Global, problem: &Problem, model: &Model) -> Result<Vec
 {
     let mut page = Page::new(alloc);
     show_formula(alloc, &mut page, problem)?;
-    if is_word(&model.structure) {
-        show_word(alloc, &mut page, problem, model)?;
-    } else {
-        show_structure(alloc, &mut page, problem, model)?;
-    }
+    append_model(alloc, &mut page, claim(problem), model)?;
     page.finish()
+}
+
+// a structure, and what is said of its start
+pub(crate) fn append_model(
+    alloc: Global,
+    page: &mut Page,
+    said: &[u8],
+    model: &Model,
+) -> Result<(), NoMemory> {
+    if is_word(&model.structure) {
+        show_word(alloc, page, said, model)
+    } else {
+        show_structure(alloc, page, said, model)
+    }
 }

@@ -2,6 +2,7 @@
 ghost use Rattle.std.specs.Prelude.{◌≡◌, ◌∷◌, ◌++◌, [], IfOk};
 ghost use Rattle.ml_show.specs.Pages.{EndsWithLf};
 
+use crate::names::write_name;
 use ml_base::NoMemory;
 use ml_lines::{write_number, write_word};
 use std::alloc::Global;
@@ -30,6 +31,11 @@ impl Page {
             indent: 0,
             is_fresh: true,
         }
+    }
+
+    // does nothing stand there yet?
+    pub(crate) fn is_empty(&self) -> bool {
+        self.bytes.is_empty()
     }
 
     // begins a paragraph: its first line is so far in, and its other lines so far
@@ -90,6 +96,26 @@ impl Page {
     pub(crate) fn number(&mut self, alloc: Global, number: u64) -> Result<(), NoMemory> {
         let digits = digits_of(alloc, number)?;
         self.word(&digits)
+    }
+
+    // a name as it is, right behind what stands there
+    pub(crate) fn put_name(&mut self, name: u32) -> Result<(), NoMemory> {
+        let start = self.bytes.len();
+        write_name(&mut self.bytes, name)?;
+        self.column = self
+            .column
+            .saturating_add(self.bytes.len().saturating_sub(start));
+        self.is_fresh = false;
+        Ok(())
+    }
+
+    // the lines of another page, behind the last line
+    pub(crate) fn append(&mut self, page: &Page) -> Result<(), NoMemory> {
+        write_word(&mut self.bytes, &page.bytes)?;
+        self.column = page.column;
+        self.indent = page.indent;
+        self.is_fresh = page.is_fresh;
+        Ok(())
     }
 
     // a number as a word, with a sign right behind it

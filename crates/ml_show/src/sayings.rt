@@ -5,6 +5,8 @@
 // for blocks `ml_blocks`). The numbers are those of the graph.
 use crate::blocks::{Behind, Blocks, Item};
 use crate::formulas::{negation, write_mu, write_path, write_pdl, write_run};
+use crate::names::Names;
+use ml_arrays::{NONE, more_numbers, number, put};
 use ml_base::NoMemory;
 use ml_ctl::{Pairing, Quantifier, Tense};
 use ml_front::{AnyFormula, Problem};
@@ -325,14 +327,27 @@ fn meet<'a>(
     Ok(())
 }
 
+// a node that isn't known yet is first met from another one
+fn put_under<'a>(above: &mut [u32], said: &[Option<Saying<'a>>], node: Option<u32>, from: u32) {
+    if let Some(node) = node {
+        if said.get(node as usize).copied().flatten().is_none() {
+            put(above, node, from);
+        }
+    }
+}
+
 // A graph with what its nodes say.
 #[derive(Drop)]
 pub(crate) struct Nodes<'g, 'a> {
     pub graph: &'g ModalGraph,
     said: Vec<Option<Saying<'a>>>,
     kept: Kept<'a>,
+    // the node from which each was first met
+    above: Vec<u32>,
     // are there blocks, all of which speak of one path?
     has_path: bool,
+    // are there binders?
+    has_binders: bool,
 }
 
 impl<'g, 'a> Nodes<'g, 'a> {
@@ -347,6 +362,8 @@ impl<'g, 'a> Nodes<'g, 'a> {
             said.push(None)?;
         }
         let mut met = Vec::new(alloc);
+        let mut above = Vec::new(alloc);
+        more_numbers(&mut above, graph.nodes().len(), NONE)?;
         let mut kept = Kept {
             sayings: Vec::new(alloc),
             blocks: blocks_of(alloc, problem)?,
@@ -362,6 +379,8 @@ impl<'g, 'a> Nodes<'g, 'a> {
             if let (Some(saying), Some(node)) = (saying, node) {
                 let (left, right) = targets_of(node);
                 let (first, second) = children_of(alloc, &mut kept, saying)?;
+                put_under(&mut above, &said, left, number);
+                put_under(&mut above, &said, right, number);
                 meet(&mut said, &mut met, left, first)?;
                 meet(&mut said, &mut met, right, second)?;
             }
@@ -370,7 +389,9 @@ impl<'g, 'a> Nodes<'g, 'a> {
             graph,
             said,
             kept,
+            above,
             has_path: matches!(&problem.formula, AnyFormula::Ltl(_)),
+            has_binders: matches!(&problem.formula, AnyFormula::Mu(_)),
         })
     }
 
@@ -399,13 +420,36 @@ impl<'g, 'a> Nodes<'g, 'a> {
     }
 
     // what a node says, as a text
-    pub(crate) fn text(&self, alloc: Global, node: u32) -> Result<Vec<u8>, NoMemory> {
-        let mut text = Vec::new(alloc);
-        match self.bound_saying(node) {
-            Some(saying) => self.write_saying(&mut text, saying)?,
-            None => self.write_node(&mut text, node)?,
+    pub(crate) fn text(
+        &self,
+        alloc: Global,
+        names: &mut Names,
+        node: u32,
+    ) -> Result<Vec<u8>, NoMemory> {
+        if let Some(saying) = self.bound_saying(node) {
+            return self.saying_text(alloc, names, saying);
         }
+        let mut text = Vec::new(alloc);
+        self.write_node(&mut text, node)?;
         Ok(text)
+    }
+
+    // numbers that tell a node from each that says something else: blocks with the same items say the same, and so do the
+    // literals of one proposition
+    pub(crate) fn numbers(&self, alloc: Global, node: u32) -> Result<Vec<u32>, NoMemory> {
+        let mut row = Vec::new(alloc);
+        match (self.saying(node), self.node(node)) {
+            (Some(Saying::Block(place)), _) => self.kept.blocks.write_numbers(&mut row, place)?,
+            (_, Some(Node::Lit { prop, positive })) => {
+                row.push(if positive { 2 } else { 3 })?;
+                row.push(prop)?;
+            }
+            _ => {
+                row.push(4)?;
+                row.push(node)?;
+            }
+        }
+        Ok(row)
     }
 
     // the block that a node stands for, where all blocks speak of one path
@@ -416,124 +460,215 @@ impl<'g, 'a> Nodes<'g, 'a> {
         }
     }
 
-    // what a node says, a text for each formula that a path is to have
-    pub(crate) fn texts(&self, alloc: Global, node: u32) -> Result<Vec<Vec<u8>>, NoMemory> {
-        let mut texts = Vec::new(alloc);
-        match self.path_block(node) {
-            Some(place) => {
-                for item in self.kept.blocks.items(place) {
-                    let mut text = Vec::new(alloc);
-                    self.kept.blocks.write_item(&mut text, *item, true)?;
-                    texts.push(text)?;
-                }
+    // what a node says, with a line for each formula that a path is to have
+    pub(crate) fn lines(
+        &self,
+        alloc: Global,
+        names: &mut Names,
+        node: u32,
+    ) -> Result<Vec<u8>, NoMemory> {
+        let Some(place) = self.path_block(node) else {
+            return self.text(alloc, names, node);
+        };
+        let mut text = Vec::new(alloc);
+        for (i, item) in self.kept.blocks.items(place).iter().enumerate() {
+            if i > 0 {
+                write_word(&mut text, b"\n")?;
             }
-            None => texts.push(self.text(alloc, node)?)?,
+            self.kept.blocks.write_item(names, &mut text, *item, true)?;
         }
-        Ok(texts)
+        Ok(text)
     }
 
     // what has two cases at a node
-    pub(crate) fn split_text(&self, alloc: Global, node: u32) -> Result<Vec<u8>, NoMemory> {
+    pub(crate) fn split_text(
+        &self,
+        alloc: Global,
+        names: &mut Names,
+        node: u32,
+    ) -> Result<Vec<u8>, NoMemory> {
         let Some(place) = self.path_block(node) else {
-            return self.text(alloc, node);
+            return self.text(alloc, names, node);
         };
         let mut text = Vec::new(alloc);
-        self.kept.blocks.write_decomposed(&mut text, place)?;
+        self.kept.blocks.write_decomposed(names, &mut text, place)?;
         Ok(text)
     }
 
-    // one of the cases, which leads to another node
+    // the first of the cases, or else the second
     pub(crate) fn case_text(
         &self,
         alloc: Global,
+        names: &mut Names,
         node: u32,
-        case: u32,
         is_first: bool,
     ) -> Result<Vec<u8>, NoMemory> {
         let Some(place) = self.path_block(node) else {
-            return self.text(alloc, case);
+            return self.text(alloc, names, self.child(node, is_first));
         };
         let mut text = Vec::new(alloc);
-        self.kept.blocks.write_way(&mut text, place, is_first)?;
+        self.kept
+            .blocks
+            .write_way(names, &mut text, place, is_first)?;
         Ok(text)
+    }
+
+    // the left child of a node with two, or else the right one
+    fn child(&self, node: u32, is_first: bool) -> u32 {
+        match self.node(node) {
+            Some(Node::And { left, right } | Node::Or { left, right }) => {
+                if is_first { left } else { right }
+            }
+            _ => node,
+        }
+    }
+
+    // the node of what is put off where a node is met again and again, of which this odd priority is the lowest one met: of the
+    // mu-calculus the binder of this priority around it
+    pub(crate) fn put_off_by(&self, node: u32, odd: u32) -> u32 {
+        if !self.has_binders {
+            return node;
+        }
+        let mut around = node;
+        for _ in self.graph.nodes() {
+            if number(self.graph.priorities(), around) == odd {
+                return around;
+            }
+            around = number(&self.above, around);
+            if around == NONE {
+                break;
+            }
+        }
+        node
     }
 
     // what has to come about where a node is met again and again
-    pub(crate) fn put_off_text(&self, alloc: Global, node: u32) -> Result<Vec<u8>, NoMemory> {
+    pub(crate) fn put_off_text(
+        &self,
+        alloc: Global,
+        names: &mut Names,
+        node: u32,
+    ) -> Result<Vec<u8>, NoMemory> {
         let Some(Saying::Block(place)) = self.saying(node) else {
-            return self.text(alloc, node);
+            return self.text(alloc, names, node);
         };
         let mut text = Vec::new(alloc);
-        self.kept.blocks.write_put_off(&mut text, place)?;
+        self.kept.blocks.write_put_off(names, &mut text, place)?;
         Ok(text)
     }
 
-    // a saying, behind the modalities that lead to it: each leads to one that was kept before it
-    fn write_saying(&self, text: &mut Vec<u8>, saying: Saying<'a>) -> Result<(), NoMemory> {
+    // the runs that a saying begins with, and what stands behind them: each leads to a saying that was kept before it
+    fn runs_of(
+        &self,
+        alloc: Global,
+        saying: Saying<'a>,
+    ) -> Result<(Vec<(&'a Program, bool)>, Saying<'a>), NoMemory> {
+        let mut runs = Vec::new(alloc);
         let mut next = saying;
         for _ in &self.kept.sayings {
-            if let Saying::Run(program, is_diamond, then) = next {
-                write_run(text, program, is_diamond)?;
-                if let Some(behind) = self.kept.sayings.get(then) {
-                    next = *behind;
-                }
-            }
+            let Saying::Run(program, is_diamond, then) = next else {
+                break;
+            };
+            let Some(behind) = self.kept.sayings.get(then) else {
+                break;
+            };
+            runs.push((program, is_diamond))?;
+            next = *behind;
         }
-        self.write_last(text, next)
+        Ok((runs, next))
     }
 
-    fn write_last(&self, text: &mut Vec<u8>, saying: Saying<'a>) -> Result<(), NoMemory> {
+    // a saying, with its modalities before what they lead to
+    fn saying_text(
+        &self,
+        alloc: Global,
+        names: &mut Names,
+        saying: Saying<'a>,
+    ) -> Result<Vec<u8>, NoMemory> {
+        let (runs, last) = self.runs_of(alloc, saying)?;
+        let mut text = Vec::new(alloc);
+        self.write_last(names, &mut text, last)?;
+        for (program, is_diamond) in runs.iter().rev() {
+            let mut longer = Vec::new(alloc);
+            write_run(names, &mut longer, *program, *is_diamond)?;
+            write_word(&mut longer, &text)?;
+            names.shorten(&mut longer, 0)?;
+            text = longer;
+        }
+        Ok(text)
+    }
+
+    fn write_last(
+        &self,
+        names: &mut Names,
+        text: &mut Vec<u8>,
+        saying: Saying<'a>,
+    ) -> Result<(), NoMemory> {
+        let start = text.len();
         match saying {
-            Saying::Whole(part) | Saying::Now(part) => self.write_part(text, part),
+            Saying::Whole(part) | Saying::Now(part) => self.write_part(names, text, part),
             Saying::OnPath(positive) => {
                 self.kept
                     .blocks
-                    .write_item(text, Item::now(0, positive), true)
+                    .write_item(names, text, Item::now(0, positive), true)
             }
             Saying::Going => write_word(text, b"X tt"),
             // its runs are written before it
             Saying::Run(_, _, _) => Ok(()),
             Saying::Later(part) => {
                 write_word(text, b"X ")?;
-                self.write_part(text, part)
+                self.write_part(names, text, part)
             }
-            Saying::Rest(part) => self.write_rest(text, part),
+            Saying::Rest(part) => self.write_rest(names, text, part),
             Saying::Both(left, right) => {
                 write_word(text, b"(")?;
-                self.write_part(text, left)?;
+                self.write_part(names, text, left)?;
                 write_word(text, b" & ")?;
-                self.write_part(text, right)?;
-                write_word(text, b")")
+                self.write_part(names, text, right)?;
+                write_word(text, b")")?;
+                names.shorten(text, start)
             }
-            Saying::Block(place) => self.kept.blocks.write_block(text, place),
+            Saying::Block(place) => self.kept.blocks.write_block(names, text, place),
         }
     }
 
-    fn write_part(&self, text: &mut Vec<u8>, part: Part<'a>) -> Result<(), NoMemory> {
+    fn write_part(
+        &self,
+        names: &mut Names,
+        text: &mut Vec<u8>,
+        part: Part<'a>,
+    ) -> Result<(), NoMemory> {
         match part {
-            Part::Path(term, positive) => write_path(text, term, positive),
-            Part::Mu(term, positive) => write_mu(text, term, positive),
-            Part::Pdl(term, positive) => write_pdl(text, term, positive),
+            Part::Path(term, positive) => write_path(names, text, term, positive),
+            Part::Mu(term, positive) => write_mu(names, text, term, positive),
+            Part::Pdl(term, positive) => write_pdl(names, text, term, positive),
             Part::State(place, positive) => {
                 self.kept
                     .blocks
-                    .write_item(text, Item::now(place, positive), true)
+                    .write_item(names, text, Item::now(place, positive), true)
             }
         }
     }
 
     // what a formula by U, R or W says beside its right operand: its left operand, and or else itself at the next moment
-    fn write_rest(&self, text: &mut Vec<u8>, part: Part<'a>) -> Result<(), NoMemory> {
+    fn write_rest(
+        &self,
+        names: &mut Names,
+        text: &mut Vec<u8>,
+        part: Part<'a>,
+    ) -> Result<(), NoMemory> {
         if let Part::Path(ml_ctl::Term::Paired(pairing, left, _), positive) = part {
+            let start = text.len();
             let is_all = matches!(pairing, Pairing::Until | Pairing::Weak) == positive;
             write_word(text, b"(")?;
-            write_path(text, left, positive)?;
+            write_path(names, text, left, positive)?;
             write_word(text, if is_all { b" & " } else { b" | " })?;
             write_word(text, b"X ")?;
-            self.write_part(text, part)?;
-            return write_word(text, b")");
+            self.write_part(names, text, part)?;
+            write_word(text, b")")?;
+            return names.shorten(text, start);
         }
-        self.write_part(text, part)
+        self.write_part(names, text, part)
     }
 
     // a node of which it isn't known what it says

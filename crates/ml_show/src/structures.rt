@@ -1,8 +1,6 @@
 // Structures, state by state.
 use crate::page::Page;
-use crate::problems::claim;
 use ml_base::{Action, Edge, NoMemory};
-use ml_front::Problem;
 use ml_kripke::{Model, Structure};
 use std::alloc::Global;
 
@@ -94,11 +92,11 @@ fn show_states(alloc: Global, page: &mut Page, structure: &Structure) -> Result<
 pub(crate) fn show_structure(
     alloc: Global,
     page: &mut Page,
-    problem: &Problem,
+    said: &[u8],
     model: &Model,
 ) -> Result<(), NoMemory> {
     page.begin(0, 0)?;
-    page.words(claim(problem))?;
+    page.words(said)?;
     page.word(b"state")?;
     page.number(alloc, u64::from(model.start))?;
     page.words(b"of this structure:")?;

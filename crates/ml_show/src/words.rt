@@ -2,9 +2,7 @@
 ghost use Rattle.std.specs.Prelude.{◌≤◌};
 
 use crate::page::Page;
-use crate::problems::claim;
 use ml_base::{Name, NoMemory};
-use ml_front::Problem;
 use ml_kripke::{Model, Structure};
 use std::alloc::Global;
 
@@ -183,13 +181,13 @@ fn show_tables(
 pub(crate) fn show_word(
     alloc: Global,
     page: &mut Page,
-    problem: &Problem,
+    said: &[u8],
     model: &Model,
 ) -> Result<(), NoMemory> {
     let lasso = lasso_of(alloc, model)?;
     let names = propositions_of(alloc, &model.structure, &lasso.states)?;
     page.begin(0, 0)?;
-    page.words(claim(problem))?;
+    page.words(said)?;
     page.words(b"moment 0 of this word (# true, . not true):")?;
     page.end_line()?;
     page.end_line()?;

@@ -5,7 +5,7 @@
 --   no_cause       == a line that tells no cause breaks the first rule
 --   no_limit       == a line whose number isn't one breaks the second rule
 --   limit_told     == a line that tells a limit keeps both
---   other_end      == a line of other bytes isn't `end`
+--   not_end        == a line of other bytes isn't `end`
 use Rattle.std.proofs.Common.{◌≡◌, ◌≢◌, ℕ, ◌<◌, ◌^◌, List, [], ◌∷◌, codes, inl, inr, refl, sym, ap, subst, ◌∙◌, ⊎_elim}
 use Rattle.ml_lines.specs.Lines.{Line, Word, number}
 use Rattle.ml_lines.specs.Reading.{AreWords, IsNumber, words_of, word}
@@ -48,5 +48,5 @@ missing_cause left = inl (
 pub missing_end : Breaks AtEnd [] OfKind
 missing_end left = inl (refl, λ (same : [] ≡ codes "end" ∷ []). cc)
 
-pub other_end : (line : List ℕ) → line ≢ codes "end" → Breaks AtEnd (words_of line) OfKind
-other_end line other left = inl (refl, λ same. other (text_is line (codes "end") same))
+pub not_end : (line : List ℕ) → line ≢ codes "end" → words_of line ≢ codes "end" ∷ []
+not_end line other same = other (text_is line (codes "end") same)

@@ -2,6 +2,8 @@
 pub mod Kinds
 -- the bodies of undecided documents
 pub mod UndecidedBodies
+-- the documents of undecided tasks
+pub mod UndecidedTasks
 -- which texts are shown, and where another one is refused
 pub mod Shown
 -- laws of these texts

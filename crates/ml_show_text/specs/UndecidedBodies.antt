@@ -1,4 +1,4 @@
--- The body of an undecided document, as a format.
+-- The body of an undecided document, of a problem or of a task, as a format.
 --
 -- It is two lines: `cause positions N` or `cause closure 4096`, and `end`. The rules of a place stand in the order of their
 -- numbers, so the first one that a line breaks is the lowest. A line that is missing is the line of no words.

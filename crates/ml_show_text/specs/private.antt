@@ -2,3 +2,5 @@
 
 -- the lines of the body of an undecided document
 pub mod CauseLines
+-- the lines of the document of an undecided task
+pub mod TaskLines

@@ -10,12 +10,14 @@ use ml_lines::split_line;
 pub enum Kind {
     /// That of a task with a machine or an environment.
     Realizability,
+    /// That of a task that stays undecided.
+    UndecidedTask,
     /// That of a problem, with this answer.
     Decision(Answer),
 }
 
 // the first line of a text, or no bytes where it has none
-fn first_line(text: &[u8]) -> &[u8]
+pub(crate) fn first_line(text: &[u8]) -> &[u8]
     ensures { result.now ≡ kinds.line_at text.now 0 }
 {
     match split_line(text) {
@@ -47,14 +49,25 @@ fn answer_in(line: &[u8]) -> Answer
     }
 }
 
-/// What kind of document a text is read as, by its first two lines.
+// the kind of a document of a task that has this second line
+fn told_of_task(line: &[u8]) -> Kind
+    ensures { result ≡ kinds.told_of_task line.now }
+{
+    if line == b"answer undecided".as_slice() {
+        Kind::UndecidedTask
+    } else {
+        Kind::Realizability
+    }
+}
+
+/// What kind of document a text is read as that has no answers, by its first two lines.
 ///
 /// Cost: linear in these lines.
 pub fn kind_of(text: &[u8]) -> Kind
     ensures { result ≡ kinds.kind_of text.now }
 {
     if first_line(text) == b"mlsolver realize 1".as_slice() {
-        Kind::Realizability
+        told_of_task(second_line(text))
     } else {
         Kind::Decision(answer_in(second_line(text)))
     }

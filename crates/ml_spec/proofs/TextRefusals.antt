@@ -1,86 +1,71 @@
--- Refusals of the text of an item, in any logic: what is read of a text, and why it is refused, are one.
+-- What is read of the text of an item, and why it is refused, are one, in any logic.
 --
---   refused_once      == a text is refused in one way at most, but for want of memory
---   text_refused_once == so a text is refused by one rule at one byte at most
---   read_not_refused  == a text that is read is refused by none
---   refused_by        == a refusal of the parser tells a rule
-use Rattle.std.proofs.Common.{◌≡◌, ◌≢◌, ℕ, List, Some, refl, sym, ap, subst, ◌∙◌}
+--   text_refused_once   == a text is refused by one rule at one byte at most
+--   written_once        == a text stands for one formula at most
+--   written_not_refused == a text that stands for one is refused by no rule
+--   written_or_refused  == each text does, or is
+use Rattle.std.proofs.Common.{◌≡◌, ◌≢◌, ◌⊎◌, ℕ, List, Option, Some, None, inl, inr, refl, sym, ap, ◌∙◌}
 use Rattle.ml_base.specs.declared.parse_refusal.ParseRefusal.{ParseRefusal}
 use Rattle.ml_base.specs.declared.parse_refusal.ParseRefusal.TheVariants as refusal
-use Rattle.ml_ctl.specs.declared.language.Language.TheVariants as language
-use Rattle.ml_ctl.proofs.OneAnswer as ctl_answer
-use Rattle.ml_mu.proofs.OneAnswer as mu_answer
-use Rattle.ml_pdl.proofs.OneAnswer as pdl_answer
-use Rattle.ml_front.specs.Logics.{logic_of, IsParsedAs, IsRefusedBy}
 use Rattle.ml_front.specs.declared.logic.Logic.{Logic}
-use Rattle.ml_front.specs.declared.logic.Logic.TheVariants as logic
-use Rattle.ml_front.specs.declared.problem.AnyFormula.{AnyFormula}
-use Rattle.ml_front.proofs.Logics.{formula_or_refused}
-use Rattle.ml_spec.specs.Faults.{IsTextRefused}
+use Rattle.ml_spec.specs.Faults.{told, IsTextRefused}
+use Rattle.ml_spec.specs.Statements.{IsWrittenIn}
 use Rattle.ml_spec.specs.declared.rule.SpecRule.{SpecRule}
-use Rattle.ml_spec.specs.private.Stages.{told_byte, told_rule}
-use Rattle.ml_spec.specs.declared.rule.SpecRule.TheVariants.{Syntax, Unbound, NotPositive, TooMany, TooNested, NameTooLong, NoLogic, NoKind, NoName, NoColon, NameTaken, TooManyItems}
+use Rattle.ml_written.specs.Written.{written_logic, IsRefusedIn, IsWrittenAs}
+use Rattle.ml_written.specs.declared.written.Written.{Written}
+use Rattle.ml_written.proofs.OneAnswer.{one_answer}
 
-pub refused_once : (l : Logic) (text : List ℕ) (e d : ParseRefusal)
-    → e ≢ refusal.NoMemory
-    → d ≢ refusal.NoMemory
-    → IsRefusedBy l text e
-    → IsRefusedBy l text d
-    → e ≡ d
-refused_once logic.Mu = mu_answer.one_answer.refused
-refused_once logic.Pdl = pdl_answer.one_answer.refused
-refused_once logic.Ctl = (ctl_answer.one_answer language.Ctl).refused
-refused_once logic.Ltl = (ctl_answer.one_answer language.Ltl).refused
-refused_once logic.Word = (ctl_answer.one_answer language.Ltl).refused
-
-pub record IsTold (l : Logic) (text : List ℕ) (r : SpecRule) (k : ℕ) : Type 0 where
-  pub by : ParseRefusal
-  pub some : by ≢ refusal.NoMemory
-  pub refuses : IsRefusedBy l text by
-  pub tells : told_rule by ≡ Some r
-  pub is_at : told_byte by ≡ k
-
-pub is_told : (l : Logic) (text : List ℕ) (r : SpecRule) (k : ℕ) → IsTextRefused l text r k → IsTold l text r k
-is_told l text Syntax k is = record { by = refusal.Syntax k; some = λ e. cc; refuses = is; tells = refl; is_at = refl }
-is_told l text Unbound k is = record { by = refusal.Unbound k; some = λ e. cc; refuses = is; tells = refl; is_at = refl }
-is_told l text NotPositive k is = record { by = refusal.NotPositive k; some = λ e. cc; refuses = is; tells = refl; is_at = refl }
-is_told l text TooMany k is = record { by = refusal.TooMany k; some = λ e. cc; refuses = is; tells = refl; is_at = refl }
-is_told l text TooNested k is = record { by = refusal.TooNested k; some = λ e. cc; refuses = is; tells = refl; is_at = refl }
-is_told l text NameTooLong k is = record { by = refusal.NameTooLong k; some = λ e. cc; refuses = is; tells = refl; is_at = refl }
-is_told l text NoLogic k is = absurd is
-is_told l text NoKind k is = absurd is
-is_told l text NoName k is = absurd is
-is_told l text NoColon k is = absurd is
-is_told l text NameTaken k is = absurd is
-is_told l text TooManyItems k is = absurd is
-
-pub refused_by : (l : Logic) (text : List ℕ) (e : ParseRefusal) (r : SpecRule)
-    → told_rule e ≡ Some r
-    → IsRefusedBy l text e
-    → IsTextRefused l text r (told_byte e)
-refused_by l text (refusal.Syntax k) r is by = let e : Syntax ≡ r = cc in subst (λ s. IsTextRefused l text s k) e by
-refused_by l text (refusal.Unbound k) r is by = let e : Unbound ≡ r = cc in subst (λ s. IsTextRefused l text s k) e by
-refused_by l text (refusal.NotPositive k) r is by = let e : NotPositive ≡ r = cc in subst (λ s. IsTextRefused l text s k) e by
-refused_by l text (refusal.TooMany k) r is by = let e : TooMany ≡ r = cc in subst (λ s. IsTextRefused l text s k) e by
-refused_by l text (refusal.TooNested k) r is by = let e : TooNested ≡ r = cc in subst (λ s. IsTextRefused l text s k) e by
-refused_by l text (refusal.NameTooLong k) r is by = let e : NameTooLong ≡ r = cc in subst (λ s. IsTextRefused l text s k) e by
-refused_by l text refusal.NoMemory r is by = cc
+-- a refusal that tells a rule isn't want of memory
+own_reason : (e : ParseRefusal) (r : SpecRule) (k : ℕ) → told e ≡ Some (r, k) → e ≢ refusal.NoMemory
+own_reason e r k tells = λ same. none (told e) tells (ap told same)
+  where
+    none : (o : Option (SpecRule × ℕ)) → o ≡ Some (r, k) → o ≡ None → ⊥
+    none o one other = cc
 
 pub text_refused_once : (l : Logic) (text : List ℕ) (r s : SpecRule) (j k : ℕ)
     → IsTextRefused l text r j
     → IsTextRefused l text s k
     → (r ≡ s) × (j ≡ k)
-text_refused_once l text r s j k one other =
-    let here = is_told l text r j one in
-    let there = is_told l text s k other in
-    let same : here.by ≡ there.by = refused_once l text here.by there.by here.some there.some here.refuses there.refuses in
-    let rules : Some r ≡ Some s = sym here.tells ∙ ap told_rule same ∙ there.tells in
-    (cc, sym here.is_at ∙ ap told_byte same ∙ there.is_at)
+text_refused_once l text r s j k (e, tells, by) (d, told_too, other) =
+    let same : e ≡ d = (one_answer l).refused text e d (own_reason e r j tells) (own_reason d s k told_too) by other in
+    parts (told d) (sym (ap told same) ∙ tells) told_too
+  where
+    parts : (o : Option (SpecRule × ℕ)) → o ≡ Some (r, j) → o ≡ Some (s, k) → (r ≡ s) × (j ≡ k)
+    parts o one other = (ap rule_in (sym one ∙ other), ap byte_in (sym one ∙ other))
+      where
+        rule_in : Option (SpecRule × ℕ) → SpecRule
+        rule_in None = r
+        rule_in (Some p) = p.0
 
-pub read_not_refused : (l : Logic) (text : List ℕ) (f : AnyFormula) (r : SpecRule) (k : ℕ)
-    → logic_of f ≡ l
-    → IsParsedAs text f
+        byte_in : Option (SpecRule × ℕ) → ℕ
+        byte_in None = j
+        byte_in (Some p) = p.1
+
+pub written_once : (l : Logic) (text : List ℕ) (v w : Written) → IsWrittenIn l text v → IsWrittenIn l text w → v ≡ w
+written_once l text v w one other = (one_answer l).parsed text v w one other
+
+pub written_not_refused : (l : Logic) (text : List ℕ) (w : Written) (r : SpecRule) (k : ℕ)
+    → written_logic w ≡ l
+    → IsWrittenAs text w
     → IsTextRefused l text r k
     → ⊥
-read_not_refused l text f r k of_logic parsed refused =
-    let here = is_told l text r k refused in here.some (formula_or_refused l text f here.by of_logic parsed here.refuses)
+written_not_refused l text w r k of_logic is (e, tells, by) =
+    own_reason e r k tells ((one_answer l).exclusive text w e (of_logic, is) by)
+
+pub written_or_refused : (l : Logic) (text : List ℕ)
+    → ((w : Written) × IsWrittenIn l text w) ⊎ ((r : SpecRule) × (k : ℕ) × IsTextRefused l text r k)
+written_or_refused l text = by ((one_answer l).some text)
+  where
+    rule_told : (e : ParseRefusal) → e ≢ refusal.NoMemory → (r : SpecRule) × (k : ℕ) × (told e ≡ Some (r, k))
+    rule_told (refusal.Syntax k) some = (_, k, refl)
+    rule_told (refusal.Unbound k) some = (_, k, refl)
+    rule_told (refusal.NotPositive k) some = (_, k, refl)
+    rule_told (refusal.TooMany k) some = (_, k, refl)
+    rule_told (refusal.TooNested k) some = (_, k, refl)
+    rule_told (refusal.NameTooLong k) some = (_, k, refl)
+    rule_told refusal.NoMemory some = absurd (some refl)
+
+    by : ((w : Written) × IsWrittenIn l text w) ⊎ ((e : ParseRefusal) × (e ≢ refusal.NoMemory) × IsRefusedIn l text e)
+        → ((w : Written) × IsWrittenIn l text w) ⊎ ((r : SpecRule) × (k : ℕ) × IsTextRefused l text r k)
+    by (inl written) = inl written
+    by (inr (e, some, refused)) = let rule = rule_told e some in inr (rule.0, rule.1, (e, rule.2, refused))

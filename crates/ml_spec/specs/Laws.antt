@@ -6,6 +6,7 @@
 --   SomeReading  == each text is a specification, or is refused
 --   NeverBoth    == no text is both
 --   OneSpecification == a text is one specification at most
+--   AreSpecified == the items of each specification are of its logic, well formed, named, new and few
 --   OneRefusal   == a text is refused at one line and column at most, and by one rule
 use Rattle.std.specs.Prelude.{ℕ, ◌+◌, ◌≤◌, ◌≡◌, ◌⊎◌, ⊤, List, [], ◌∷◌, length, map}
 use Rattle.ml_lines.specs.Reading.{is_line_end}
@@ -13,7 +14,7 @@ use Rattle.ml_spec.specs.Comments.{uncommented}
 use Rattle.ml_front.specs.declared.logic.Logic.{Logic}
 use Rattle.ml_spec.specs.Faults.{IsRefused}
 use Rattle.ml_spec.specs.Items.{ItemText, items_of}
-use Rattle.ml_spec.specs.Specification.{IsSpecification}
+use Rattle.ml_spec.specs.Specification.{IsSpecification, IsSpecified}
 use Rattle.ml_spec.specs.declared.rule.SpecRule.{SpecRule}
 use Rattle.ml_spec.specs.declared.specification.Item.{Item}
 
@@ -45,3 +46,8 @@ OneSpecification = (text : List ℕ) (l k : Logic) (xs ys : List Item)
 abbrev pub OneRefusal : Type 0
 OneRefusal = (text : List ℕ) (line column : ℕ) (r : SpecRule) (row place : ℕ) (s : SpecRule)
     → IsRefused text line column r → IsRefused text row place s → (line ≡ row) × (column ≡ place) × (r ≡ s)
+
+-- ---- what holds of specifications
+
+abbrev pub AreSpecified : Type 0
+AreSpecified = (text : List ℕ) (l : Logic) (xs : List Item) → IsSpecification text l xs → IsSpecified l xs

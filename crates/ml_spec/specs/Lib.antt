@@ -4,8 +4,16 @@ pub mod Comments
 pub mod Items
 -- kinds of items
 pub mod Kinds
+-- words with their places
+pub mod Words
 -- the parts of an item, and where they stand
 pub mod ItemParts
+-- what an item says by itself
+pub mod Statements
+-- what is known behind some statements
+pub mod Known
+-- what statements mean
+pub mod Meaning
 -- lines and columns
 pub mod Places
 -- the formulas of requirements and of a question
@@ -20,6 +28,8 @@ pub mod RuleNumbers
 pub mod Faults
 -- items as a reader comes to them
 pub mod Scan
+-- what the requirement of an enumeration says
+pub mod ExactlyOne
 -- laws on texts
 pub mod Laws
 -- what private contracts cite

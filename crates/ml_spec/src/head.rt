@@ -1,108 +1,164 @@
-// The parts of an item, read one after the other.
-ghost use Rattle.std.specs.Prelude.{◌≡◌, ◌≢◌, ◌+◌, ◌≤◌, ◌++◌, ◌∷◌, [], ℕ, List, length, true, Contains, Some, IfOk, IfErr, MatchOption};
+// What stands in front of the formula of an item, and the formula.
+//
+// Each function tells the first fault of what it reads, where nothing before it is at fault.
+ghost use Rattle.std.specs.Prelude.{◌≡◌, ◌≢◌, ◌+◌, ◌≤◌, ◌<◌, List, length, true, false, IfOk, IfErr, MatchOption, OnOk, Some};
+ghost use Rattle.std.specs.Map.{keys_of};
 ghost use Rattle.ml_base.specs.declared.parse_refusal.ParseRefusal.TheVariants as parser;
-ghost use Rattle.ml_front.specs.Logics.{logic_of, IsParsedAs, IsRefusedBy};
-ghost use Rattle.ml_front.specs.declared.logic.Logic as declared;
-ghost use Rattle.ml_spec.specs.ItemParts.{behind_kind, behind_name, name_of, text_of, HasColon, HasKind, HasName};
+ghost use Rattle.ml_front.specs.Logics.{logic_word};
+ghost use Rattle.ml_spec.specs.Faults as faults;
 ghost use Rattle.ml_spec.specs.ItemParts as spec;
-ghost use Rattle.ml_spec.specs.Items as items;
+ghost use Rattle.ml_spec.specs.ItemParts.{text_of, HasColon, HasName, HasText, IsOfKind, TakesName};
+ghost use Rattle.ml_spec.specs.Kinds.{item_word, may_stand};
+ghost use Rattle.ml_spec.specs.Known.{known};
 ghost use Rattle.ml_spec.specs.Scan.{item_text};
-ghost use Rattle.ml_spec.specs.private.Stages.{told_byte, told_rule, IsNextItem, TellsInItem};
+ghost use Rattle.ml_spec.specs.Statements.{IsWrittenIn, Statement};
+ghost use Rattle.ml_spec.specs.declared.kind.ItemKind as kinds;
+ghost use Rattle.ml_spec.specs.private.Stages.{IsReached, NotByItself, TellsInItem};
+ghost use Rattle.ml_written.specs.Places.{AreDeclared};
+ghost use Rattle.ml_written.specs.Written.{IsRefusedIn};
 
+use crate::context::Declared;
 use crate::fault::Fault;
-use crate::items::ItemText;
-use crate::kind::{Kind, kind_named};
-use crate::name::ItemName;
+use crate::items::{ItemText, place_of};
+use crate::kind::{ItemKind, item_kind_named};
 use crate::parts::{behind_colon, is_name, split_name, split_word};
 use crate::rule::SpecRule;
-use crate::specification::{Item, MOST_ITEMS};
-use indexmap::IndexSet;
-use ml_base::{NoMemory, ParseRefusal};
-use ml_front::{AnyFormula, Logic, Problem};
+use crate::specification::MOST_ITEMS;
+use indexmap::IndexMap;
+use ml_base::{Name, ParseRefusal};
+use ml_front::Logic;
+use ml_written::{Written, first_undeclared, is_proposition};
 use std::alloc::Global;
 
-// What stands in front of an item's colon: its kind, the name, and what stands behind either.
-#[derive(Clone, Copy)]
-struct Head<'a> {
-    kind: Kind,
-    name: &'a [u8],
-    behind_kind: &'a [u8],
-    behind_name: &'a [u8],
-}
-
-// where the end `rest` of the item begins in the text
-fn place_of(item: &ItemText, rest: &[u8]) -> usize
-    requires fits { item.now.at + length item.now.bytes.now ≤ usize.MAX }
-    requires end { length rest.now ≤ length item.now.bytes.now }
-    ensures { result ≡ spec.place_of (item_text item.now) rest.now }
-{
-    item.at + (item.bytes.len() - rest.len())
-}
-
-// what stands in front of the colon, where this many items stand before the item
-fn head_of<'a>(item: &ItemText<'a>, seen: usize) -> Result<Head<'a>, Fault>
-    requires fits { item.now.at + length item.now.bytes.now ≤ usize.MAX }
-    ensures kind { IfOk result (λ h. HasKind (item_text item.now) h.kind) }
-    ensures name { IfOk result (λ h. h.name.now ≡ name_of (item_text item.now)) }
-    ensures is_name { IfOk result (λ h. items.is_name h.name.now ≡ true) }
-    ensures behind_kind { IfOk result (λ h. h.behind_kind.now ≡ behind_kind (item_text item.now)) }
-    ensures behind_name { IfOk result (λ h. h.behind_name.now ≡ behind_name (item_text item.now)) }
-    ensures few { IfOk result (λ h. ¬ (seen ≡ MOST_ITEMS)) }
-    ensures refused { IfErr result (λ e. (l : declared.Logic) (ns : List (List ℕ)) → length ns ≡ seen
-        → TellsInItem l ns (item_text item.now) e) }
+// The kind of an item, before which this many stand, and what stands behind its word.
+pub(crate) fn kind_of<'a>(
+    logic: Logic,
+    item: &ItemText<'a>,
+    before: usize,
+) -> Result<(ItemKind, &'a [u8]), Fault>
+    ensures kind { IfOk result (λ r. IsOfKind logic (item_text item.now) r.0) }
+    ensures behind { IfOk result (λ r. r.1.now ≡ spec.behind_kind (item_text item.now)) }
+    ensures logic { IfOk result (λ r. r.0 ≡ ItemKind.Logics → spec.behind_kind (item_text item.now) ≡ logic_word logic) }
+    ensures few { OnOk result (before ≢ MOST_ITEMS) }
+    ensures refused { IfErr result (λ e. (ss : List Statement) → length ss ≡ before
+        → TellsInItem logic ss (item_text item.now) e) }
 {
     let (word, behind_kind) = split_word(item.bytes);
-    let Some(kind) = kind_named(word) else {
+    let Some(kind) = kind_in(logic, word) else {
         return Err(Fault::Breaks {
             rule: SpecRule::NoKind,
             at: item.at,
         });
     };
-    if seen == MOST_ITEMS {
+    if tells_other(logic, kind, behind_kind) {
+        return Err(Fault::Breaks {
+            rule: SpecRule::NoLogic,
+            at: item.at,
+        });
+    }
+    if before == MOST_ITEMS {
         return Err(Fault::Breaks {
             rule: SpecRule::TooManyItems,
             at: item.at,
         });
     }
+    Ok((kind, behind_kind))
+}
+
+// does an item of this kind tell another logic, or none?
+fn tells_other(logic: Logic, kind: ItemKind, behind_kind: &[u8]) -> bool
+    ensures other { result ≡ true → (kind ≡ ItemKind.Logics) × (behind_kind.now ≢ logic_word logic) }
+    ensures same { result ≡ false → kind ≡ ItemKind.Logics → behind_kind.now ≡ logic_word logic }
+{
+    match kind {
+        ItemKind::Logics => behind_kind != logic.word(),
+        ItemKind::Signals | ItemKind::Enumeration | ItemKind::Definition | ItemKind::Stated(_) =>
+            false,
+    }
+}
+
+// the kind of items that a word names, if these may stand in the logic
+fn kind_in(logic: Logic, word: &[u8]) -> Option<ItemKind>
+    ensures { MatchOption result
+        ((k : kinds.ItemKind) → word.now ≡ item_word k → may_stand logic k ≡ false)
+        (λ k. (word.now ≡ item_word k) × (may_stand logic k ≡ true)) }
+{
+    let kind = item_kind_named(word)?;
+    if kind.may_stand(logic) {
+        Some(kind)
+    } else {
+        None
+    }
+}
+
+// may it be the name of an item of this kind?
+fn is_good(logic: Logic, kind: ItemKind, name: &[u8]) -> bool
+    ensures { result ≡ spec.is_good logic kind name.now }
+{
+    match kind {
+        ItemKind::Stated(_) => is_name(name),
+        ItemKind::Logics | ItemKind::Signals | ItemKind::Enumeration | ItemKind::Definition => {
+            is_proposition(logic, name)
+        }
+    }
+}
+
+// the name of an item of this kind, and what stands behind it
+pub(crate) fn name_of<'a>(
+    logic: Logic,
+    kind: ItemKind,
+    item: &ItemText,
+    behind_kind: &'a [u8],
+) -> Result<(&'a [u8], &'a [u8]), Fault>
+    requires fits { item.now.at + length item.now.bytes.now ≤ usize.MAX }
+    requires behind { behind_kind.now ≡ spec.behind_kind (item_text item.now) }
+    requires kind { TakesName logic (item_text item.now) kind }
+    ensures name { IfOk result (λ r. r.0.now ≡ spec.name_of (item_text item.now)) }
+    ensures has_name { OnOk result (HasName logic (item_text item.now) kind) }
+    ensures behind { IfOk result (λ r. r.1.now ≡ spec.behind_name (item_text item.now)) }
+    ensures refused { IfErr result (λ e. (ss : List Statement) → length ss < MOST_ITEMS
+        → TellsInItem logic ss (item_text item.now) e) }
+{
     let (name, behind_name) = split_name(behind_kind);
-    if !is_name(name) {
+    if !is_good(logic, kind, name) {
         return Err(Fault::Breaks {
             rule: SpecRule::NoName,
             at: place_of(item, behind_kind),
         });
     }
-    Ok(Head {
-        kind,
-        name,
-        behind_kind,
-        behind_name,
-    })
+    Ok((name, behind_name))
 }
 
-// The name with these bytes, which is added to those that were seen; `None` where it was seen.
-fn new_name(
-    alloc: Global,
-    seen: &mut IndexSet<ItemName>,
-    bytes: &[u8],
-) -> Result<Option<ItemName>, NoMemory>
-    requires { items.is_name bytes.now ≡ true }
-    ensures new { IfOk result (λ name. MatchOption name (Contains seen.old.keys bytes.now)
-        (λ n. (n ≡ bytes.now) × (¬ (Contains seen.old.keys bytes.now)))) }
-    ensures seen { IfOk result (λ name. MatchOption name (seen.new.keys ≡ seen.old.keys)
-        (λ n. seen.new.keys ≡ seen.old.keys ++ bytes.now ∷ [])) }
+// what stands behind the colon that stands behind the name of an item of this kind
+pub(crate) fn text_behind<'a>(
+    logic: Logic,
+    kind: ItemKind,
+    item: &ItemText,
+    behind_name: &'a [u8],
+) -> Result<&'a [u8], Fault>
+    requires fits { item.now.at + length item.now.bytes.now ≤ usize.MAX }
+    requires behind { behind_name.now ≡ spec.behind_name (item_text item.now) }
+    requires name { HasName logic (item_text item.now) kind }
+    ensures text { IfOk result (λ t. t.now ≡ text_of (item_text item.now)) }
+    ensures colon { OnOk result (HasColon logic (item_text item.now) kind) }
+    ensures refused { IfErr result (λ e. (ss : List Statement) → IsReached logic ss (item_text item.now) kind
+        → TellsInItem logic ss (item_text item.now) e) }
 {
-    let name = ItemName::new(alloc, bytes)?;
-    if seen.contains(&name) {
-        return Ok(None);
+    match behind_colon(behind_name) {
+        Some(text) => Ok(text),
+        None => Err(Fault::Breaks {
+            rule: SpecRule::NoColon,
+            at: place_of(item, behind_name),
+        }),
     }
-    seen.insert(name.copy()?)?;
-    Ok(Some(name))
 }
+
+// ---- the formula
 
 // the rule that a refusal of the parser tells, and its byte
 fn told(refusal: ParseRefusal) -> Option<(SpecRule, u64)>
     ensures { MatchOption result (refusal ≡ parser.NoMemory)
-        (λ p. (told_rule refusal ≡ Some p.0) × (p.1 ≡ told_byte refusal) × (refusal ≢ parser.NoMemory)) }
+        (λ p. faults.told refusal ≡ Some (p.0, p.1)) }
 {
     match refusal {
         ParseRefusal::Syntax { at } => Some((SpecRule::Syntax, at)),
@@ -115,14 +171,20 @@ fn told(refusal: ParseRefusal) -> Option<(SpecRule, u64)>
     }
 }
 
-// the fault of an item whose text, which has a colon before it, the parser refuses
-fn text_fault(logic: Logic, item: &ItemText, text: &[u8], refusal: ParseRefusal) -> Fault
+// the fault of an item whose text the parser refuses
+fn text_fault(
+    logic: Logic,
+    kind: ItemKind,
+    item: &ItemText,
+    text: &[u8],
+    refusal: ParseRefusal,
+) -> Fault
     requires fits { item.now.at + length item.now.bytes.now ≤ usize.MAX }
     requires text { text.now ≡ text_of (item_text item.now) }
-    requires colon { HasColon (item_text item.now) }
-    requires refused { IsRefusedBy logic text.now refusal }
-    ensures { (ns : List (List ℕ)) → ¬ (length ns ≡ MOST_ITEMS) → ¬ (Contains ns (name_of (item_text item.now)))
-        → TellsInItem logic ns (item_text item.now) result }
+    requires has_text { HasText logic (item_text item.now) kind }
+    requires refused { IsRefusedIn logic text.now refusal }
+    ensures { (ss : List Statement) → IsReached logic ss (item_text item.now) kind
+        → TellsInItem logic ss (item_text item.now) result }
 {
     match told(refusal) {
         Some((rule, offset)) => {
@@ -136,62 +198,56 @@ fn text_fault(logic: Logic, item: &ItemText, text: &[u8], refusal: ParseRefusal)
     }
 }
 
-// the formula of an item, where this stands behind its name
-fn formula_behind(
+// the formula of an item of this kind, where this is its text
+pub(crate) fn written_text(
     alloc: Global,
     logic: Logic,
+    kind: ItemKind,
     item: &ItemText,
-    behind_name: &[u8],
-) -> Result<AnyFormula, Fault>
+    text: &[u8],
+) -> Result<Written, Fault>
     requires fits { item.now.at + length item.now.bytes.now ≤ usize.MAX }
-    requires behind { behind_name.now ≡ spec.behind_name (item_text item.now) }
-    requires name { HasName (item_text item.now) }
-    ensures colon { IfOk result (λ f. HasColon (item_text item.now)) }
-    ensures of_logic { IfOk result (λ f. logic_of f ≡ logic) }
-    ensures parsed { IfOk result (λ f. IsParsedAs (text_of (item_text item.now)) f) }
-    ensures refused { IfErr result (λ e. (ns : List (List ℕ)) → ¬ (length ns ≡ MOST_ITEMS)
-        → ¬ (Contains ns (name_of (item_text item.now))) → TellsInItem logic ns (item_text item.now) e) }
+    requires text { text.now ≡ text_of (item_text item.now) }
+    requires has_text { HasText logic (item_text item.now) kind }
+    ensures written { IfOk result (λ w. IsWrittenIn logic (text_of (item_text item.now)) w) }
+    ensures refused { IfErr result (λ e. (ss : List Statement) → IsReached logic ss (item_text item.now) kind
+        → TellsInItem logic ss (item_text item.now) e) }
 {
-    let Some(text) = behind_colon(behind_name) else {
-        return Err(Fault::Breaks {
-            rule: SpecRule::NoColon,
-            at: place_of(item, behind_name),
-        });
-    };
-    match ml_front::read(alloc, logic, text) {
-        Ok(Problem { formula, .. }) => Ok(formula),
-        Err(refusal) => Err(text_fault(logic, item, text, refusal)),
+    match ml_written::read(alloc, logic, text) {
+        Ok(written) => Ok(written),
+        Err(refusal) => Err(text_fault(logic, kind, item, text, refusal)),
     }
 }
 
-// The item that a text reads as. Its name is added to those that were seen, which are the names of the items before it.
-pub(crate) fn read_item(
-    alloc: Global,
+// That each proposition of an item's formula is declared, where signals stand before it.
+pub(crate) fn check_declared(
     logic: Logic,
+    kind: ItemKind,
     item: &ItemText,
-    seen: &mut IndexSet<ItemName>,
-) -> Result<Item, Fault>
+    text: &[u8],
+    written: &Written,
+    has_signals: bool,
+    declared: &IndexMap<Name, Declared>,
+) -> Result<(), Fault>
     requires fits { item.now.at + length item.now.bytes.now ≤ usize.MAX }
-    requires room { length seen.old.keys ≤ MOST_ITEMS }
-    ensures read { IfOk result (λ x. IsNextItem logic seen.old.keys (item_text item.now) x) }
-    ensures seen { IfOk result (λ x. seen.new.keys ≡ seen.old.keys ++ x.name ∷ []) }
-    ensures refused { IfErr result (TellsInItem logic seen.old.keys (item_text item.now)) }
+    requires text { text.now ≡ text_of (item_text item.now) }
+    requires has_text { HasText logic (item_text item.now) kind }
+    requires written { IsWrittenIn logic text.now written.now }
+    ensures declared { OnOk result (has_signals ≡ true → AreDeclared (keys_of declared.now.entries) written.now) }
+    ensures refused { IfErr result (λ e. (ss : List Statement) → IsReached logic ss (item_text item.now) kind
+        → NotByItself kind (item_text item.now) written.now
+        → (known ss).has_signals ≡ has_signals
+        → (known ss).declared ≡ declared.now.entries
+        → TellsInItem logic ss (item_text item.now) e) }
 {
-    let head = match head_of(item, seen.len()) {
-        Ok(head) => head,
-        Err(fault) => return Err(fault),
-    };
-    let Some(name) = new_name(alloc, seen, head.name)? else {
-        return Err(Fault::Breaks {
-            rule: SpecRule::NameTaken,
-            at: place_of(item, head.behind_kind),
-        });
-    };
-    let formula = formula_behind(alloc, logic, item, head.behind_name)?;
-    Ok(Item {
-        kind: head.kind,
-        name,
-        formula,
-        at: item.at,
-    })
+    if !has_signals {
+        return Ok(());
+    }
+    match first_undeclared(text, written, declared) {
+        Some(offset) => Err(Fault::Breaks {
+            rule: SpecRule::Undeclared,
+            at: place_of(item, &text[text.len().min(offset)..]),
+        }),
+        None => Ok(()),
+    }
 }

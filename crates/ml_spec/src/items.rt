@@ -1,5 +1,6 @@
 // The items of a text whose comments are blanks, one after the other.
 ghost use Rattle.std.specs.Prelude.{◌≡◌, ◌+◌, ◌<◌, ◌≤◌, ◌∷◌, [], length, IfSome, MatchOption};
+ghost use Rattle.ml_spec.specs.ItemParts as parts;
 ghost use Rattle.ml_spec.specs.Items as items;
 ghost use Rattle.ml_spec.specs.Scan.{items_at, item_text};
 
@@ -66,4 +67,13 @@ pub fn next_item(text: &[u8], from: usize) -> Option<(ItemText, usize)>
     let end = at + 1 + distance(false, &text[at + 1..]);
     let bytes = trimmed(&text[at..end]);
     Some((ItemText { at, bytes }, end))
+}
+
+// where the end `rest` of the item begins in the text
+pub(crate) fn place_of(item: &ItemText, rest: &[u8]) -> usize
+    requires fits { item.now.at + length item.now.bytes.now ≤ usize.MAX }
+    requires end { length rest.now ≤ length item.now.bytes.now }
+    ensures { result ≡ parts.place_of (item_text item.now) rest.now }
+{
+    item.at + (item.bytes.len() - rest.len())
 }

@@ -1,5 +1,6 @@
 // Laws over specification texts: no caller runs these functions, their contracts are the theorems.
-ghost use Rattle.ml_spec.specs.Laws.{ItemsApart, KeepsLines, NeverBoth, OneRefusal, OneSpecification, SomeReading};
+ghost use Rattle.ml_spec.specs.ExactlyOne.{PathsHaveOne, StatesHaveOne};
+ghost use Rattle.ml_spec.specs.Laws.{AreSpecified, ItemsApart, KeepsLines, NeverBoth, OneRefusal, OneSpecification, SomeReading};
 
 /// A text has as many bytes without its comments, and its lines end at the same places.
 ///
@@ -24,4 +25,21 @@ pub fn one_answer()
     ensures never_both { NeverBoth }
     ensures one_specification { OneSpecification }
     ensures one_refusal { OneRefusal }
+{}
+
+/// The items of each specification are of its logic; their formulas, written out, are formulas that the program holds; their
+/// names are names, and no two of them have the same; and they aren't too many.
+///
+/// Does nothing when called.
+pub fn specifications_are_specified()
+    ensures specified { AreSpecified }
+{}
+
+/// The requirement that an enumeration is holds exactly where one of its propositions is true at each moment: in LTL of a path,
+/// and in CTL* of all paths from a state.
+///
+/// Does nothing when called.
+pub fn enumerations_have_one_value()
+    ensures paths { PathsHaveOne }
+    ensures states { StatesHaveOne }
 {}

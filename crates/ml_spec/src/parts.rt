@@ -7,7 +7,8 @@ ghost use Rattle.ml_spec.specs.Items as items;
 use ml_base::LONGEST_NAME;
 use ml_text::{is_blank, is_digit, is_letter};
 
-fn without_blanks(bytes: &[u8]) -> &[u8]
+// what stands behind the blanks at the front
+pub(crate) fn without_blanks(bytes: &[u8]) -> &[u8]
     ensures { result.now ≡ items.without_blanks bytes.now }
 {
     &bytes[blank_length(bytes)..]

@@ -1,29 +1,30 @@
 // Reading a specification from its text.
 //
-// `told_logic` reads the first item, and `add_items` the others, one after the other, with the names that were seen. Each
-// answers the first fault of what it reads; what lies behind a fault is not read.
-ghost use Rattle.std.specs.Prelude.{◌≡◌, ◌≤◌, [], ℕ, List, codes, length, IfOk, IfErr, IsErrOf, MatchOption, OnOk};
+// `told_logic` reads the first item, and `add_items` the others, one after the other, with what is known behind each. Both
+// answer the first fault of what they read; what lies behind a fault is not read. How large the formulas are that items mean
+// matters only where nothing else is at fault.
+ghost use Rattle.std.specs.Prelude.{◌≡◌, ◌≤◌, [], ℕ, List, codes, length, IfOk, IfErr, IsErrOf, MatchOption, MatchResult, OnOk};
 ghost use Rattle.ml_front.specs.Logics.{logic_word};
 ghost use Rattle.ml_front.specs.declared.logic.Logic as declared;
 ghost use Rattle.ml_spec.specs.Comments as comments;
 ghost use Rattle.ml_spec.specs.Faults.{IsRefused};
-ghost use Rattle.ml_spec.specs.Items.{behind_word, first_word};
+ghost use Rattle.ml_spec.specs.Items.{ItemText, behind_word, first_word};
 ghost use Rattle.ml_spec.specs.Scan.{items_at};
 ghost use Rattle.ml_spec.specs.Specification.{items_behind, IsReadAs, IsSpecification, IsSpecified, TellsLogic};
+ghost use Rattle.ml_spec.specs.Statements.{Statement};
 ghost use Rattle.ml_spec.specs.declared.specification.Item as plain;
-ghost use Rattle.ml_spec.specs.private.Stages.{IsReadTo, TellsAmong, TellsInText, TellsRefusal};
+ghost use Rattle.ml_spec.specs.private.Stages.{AreMeant, AreReadAs, IsContextOf, IsReadTo, IsReadWith, TellsAmong, TellsInText, TellsRefusal};
 
 use crate::comments::uncommented;
+use crate::context::{Context, Meanings};
 use crate::fault::Fault;
-use crate::head::read_item;
 use crate::items::next_item;
-use crate::name::ItemName;
 use crate::parts::{blank_length, split_word};
 use crate::place::line_and_column;
 use crate::refusal::SpecRefusal;
 use crate::rule::SpecRule;
 use crate::specification::{Item, Specification};
-use indexmap::IndexSet;
+use crate::statement::read_item;
 use ml_front::Logic;
 use std::alloc::Global;
 
@@ -116,39 +117,52 @@ fn logic_of_item(bytes: &[u8]) -> Option<Logic>
     }
 }
 
-// the items from this place of a text without comments on
+// the items of the specification that the items from this place of a text without comments on mean
 fn read_items(alloc: Global, logic: Logic, text: &[u8], from: usize) -> Result<Vec<Item>, Fault>
     requires { from ≤ length text.now }
-    ensures read { IfOk result (λ items. IsReadTo logic (items_at text.now from) [] items.items) }
-    ensures refused { IfErr result (TellsAmong logic (items_at text.now from)) }
+    ensures { MatchResult result (λ items. AreReadAs logic (items_at text.now from) items.items)
+        (TellsAmong logic (items_at text.now from)) }
 {
-    let mut items = Vec::new(alloc);
-    let mut seen = IndexSet::new(alloc);
-    match add_items(alloc, logic, text, from, &mut items, &mut seen) {
-        Ok(()) => Ok(items),
+    let mut context = Context::new(alloc, logic);
+    match add_items(alloc, logic, text, from, &mut context) {
+        Ok(()) => items_of(context.meanings),
         Err(fault) => Err(fault),
     }
 }
 
-// adds these items to none, and their names to none
+// the items of the specification that items of a text mean, where all were read, or the first with too large a formula
+fn items_of(meanings: Meanings) -> Result<Vec<Item>, Fault>
+    ensures { (l : declared.Logic) (all : List ItemText) (ss : List Statement) → IsReadTo l all [] ss
+        → AreMeant l ss meanings.items.items meanings.definitions meanings.large
+        → MatchResult result (λ items. AreReadAs l all items.items) (TellsAmong l all) }
+{
+    match meanings.large {
+        Some(at) => Err(Fault::Breaks {
+            rule: SpecRule::TooLarge,
+            at,
+        }),
+        None => Ok(meanings.items),
+    }
+}
+
+// reads these items, before which none was read
 fn add_items(
     alloc: Global,
     logic: Logic,
     text: &[u8],
     from: usize,
-    items: &mut Vec<Item>,
-    seen: &mut IndexSet<ItemName>,
+    context: &mut Context,
 ) -> Result<(), Fault>
     requires from { from ≤ length text.now }
-    requires items { items.old.items ≡ [] }
-    requires seen { seen.old.keys ≡ [] }
-    ensures read { OnOk result (IsReadTo logic (items_at text.now from) [] items.new.items) }
+    requires context { IsContextOf logic [] context.old }
+    ensures read { OnOk result (IsReadWith logic (items_at text.now from) [] context.new) }
     ensures refused { IfErr result (TellsAmong logic (items_at text.now from)) }
 {
     let mut at = from;
+    let mut before = 0;
     while let Some((item, next)) = next_item(text, at) {
-        let read = read_item(alloc, logic, &item, seen)?;
-        items.push(read)?;
+        read_item(alloc, logic, &item, before, context)?;
+        before += 1;
         at = next;
     }
     Ok(())

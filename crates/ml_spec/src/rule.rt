@@ -17,22 +17,28 @@ pub enum SpecRule {
     TooNested,
     /// A name in a formula of more bytes than the limit.
     NameTooLong,
-    /// The text doesn't begin with an item that tells its logic.
+    /// The text doesn't begin with an item that tells its logic, or an item tells another one.
     NoLogic,
-    /// An item that begins with the word of no kind.
+    /// An item that begins with the word of no kind that may stand in the logic.
     NoKind,
-    /// No name stands behind an item's kind.
+    /// No name stands behind an item's kind, or a word among its signals or values may be none.
     NoName,
     /// No colon stands behind an item's name.
     NoColon,
-    /// An item before has this name.
+    /// An item before has this name, or the proposition is declared already.
     NameTaken,
     /// More items than the limit.
     TooManyItems,
+    /// A formula that has more occurrences than the limit with definitions and bounds written out.
+    TooLarge,
+    /// A proposition that isn't declared, where signals stand.
+    Undeclared,
+    /// A definition of a proposition that stands in a formula before, or in its own.
+    DefinedLate,
 }
 
 impl SpecRule {
-    /// The number by which a refusal tells this rule: 1 to 6, or 61 to 66.
+    /// The number by which a refusal tells this rule: 1 to 6, or 61 to 69.
     pub fn number(self) -> u32
         ensures { result ≡ rule_number self }
     {
@@ -49,6 +55,9 @@ impl SpecRule {
             SpecRule::NoColon => 64,
             SpecRule::NameTaken => 65,
             SpecRule::TooManyItems => 66,
+            SpecRule::TooLarge => 67,
+            SpecRule::Undeclared => 68,
+            SpecRule::DefinedLate => 69,
         }
     }
 }

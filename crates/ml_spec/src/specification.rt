@@ -3,7 +3,7 @@ use crate::kind::Kind;
 use crate::name::ItemName;
 use ml_front::{AnyFormula, Logic};
 
-/// How many items a specification has at most.
+/// How many items the text of a specification has at most behind the first one.
 pub const MOST_ITEMS: usize = 4_096;
 
 /// A requirement or a question.
@@ -12,8 +12,6 @@ pub struct Item {
     pub kind: Kind,
     pub name: ItemName,
     pub formula: AnyFormula,
-    /// Where it begins in the text that it was read from, a byte counted from 0.
-    pub at: usize,
 }
 
 /// Requirements and questions of a logic, in the order of their text.

@@ -12,6 +12,7 @@ mod cube;
 mod edges;
 mod finding;
 mod following;
+mod jumping;
 pub mod laws;
 mod limits;
 mod place;

@@ -11,11 +11,12 @@ ghost use Rattle.ml_translate.specs.private.Finding.{AreNumbers, IsMadeOf};
 
 use crate::edges::edges_of;
 use crate::finding::places_of;
+use crate::jumping::jumping_rows;
 use crate::limits::MOST_NODES;
 use crate::propositions::Propositions;
 use crate::refusal::TranslateRefusal;
 use ml_graph::ClosureRefusal;
-use ml_labelled::{LabelledAutomaton, reduced};
+use ml_labelled::{LabelledAutomaton, reduced_beside};
 use ml_word_automaton::{WordAutomaton, automaton_of};
 use std::alloc::Global;
 
@@ -61,15 +62,17 @@ fn with_places(
 /// A Büchi automaton over the sets of a formula's propositions that accepts exactly the word lassos that satisfy the formula.
 ///
 /// The propositions are those of the formula, each once, in the order of the text. Each state is reached, and there are no more
-/// than the formula's word automaton has (`ml_word_automaton`); the automaton begins in the state 0.
+/// than the formula's word automaton has (`ml_word_automaton`); the automaton begins in the state 0. It is that automaton made
+/// small, or a smaller one that is seen to accept the same (`ml_labelled::reduced_beside`).
 ///
 /// # Errors
 /// `ClosureTooLarge` exactly where the word automaton has more than 65,536 nodes. `Passed` exactly where it has no more, and
 /// more than `limit` places (`specs/Places.antt`). `NoMemory`.
 ///
-/// Cost: that of `ml_word_automaton::automaton_of`; each place is met once, with its cube, by a hash; at most `limit` of them.
+/// Cost: that of `ml_word_automaton::automaton_of`; each place is met once, with its cube, by a hash; at most `limit` of them;
+/// and that of `ml_labelled::reduced_beside`.
 ///
-/// Source: Vardi and Wolper (1986).
+/// Source: Vardi and Wolper (1986); Gastin and Oddoux (2001) for the smaller automaton.
 pub fn automaton_of_formula(
     alloc: Global,
     formula: &ml_ltl::Formula,
@@ -82,5 +85,6 @@ pub fn automaton_of_formula(
     let automaton = word_automaton(alloc, formula)?;
     let propositions = Propositions::of(alloc, formula, automaton.graph())?;
     let made = with_places(alloc, &automaton, propositions, limit)?;
-    Ok(reduced(alloc, made)?)
+    let rows = jumping_rows(alloc, &made, formula)?;
+    Ok(reduced_beside(alloc, made, rows, limit)?)
 }

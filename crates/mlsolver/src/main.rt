@@ -10,7 +10,7 @@ mod usage;
 use crate::usage::explain;
 use ml_base::{StdSink, StdSource};
 use ml_driver::{Command, Ending, Said, Status, call};
-use ml_messages::explanation;
+use ml_messages::{explanation, warnings};
 use std::alloc::AllocError;
 use std::env::{self, Env};
 use std::io;
@@ -35,6 +35,7 @@ fn tell(rt: &(impl Eprint + AllocGlobal), words: &[String], ending: &Ending) -> 
         Status::Yes | Status::No | Status::Undecided | Status::Text => {
             match (ending.command, ending.said) {
                 (Some(command), Some(said)) => tell_of_input(rt, command, said, &ending.input),
+                (Some(command), None) => warn(rt, command, &ending.input),
                 _ => Ok(()),
             }
         }
@@ -54,6 +55,17 @@ fn tell_of_input(
         Ok(Some(sentence)) => eprintln!(rt; "mlsolver: {sentence}"),
         Ok(None) | Err(AllocError) => Ok(()),
     }
+}
+
+// What may be spelt wrongly in an input that was answered.
+fn warn(rt: &(impl Eprint + AllocGlobal), command: Command, input: &[u8]) -> io::Result<()> {
+    let Ok(sentences) = warnings(rt.alloc(), command, input) else {
+        return Ok(());
+    };
+    for sentence in sentences.iter() {
+        eprintln!(rt; "mlsolver: {sentence}")?;
+    }
+    Ok(())
 }
 
 // The words without the program's name. Where they can't be had as texts they are one empty word, which no command is.

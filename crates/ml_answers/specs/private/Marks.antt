@@ -14,7 +14,7 @@
 --   behind_perhaps ws    == the words behind `perhaps:`
 --   split_words wants ws == the words for needed ones, up to `perhaps:` at least, and those behind it; none where one is
 --                           wanting
-use Rattle.std.specs.Prelude.{ℕ, ◌≡◌, ◌+◌, ◌++◌, ⊤, Bool, true, false, not, ◌&&◌, if◌then◌else◌, List, [], ◌∷◌, Option, None, Some, codes, drop}
+use Rattle.std.specs.Prelude.{ℕ, ◌≡◌, ◌+◌, ◌++◌, ⊤, Bool, true, false, ◌&&◌, if◌then◌else◌, List, [], ◌∷◌, Option, None, Some, codes, drop}
 use Rattle.std.specs.List.{list_any}
 use Rattle.std.specs.Str.{bytes_eq}
 use Rattle.ml_lines.specs.Lines.{Word}

@@ -18,6 +18,8 @@
 --   AreReadBehind xs at stated == the same, with the title before them
 --   IsConflict b r      == b tells whether the answer r is a conflict
 --   AreRead xs at stated == what is left are the answers that are stated, all that are due, with their bodies, and `end`
+--   IsRefusedIn spec text e == where the refusal e is a fault, this is found where spec is the text of the specification, and
+--                          this text the document behind it
 use Rattle.std.specs.Prelude.{ℕ, ◌≡◌, ◌+◌, ◌≤◌, ◌^◌, ◌++◌, ⊤, Bool, true, false, not, List, [], ◌∷◌, codes, drop, length, map}
 use Rattle.ml_base.specs.declared.doc_fault.DocFault.{DocFault}
 use Rattle.ml_base.specs.declared.doc_refusal.DocRefusal.{DocRefusal}
@@ -30,8 +32,8 @@ use Rattle.ml_lists.specs.Documents.{Rule, IsFirstBroken}
 use Rattle.ml_spec.specs.declared.question.Question.{Question}
 use Rattle.ml_spec.specs.declared.specification.Item.{Item}
 use Rattle.ml_replies.specs.Replies.{Part, Replied, Reply, LeftOpen, Met, Unmet}
-use Rattle.ml_answers.specs.Checked.{lines_from, AreTexts}
-use Rattle.ml_answers.specs.Documents.{last_line, title_line, AreBlocks, ArePartsText}
+use Rattle.ml_answers.specs.Checked.{finding_of, lines_from, AreAnswersAt, AreTexts, IsFoundIn}
+use Rattle.ml_answers.specs.Documents.{last_line, AreBlocks, ArePartsText}
 use Rattle.ml_answers.specs.Due.{begun, is_of_conflict, AreAll, Due, LeadTo}
 use Rattle.ml_answers.specs.Lines.{is_met, question_words, wants_structure, yes_or_no}
 use Rattle.ml_answers.specs.RuleNumbers.{rule_number}
@@ -39,14 +41,15 @@ use Rattle.ml_answers.specs.Rules.{ArePartsFault, IsBehind, IsDueFault}
 use Rattle.ml_answers.specs.Texts.{line_count, next_line, one_text, IsLine}
 use Rattle.ml_answers.specs.private.Marks.{is_named, MarkedBy}
 use Rattle.ml_answers.specs.private.Words.{words_left}
-use Rattle.ml_answers.specs.private.Plain as plain
-use Rattle.ml_answers.specs.private.Plain.{replies_of}
+use Rattle.ml_answers.specs.Stated.{lines_of, replies_of}
 use Rattle.ml_answers.specs.declared.line.AnswerWords.{AnswerWords}
 use Rattle.ml_answers.specs.declared.line.AnswerWords.TheVariants as answer
 use Rattle.ml_answers.specs.declared.line.ToldLine.{ToldLine}
 use Rattle.ml_answers.specs.declared.line.ToldLine.TheVariants as told
 use Rattle.ml_answers.specs.declared.names.Mark.{Mark}
 use Rattle.ml_answers.specs.declared.names.Mark.TheVariants.{Unnamed, Needed, Perhaps}
+use Rattle.ml_answers.specs.declared.answered.AnswersRefusal.{AnswersRefusal}
+use Rattle.ml_answers.specs.declared.answered.AnswersRefusal.TheVariants as answers_refusal
 use Rattle.ml_answers.specs.declared.rest.Rest.{Rest}
 use Rattle.ml_answers.specs.declared.rule.AnswersRule.{AnswersRule}
 use Rattle.ml_answers.specs.declared.stated.Stated.{Stated}
@@ -136,7 +139,7 @@ pub record IsReadTo (xs : List Item) (at : Rest) (stated : List Stated) (rest : 
   pub are_texts : AreTexts xs (replies_of stated) texts
   pub are_both : at.text.now ≡ one_text texts ++ rest.text.now
   pub is_line : rest.line ≡ at.line + line_count (one_text texts)
-  pub are_lines : plain.lines_of stated ≡ lines_from at.line texts
+  pub are_lines : lines_of stated ≡ lines_from at.line texts
   pub lead : LeadTo xs (begun xs) (replies_of stated) d
 
 -- where only these questions are due
@@ -157,17 +160,17 @@ pub record AreRead (xs : List Item) (at : Rest) (stated : List Stated) : Type 0 
   pub are_all : AreAll xs (replies_of stated)
   pub are_texts : AreTexts xs (replies_of stated) texts
   pub is_text : at.text.now ≡ one_text texts ++ line_text last_line
-  pub are_lines : plain.lines_of stated ≡ lines_from at.line texts
+  pub are_lines : lines_of stated ≡ lines_from at.line texts
 
 -- the same, with the title before them
-pub record AreReadBehind (xs : List Item) (at : Rest) (stated : List Stated) : Type 0 where
-  pub texts : List (List ℕ)
-  pub are_all : AreAll xs (replies_of stated)
-  pub are_texts : AreTexts xs (replies_of stated) texts
-  pub is_text : at.text.now ≡ line_text title_line ++ (one_text texts ++ line_text last_line)
-  pub are_lines : plain.lines_of stated ≡ lines_from (at.line + 1) texts
+abbrev pub AreReadBehind : List Item → Rest → List Stated → Type 0
+AreReadBehind xs at stated = AreAnswersAt xs at.line at.text.now (replies_of stated) (lines_of stated)
 
 -- does the answer name a conflict?
 abbrev pub IsConflict : Bool → Reply → Type 0
 IsConflict b (Unmet c) = b ≡ true
 IsConflict b r = b ≡ false
+
+abbrev pub IsRefusedIn : List ℕ → List ℕ → AnswersRefusal → Type 0
+IsRefusedIn spec text (answers_refusal.Fault fault) = IsFoundIn spec text (finding_of fault)
+IsRefusedIn spec text answers_refusal.NoMemory = ⊤

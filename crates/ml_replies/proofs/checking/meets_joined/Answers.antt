@@ -2,12 +2,12 @@ use Rattle.std.proofs.Common.{ap, subst, sym, ◌∙◌}
 use Rattle.std.proofs.lemmas.Result.{IfOk-weaker}
 use Rattle.ml_front.specs.Logics.{logic_of}
 use Rattle.ml_front.specs.Problems.{IsAdmitted}
+use Rattle.ml_front.proofs.Connected.{well_small}
 use Rattle.ml_spec.specs.Questions.{is_in}
 use Rattle.ml_replies.specs.Meeting.{problem_of}
 use Rattle.ml_replies.specs.private.Checks.{JoinedAs, OneAs}
 use Rattle.ml_replies.proofs.Chosen.{joined_in, problem_is}
 use Rattle.ml_replies.proofs.Verdicts.{as_joined}
-use Rattle.ml_replies.proofs.WellFormedJoins.{well_held}
 use Rattle.ml_replies.proofs.checking.meets_joined.Goals as goal
 
 pub meets_one-requires-clause-admitted : goal.meets_one-requires-clause-admitted
@@ -30,4 +30,4 @@ returns-in-Some c =
     let same = problem_is l xs S c.args.question p made.formula made.plain in
     IfOk-weaker c.meets_one.result (OneAs p m c.args.state) (JoinedAs (problem_of l xs S c.args.question) m c.args.state)
     (λ r told. subst (λ o. JoinedAs o m c.args.state r) same
-    (as_joined m c.args.state p r (well_held p.formula made.well_formed) told)) c.meets_one.ensures
+    (as_joined m c.args.state p r (well_small p.formula made.well_formed) told)) c.meets_one.ensures

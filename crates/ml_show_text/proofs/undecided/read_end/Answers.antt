@@ -1,4 +1,4 @@
-use Rattle.std.proofs.Common.{codes, ap}
+use Rattle.std.proofs.Common.{codes, inl, refl, ap}
 use Rattle.std.proofs.lemmas.Result.{IfErr-weaker, on_ok_weaker}
 use Rattle.ml_lines.specs.Faults.{IsFault}
 use Rattle.ml_lines.specs.Reading.{words_of}
@@ -6,7 +6,7 @@ use Rattle.ml_realize_text.proofs.FixedWords.{other_word, same_word}
 use Rattle.ml_show_text.specs.UndecidedBodies.{AtEnd, AtNothing, body}
 use Rattle.ml_show_text.specs.declared.cause_rule.CauseRule.TheVariants.{OfKind}
 use Rattle.ml_show_text.proofs.CauseBodies.{bad_behind, bad_here, good_line}
-use Rattle.ml_show_text.proofs.CauseWords.{other_end}
+use Rattle.ml_show_text.proofs.CauseWords.{not_end}
 use Rattle.ml_show_text.proofs.undecided.read_end.Goals as goal
 
 pub returns-then-eq-clause-read : goal.returns-then-eq-clause-read
@@ -34,4 +34,4 @@ returns-else-eq-clause-refused c =
     let line = c.in-Some.line.now in
     bad_here AtEnd c.args.text.now (words_of line) c.in-Some.rest.now c.in-Some.ensures.lines 7 OfKind c.fault.result
     c.fault.ensures.line c.fault.ensures.rule
-    (other_end line (other_word line c.as_slice.result.now (codes "end") c.if-eq.ensures c.as_slice.ensures))
+    (λ left. inl (refl, not_end line (other_word line c.as_slice.result.now (codes "end") c.if-eq.ensures c.as_slice.ensures)))

@@ -1,12 +1,11 @@
 use Rattle.std.proofs.Common.{◌≡◌, ℕ, ◌+◌, ◌-◌, min, List, drop, length, take, ap, sym, subst, ◌∙◌, arith, length-drop, length-take}
-use Rattle.ml_front.specs.Logics.{IsRefusedBy}
-use Rattle.ml_spec.specs.ItemParts.{place_of, text_of}
+use Rattle.ml_spec.specs.ItemParts.{place_of}
 use Rattle.ml_spec.specs.Scan.{item_text}
-use Rattle.ml_spec.specs.private.Stages.{told_byte, IsFirstInItem}
-use Rattle.ml_spec.proofs.ItemFaults.{first_text}
+use Rattle.ml_spec.specs.private.Stages.{IsFirstInItem}
+use Rattle.ml_spec.proofs.ItemFaults.{first_refused}
 use Rattle.ml_spec.proofs.PartSizes.{text_fits}
-use Rattle.ml_spec.proofs.TextRefusals.{refused_by}
 use Rattle.ml_spec.proofs.head.text_fault.Goals as goal
+use Rattle.ml_written.specs.Written.{IsRefusedIn}
 
 pub place_of-requires-clause-end : goal.place_of-requires-clause-end
 place_of-requires-clause-end c =
@@ -33,14 +32,15 @@ place_same at size m offset text is =
 
 pub returns-in-Some : goal.returns-in-Some
 returns-in-Some c =
-    λ ns few new.
+    λ ss reached.
+    let l = c.args.logic in
     let i = item_text c.args.item.now in
-    let told = c.in-Some.ensures in
-    let refused = refused_by c.args.logic (text_of i) c.args.refusal c.in-Some.rule told.0
-    (subst (λ text. IsRefusedBy c.args.logic text c.args.refusal) c.requires.text c.requires.refused) in
+    let q = c.args.kind in
+    let text = c.requires.has_text in
+    let refused = subst (λ t. IsRefusedIn l t c.args.refusal) c.requires.text c.requires.refused in
     let place = c.place_of.ensures
     ∙ place_same i.at (length i.bytes) c.min.result c.in-Some.offset c.args.text.now c.min.ensures
-    ∙ ap (λ text. place_of i (drop c.in-Some.offset text)) c.requires.text
-    ∙ ap (λ k. place_of i (drop k (text_of i))) told.1 in
-    subst (IsFirstInItem c.args.logic ns i c.in-Some.rule) (sym place)
-    (first_text c.args.logic ns i few new c.in-Some.rule (told_byte c.args.refusal) c.requires.colon refused)
+    ∙ ap (λ t. place_of i (drop c.in-Some.offset t)) c.requires.text in
+    subst (IsFirstInItem l ss i c.in-Some.rule) (sym place)
+    (first_refused l ss i reached.has_room q text.0.0.0 text.0.0 reached.is_new reached.is_early text c.in-Some.rule
+    c.in-Some.offset (c.args.refusal, c.in-Some.ensures, refused))

@@ -2,7 +2,7 @@ use Rattle.std.proofs.lemmas.Result.{IfErr-at_err, IfOk-weaker}
 use Rattle.ml_spec.specs.Specification.{IsSpecification, IsSpecified}
 use Rattle.ml_spec.specs.private.Stages.{TellsRefusal}
 use Rattle.ml_spec.proofs.OneAnswer.{never_both}
-use Rattle.ml_spec.proofs.Readings.{specified}
+use Rattle.ml_spec.proofs.SpecifiedItems.{specified}
 use Rattle.ml_spec.proofs.reading.read.Goals as goal
 
 pub returns-clause-specified : goal.returns-clause-specified

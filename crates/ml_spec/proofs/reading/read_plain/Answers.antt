@@ -1,10 +1,7 @@
-use Rattle.std.proofs.Common.{[], sym, subst}
+use Rattle.std.proofs.Common.{sym, subst}
 use Rattle.ml_spec.specs.Faults.{IsFirstFault}
 use Rattle.ml_spec.specs.declared.rule.SpecRule.TheVariants.{NoLogic}
-use Rattle.ml_spec.specs.private.Stages.{IsReadTo}
-use Rattle.ml_spec.proofs.OneAnswer.{tells_text}
-use Rattle.ml_spec.proofs.Readings.{read_whole}
-use Rattle.ml_spec.proofs.TextFaults.{first_logic}
+use Rattle.ml_spec.proofs.OneAnswer.{first_logic, read_whole, tells_text}
 use Rattle.ml_spec.proofs.reading.read_plain.Goals as goal
 
 pub returns-in_default-clause-refused : goal.returns-in_default-clause-refused
@@ -13,10 +10,9 @@ returns-in_default-clause-refused c =
 
 pub returns-in-Err-clause-refused : goal.returns-in-Err-clause-refused
 returns-in-Err-clause-refused c =
-    let told = c.in-Some.ensures in tells_text c.args.text.now c.in-Some.logic _ c.in-Err.fault told.0 told.1 c.in-Err.ensures.refused
+    let told = c.in-Some.ensures in tells_text c.args.text.now c.in-Some.logic told.0 _ c.in-Err.fault told.1 c.in-Err.ensures
 
 pub returns-in-Ok-clause-read : goal.returns-in-Ok-clause-read
 returns-in-Ok-clause-read c =
     let told = c.in-Some.ensures in
-    read_whole c.args.text.now c.in-Some.logic c.in-Ok.items.items told.0
-    (subst (λ is. IsReadTo c.in-Some.logic is [] c.in-Ok.items.items) (sym told.1) c.in-Ok.ensures.read)
+    read_whole c.args.text.now c.in-Some.logic told.0 _ c.in-Ok.items.items told.1 c.in-Ok.ensures

@@ -12,13 +12,13 @@ returns-clause-translated c =
     let names = c.in_ok-propositions.ensures.names in
     let linear = c.in_ok-propositions.ensures.linear in
     let is = c.in_ok-automaton.ensures.automaton in
-    made_translated f a props c.in_ok-made.made c.in_ok-reduced.field-0 c.args.limit linear
+    made_translated f a props c.in_ok-made.made c.in_ok-reduced_beside.field-0 c.args.limit linear
     (record { is_of = is; fits = c.in_ok-automaton.ensures.fits })
     names
     c.in_ok-made.ensures.made
     (subst (KnowsLiterals a.graph) (sym names) (known_literals f false a.graph linear is.is_graph))
-    c.in_ok-reduced.ensures.labelled
-    c.in_ok-reduced.ensures.same
-    c.in_ok-reduced.ensures.props
-    c.in_ok-reduced.ensures.reached
-    c.in_ok-reduced.ensures.few
+    c.in_ok-reduced_beside.ensures.labelled
+    c.in_ok-reduced_beside.ensures.same
+    c.in_ok-reduced_beside.ensures.props
+    c.in_ok-reduced_beside.ensures.reached
+    c.in_ok-reduced_beside.ensures.few
