@@ -90,14 +90,14 @@ const ROWS: [(Logic, &[u8], u32, u64, &str); 22] = [
         b"F[0,3] p",
         1,
         1,
-        "line 1, column 2: `[` isn't expected here; expected: a proposition, `tt`, `ff`, `!`, `(`, `X`, `F`, `G`; operators have no bounds: write `X X p` for `X[2] p` (docs/FORMULAS.md)",
+        "line 1, column 2: `[` isn't expected here; expected: a proposition, `tt`, `ff`, `!`, `(`, `X`, `F`, `G`; operators have bounds in files of requirements alone: write `X X p` for `X[2] p` (docs/FORMULAS.md)",
     ),
     (
         Logic::Ctl,
         b"A X [2] p",
         1,
         4,
-        "line 1, column 5: `[` isn't expected here; expected: a proposition, `tt`, `ff`, `!`, `(`, `E`, `A`, `X`, `F`, `G`; operators have no bounds: write `X X p` for `X[2] p` (docs/FORMULAS.md)",
+        "line 1, column 5: `[` isn't expected here; expected: a proposition, `tt`, `ff`, `!`, `(`, `E`, `A`, `X`, `F`, `G`; operators have bounds in files of requirements alone: write `X X p` for `X[2] p` (docs/FORMULAS.md)",
     ),
     (
         Logic::Word,

@@ -17,7 +17,7 @@ const REFUSED: [Refused; 22] = [
     (b"logic modal\n", 1, 1, 61),
     (b"logic mu p\n", 1, 1, 61),
     (b"require a: p\nlogic mu\n", 1, 1, 61),
-    (b"logic mu\nlogic mu\n", 2, 1, 62),
+    (b"logic mu\nlogic mu\nlogic pdl\n", 3, 1, 61),
     (b"logic mu\nrequire\n", 2, 8, 63),
     (b"logic mu\nrequire # a\n", 2, 8, 63),
     (b"logic mu\nrequire 1a: p\n", 2, 9, 63),
